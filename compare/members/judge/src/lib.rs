@@ -1,0 +1,6 @@
+//! Asks the seller's Rust for its answer to a frame, as a value that other programs can compare.
+
+pub mod refusal;
+pub mod verdict;
+
+pub use verdict::{judge, quietly, Accepted, Direction, Verdict};

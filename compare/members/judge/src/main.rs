@@ -1,0 +1,85 @@
+//! `compare/oracle` builds and runs this; see its head for the usage.
+
+mod facts;
+mod input;
+
+use std::env;
+use std::io::{self, BufRead, BufWriter, Write};
+use std::process::ExitCode;
+
+use judge::judge;
+
+const USAGE: &str = "usage: oracle [--debug] T|R HEX.. | lines | kinds | leaves | limit | wrap";
+
+/// Why there is no answer, in one line; `None` where it has been said already.
+type Outcome = Result<(), Option<String>>;
+
+fn main() -> ExitCode {
+    let words: Vec<String> = env::args_os()
+        .skip(1)
+        .map(|word| word.to_string_lossy().into_owned())
+        .collect();
+    let words: Vec<&str> = words.iter().map(String::as_str).collect();
+    let Err(why) = answer(&words) else {
+        return ExitCode::SUCCESS;
+    };
+    if let Some(why) = why {
+        eprintln!("oracle: {why}");
+    }
+    ExitCode::from(2)
+}
+
+fn answer(words: &[&str]) -> Outcome {
+    match words {
+        [] => Err(Some(USAGE.into())),
+        ["lines"] => lines(),
+        ["kinds"] => say(&facts::kinds()),
+        ["leaves"] => say(&facts::leaves()),
+        ["limit"] => say(&facts::limit()),
+        ["wrap"] => say(&facts::wrap()),
+        [only] => {
+            input::direction(only).map_err(|why| format!("{why}; {USAGE}"))?;
+            Err(Some(format!("no hex after {only}; an empty input is ''")))
+        }
+        [first, hex @ ..] => {
+            let direction = input::direction(first).map_err(|why| format!("{why}; {USAGE}"))?;
+            let bytes = input::bytes(&hex.join(" "))?;
+            say(&[judge(direction, &bytes).to_string()])
+        }
+    }
+}
+
+fn say(answers: &[String]) -> Outcome {
+    let mut out = io::stdout().lock();
+    for answer in answers {
+        writeln!(out, "{answer}").map_err(unsaid)?;
+    }
+    Ok(())
+}
+
+/// Answer n belongs to line n, so a malformed line is answered as well.
+fn lines() -> Outcome {
+    let mut out = BufWriter::new(io::stdout().lock());
+    let mut malformed = false;
+    for (place, line) in io::stdin().lock().split(b'\n').enumerate() {
+        let line = line.map_err(|error| format!("cannot read standard input: {error}"))?;
+        let answer = match input::line(&String::from_utf8_lossy(&line)) {
+            Ok((direction, bytes)) => judge(direction, &bytes).to_string(),
+            Err(why) => {
+                eprintln!("oracle: line {}: {why}", place + 1);
+                malformed = true;
+                "malformed".into()
+            }
+        };
+        writeln!(out, "{answer}").map_err(unsaid)?;
+    }
+    out.flush().map_err(unsaid)?;
+    match malformed {
+        true => Err(None),
+        false => Ok(()),
+    }
+}
+
+fn unsaid(error: io::Error) -> Option<String> {
+    Some(format!("cannot write to standard output: {error}"))
+}

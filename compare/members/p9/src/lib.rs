@@ -1,0 +1,17 @@
+//! The seller's frames, built from the seller's own text, for comparing against.
+
+pub mod show;
+
+/// The seller's text names this module by its path in the crate.
+pub mod protocol {
+    pub mod wire_format {
+        include!(concat!(env!("OUT_DIR"), "/wire_format.rs"));
+    }
+
+    pub mod messages {
+        include!(concat!(env!("OUT_DIR"), "/messages.rs"));
+    }
+
+    pub use messages::*;
+    pub use wire_format::{Data, P9String, WireFormat};
+}

@@ -1,0 +1,26 @@
+-- Reading: a reader takes the bytes that are left and answers a value with the rest of them, or a refusal.
+use Prim.Native.Nat.{ℕ}
+use mathlib.Core.Bool.{cond}
+use mathlib.Core.List.{List}
+use lib.ListN.{length, take, drop}
+use lib.Dec.{leb}
+use Rattle.numbers.specs.Numbers.{fromLE}
+use Rattle.numbers.specs.declared.Refusal.{Refusal}
+use Rattle.numbers.specs.declared.Refusal.the-variants as R
+
+pub data Result (A : Type 0) : Type 0 where
+  ok : A → List ℕ → Result A
+  bad : Refusal → Result A
+
+-- "The first step that fails answers": the next reader goes on with the rest, unless the first is refused
+abbrev pub after : {A B : Type 0} → Result A → (A → List ℕ → Result B) → Result B
+after (ok a r) k = k a r
+after (bad n) k = bad n
+
+-- n bytes as they stand; 1 where "bytes end inside a field or header"
+unfoldable pub raw : ℕ → List ℕ → Result (List ℕ)
+raw n xs = cond (leb n (length xs)) (ok (take n xs) (drop n xs)) (bad R.Short)
+
+-- a number of w bytes
+unfoldable pub readNum : ℕ → List ℕ → Result ℕ
+readNum w xs = after (raw w xs) (λ bs r. ok (fromLE bs) r)

@@ -1,0 +1,259 @@
+-- The ways that the checks, the reader and the writers of strings go: one law for each way out, over plain variables.
+use Prim.Native.Nat.{ℕ, suc, _+_, _-_, _≤_, _<_}
+use native.Mathlib.Omega.{arith}
+use mathlib.Core.Path.{_≡_, refl, sym, ap, _∙_}
+use mathlib.Core.Bool.{Bool, true, false, cond}
+use mathlib.Core.List.{List, [], _∷_, _++_}
+use lib.ListN.{length, take, drop, getD, set, length-append, length-drop}
+use native.Mathlib.Numerals.{add-one}
+use lib.Seq.{length-take-le, drop-drop, getD-drop, paste, paste-suc}
+use lib.Dec.{leb}
+use borrow.Author.Tests.{le-leb, lt-leb, leb-true}
+use Rattle.numbers.specs.Numbers.{toLE, length-toLE}
+use Rattle.numbers.specs.Reading.{Result, ok, bad, after, raw, readNum}
+use Rattle.numbers.specs.ReadingLaws.{or-else, after-inv, cond-inv, raw-short}
+use Rattle.numbers.specs.Places.{Within, readAt, restAt, NumRead, over, Put}
+use Rattle.numbers.specs.PlaceLaws.{inside, outside, Held, num-holds, num-refused, put-stays, put-full, put-done, put-then}
+use Rattle.numbers.specs.declared.Refusal.{Refusal}
+use Rattle.numbers.specs.declared.Refusal.the-variants as R
+use Rattle.numbers.specs.declared.Place.{Place}
+use Rattle.numbers.specs.declared.Place.the-variants.{At, Refused}
+use Rattle.strings.specs.Utf8.{utf8, noZero}
+use Rattle.strings.specs.Strings.{okText, readString, stringBytes}
+use Rattle.strings.specs.Spans.{bytesIn, showSpan, showString, checkAt, Shown, TextCheck, SpanCheck, StrCheck, startIn, strStart, strLen, pastStr, StrRead, SpanPut, StrPut}
+
+-- ---- a string's bytes
+
+module _ {bs : List ℕ} {p : Place} {a : ℕ} where
+  pub text-bad : p ≡ At a → utf8 bs ≡ false → TextCheck bs p (Refused R.NotUtf8)
+  text-bad e u = record { is = rw (e, u) }
+
+  pub text-zero : p ≡ At a → utf8 bs ≡ true → noZero bs ≡ false → TextCheck bs p (Refused R.ZeroByte)
+  text-zero e u z = record { is = rw (e, u, z) }
+
+  pub text-fine : p ≡ At a → utf8 bs ≡ true → noZero bs ≡ true → TextCheck bs p p
+  text-fine e u z = record { is = rw (e, u, z) }
+
+-- ---- a span
+
+shown-in : (lent : List ℕ) (x y : ℕ) → x + y ≤ length lent → showSpan lent x y ≡ ok (take y (drop x lent)) []
+unfolding showSpan
+shown-in lent x y h = rw (le-leb (x + y) (length lent) h)
+
+shown-out : (lent : List ℕ) (x y : ℕ) → length lent < x + y → showSpan lent x y ≡ bad R.SpanOutside
+unfolding showSpan
+shown-out lent x y h = rw (lt-leb (x + y) (length lent) h)
+
+shown-length : (lent : List ℕ) (x y : ℕ) → x + y ≤ length lent → length (take y (drop x lent)) ≡ y
+shown-length lent x y h = length-take-le y (drop x lent) (simp length-drop (omega arith))
+
+module _ {lent : List ℕ} {x y : ℕ} {t : Bool} where
+  pub part-in : Within x y (length lent) t → t ≡ true → Shown lent x y (take (x + y - x) (drop x lent))
+  part-in i h = let n : x + y - x ≡ y = omega arith in record { is = rw (n, shown-in lent x y (inside i h)) }
+
+  pub part-out : Within x y (length lent) t → t ≡ false → Shown lent x y []
+  part-out i h = record { is = rw (shown-out lent x y (outside i h)) }
+
+  pub span-in : {p : Place} {a : ℕ} → p ≡ At a → Within x y (length lent) t → t ≡ true → SpanCheck lent x y p p
+  span-in e i h = record { is = rw (e, shown-in lent x y (inside i h)) }
+
+  pub span-out : {p : Place} {a : ℕ} → p ≡ At a → Within x y (length lent) t → t ≡ false → SpanCheck lent x y p (Refused R.SpanOutside)
+  span-out e i h = record { is = rw (e, shown-out lent x y (outside i h)) }
+
+-- a check that is passed had something to show, at that place
+check-inv : {A X : Type 0} (m : Result A) (p : Place) {a : ℕ} → checkAt m p ≡ At a → ((v : A) (r : List ℕ) → m ≡ ok v r → p ≡ At a → X) → X
+check-inv m (Refused k) e f = absurd (let z : _≡_ {A = ℕ} 0 1 = cc e in omega arith)
+check-inv (ok v r) (At n) e f = f v r refl e
+check-inv (bad k) (At n) e f = absurd (let z : _≡_ {A = ℕ} 0 1 = cc e in omega arith)
+
+span-inv : (lent : List ℕ) (x y : ℕ) {bs r : List ℕ} → showSpan lent x y ≡ ok bs r → x + y ≤ length lent
+span-inv lent x y e =
+    or-else (x + y) (length lent) (λ h. h) (λ h. absurd (let f = sym (shown-out lent x y h) ∙ e in let z : _≡_ {A = ℕ} 0 1 = cc f in omega arith))
+
+-- what is known of a span that passed
+record Passed (lent : List ℕ) (x y : ℕ) (p : Place) (a : ℕ) : Type 0 where
+  pub place : p ≡ At a
+  pub lies : x + y ≤ length lent
+  pub shows : showSpan lent x y ≡ ok (take y (drop x lent)) []
+
+passed : {lent : List ℕ} {x y a : ℕ} {p q : Place} → SpanCheck lent x y p q → q ≡ At a → Passed lent x y p a
+passed {lent} {x} {y} {a} {p} c e =
+    check-inv (showSpan lent x y) p (sym (c .is) ∙ e)
+    (λ bs r f g. let h = span-inv lent x y f in record { place = g; lies = h; shows = shown-in lent x y h })
+
+pub span-lies : {lent : List ℕ} {x y a : ℕ} {p q : Place} → SpanCheck lent x y p q → q ≡ At a → x + y ≤ length lent
+span-lies c e = passed c e .lies
+
+-- what a first check refuses, the whole does
+first-refuses : {A B : Type 0} (m : Result A) (k : A → List ℕ → Result B) (p : Place) {j : Refusal} → checkAt m p ≡ Refused j → checkAt (after m k) p ≡ Refused j
+first-refuses m k (Refused i) e = e
+first-refuses (ok a r) k (At n) e = absurd (let z : _≡_ {A = ℕ} 0 1 = cc e in omega arith)
+first-refuses (bad i) k (At n) e = e
+
+-- ---- a lent string
+
+module _ {lent : List ℕ} {x y : ℕ} {p q : Place} where
+  pub str-span : {k : Refusal} → SpanCheck lent x y p q → q ≡ Refused k → StrCheck lent x y p q
+  unfolding showString
+  str-span c e = record { is = e ∙ sym (first-refuses (showSpan lent x y) _ p (sym (c .is) ∙ e)) }
+
+  pub str-long : {a : ℕ} → SpanCheck lent x y p q → q ≡ At a → 65535 < y → StrCheck lent x y p (Refused R.StringTooLong)
+  unfolding showString
+  str-long c e h = let k = passed c e in record { is = rw (k .place, k .shows, lt-leb y 65535 h) }
+
+  pub str-text : {a : ℕ} {bs : List ℕ} {r : Place} → SpanCheck lent x y p q → q ≡ At a → y ≤ 65535 → Shown lent x y bs → TextCheck bs q r → StrCheck lent x y p r
+  unfolding showString
+  str-text c e h s d =
+      let k = passed c e in
+      record { is = rw (k .place, k .shows, le-leb y 65535 h) (rw (e, s .is, k .shows) at (d .is)) }
+
+-- ---- a string that is read
+
+string-at : (s : List ℕ) (p : Place) → readAt readString s p ≡ after (readAt (readNum 2) s p) (λ n r. after (raw n r) okText)
+unfolding readString
+string-at s (At a) = refl
+string-at s (Refused k) = refl
+
+start-bad : (w : ℕ) (p : Place) (k : Refusal) → startIn w p (bad k) ≡ 0
+start-bad w (At a) k = refl
+start-bad w (Refused j) k = refl
+
+-- behind a count that is held: the bytes, or not enough of them
+string-held : {s : List ℕ} {p : Place} {n e : ℕ} → Held 2 s p n e → e + n ≤ length s → readAt readString s p ≡ okText (take n (drop e s)) (drop (e + n) s)
+unfolding raw
+string-held {s} {p} {n} {e} h l =
+    string-at s p ∙ rw (h .place, h .reads, le-leb n (length (drop e s)) (simp length-drop (omega arith)), drop-drop n e s)
+
+string-short : {s : List ℕ} {p : Place} {n e : ℕ} → Held 2 s p n e → length s < e + n → readAt readString s p ≡ bad R.Short
+string-short {s} {p} {n} {e} h l =
+    let f = h .fits in
+    let g = h .ends in
+    string-at s p ∙ rw (h .place, h .reads, raw-short n (drop e s) (simp length-drop (omega arith)))
+
+text-refused : (bs r : List ℕ) {n : ℕ} {q : Place} {k : Refusal} → TextCheck bs (At n) q → q ≡ Refused k → okText bs r ≡ bad k
+text-refused bs r {n} {q} {k} c e = go (utf8 bs) (noZero bs) (sym (c .is) ∙ e)
+  where
+    go : (u z : Bool) → checkAt (cond u (cond z (ok bs []) (bad R.ZeroByte)) (bad R.NotUtf8)) (At n) ≡ Refused k
+        → cond u (cond z (ok bs r) (bad R.ZeroByte)) (bad R.NotUtf8) ≡ bad k
+    go true true f = absurd (let z : _≡_ {A = ℕ} 0 1 = cc f in omega arith)
+    go true false f = let g : R.ZeroByte ≡ k = cc f in ap bad g
+    go false z f = let g : R.NotUtf8 ≡ k = cc f in ap bad g
+
+text-passed : (bs r : List ℕ) {n a : ℕ} {q : Place} → TextCheck bs (At n) q → q ≡ At a → (okText bs r ≡ ok bs r) × (q ≡ At n)
+text-passed bs r {n} {a} {q} c e = go (utf8 bs) (noZero bs) (sym (c .is) ∙ e)
+  where
+    go : (u z : Bool) → checkAt (cond u (cond z (ok bs []) (bad R.ZeroByte)) (bad R.NotUtf8)) (At n) ≡ At a
+        → (cond u (cond z (ok bs r) (bad R.ZeroByte)) (bad R.NotUtf8) ≡ ok bs r) × (q ≡ At n)
+    go true true f = (refl, e ∙ sym f)
+    go true false f = absurd (let z : _≡_ {A = ℕ} 0 1 = cc f in omega arith)
+    go false z f = absurd (let z : _≡_ {A = ℕ} 0 1 = cc f in omega arith)
+
+module _ {s : List ℕ} {p q : Place} where
+  refused-str : {k : Refusal} → readAt readString s p ≡ bad k → q ≡ Refused k → StrRead s p 0 0 q
+  unfolding strStart strLen pastStr
+  refused-str {k} f e = record { start = rw f (sym (start-bad 2 p k)); len = rw f; next = rw f e }
+
+  pub str-cut : {n : ℕ} {k : Refusal} → NumRead 2 s p n q → q ≡ Refused k → StrRead s p 0 0 q
+  str-cut r e = refused-str (string-at s p ∙ rw (num-refused r e .reads)) e
+
+module _ {s : List ℕ} {p a : Place} {n e : ℕ} {t : Bool} where
+  pub str-short : NumRead 2 s p n a → a ≡ At e → Within e n (length s) t → t ≡ false → StrRead s p 0 0 (Refused R.Short)
+  str-short r f i h = refused-str (string-short (num-holds (omega arith) r f) (outside i h)) refl
+
+  pub str-bad : {q : Place} {k : Refusal} → NumRead 2 s p n a → a ≡ At e → Within e n (length s) t → t ≡ true → TextCheck (take (e + n - e) (drop e s)) (At (e + n)) q → q ≡ Refused k
+      → StrRead s p 0 0 q
+  str-bad r f i h c g =
+      let m : e + n - e ≡ n = omega arith in
+      refused-str (string-held (num-holds (omega arith) r f) (inside i h) ∙ text-refused (take n (drop e s)) (drop (e + n) s) (rw m at c) g) g
+
+  pub str-good : {q : Place} {g : ℕ} → NumRead 2 s p n a → a ≡ At e → Within e n (length s) t → t ≡ true → TextCheck (take (e + n - e) (drop e s)) (At (e + n)) q → q ≡ At g
+      → StrRead s p e n q
+  unfolding strStart strLen pastStr
+  str-good r f i h c g =
+      let m : e + n - e ≡ n = omega arith in
+      let l = inside i h in
+      let k = num-holds (omega arith) r f in
+      let u = text-passed (take n (drop e s)) (drop (e + n) s) (rw m at c) g in
+      let v = string-held k l ∙ u .0 in
+      let d = length-drop (e + n) s in
+      record {
+        start = rw (v, k .place) (k .ends);
+        len = rw v (sym (length-take-le n (drop e s) (simp length-drop (omega arith))));
+        next = rw v (u .1 ∙ ap At (omega arith));
+      }
+
+-- ---- the loop that copies
+
+pub copy-turn : (o l lent : List ℕ) (at start i : ℕ) → at + i < length l → start + i < length lent → o ≡ paste l at (drop start lent) i
+    → set o (at + i) (getD lent (start + i) 0) ≡ paste l at (drop start lent) (i + 1)
+copy-turn o l lent at start i h k e =
+    rw (e, ← (getD-drop start lent i 0), add-one) (paste-suc l at (drop start lent) i 0 h (simp length-drop (omega arith)))
+
+pub copy-ends : (o l lent : List ℕ) (at start len i : ℕ) → i ≡ len → start + len ≤ length lent → o ≡ paste l at (drop start lent) i
+    → o ≡ over l at (take len (drop start lent))
+copy-ends o l lent at start len i e h f = rw (shown-length lent start len h) (rw e at f)
+
+-- ---- bytes that are put
+
+module _ {lent o : List ℕ} {x y : ℕ} {p q : Place} where
+  pub bytes-refused : {k : Refusal} → SpanCheck lent x y p q → q ≡ Refused k → SpanPut lent x y o p o q
+  bytes-refused c e = record { put = rw (← (c .is)) (put-stays e) }
+
+  pub bytes-full : {a : ℕ} {t : Bool} → SpanCheck lent x y p q → q ≡ At a → Within a y (length o) t → t ≡ false → SpanPut lent x y o p o (Refused R.NoRoom)
+  bytes-full c e i h = let k = passed c e in record { put = rw (← (c .is), k .shows) (put-full (shown-length lent x y (k .lies)) e i h) }
+
+  pub bytes-done : {a : ℕ} {t : Bool} {o' : List ℕ} → SpanCheck lent x y p q → q ≡ At a → Within a y (length o) t → t ≡ true → o' ≡ over o a (take y (drop x lent))
+      → SpanPut lent x y o p o' (At (a + y))
+  bytes-done c e i h g = let k = passed c e in record { put = rw (← (c .is), k .shows) (put-done (shown-length lent x y (k .lies)) e i h g) }
+
+-- ---- a string that is put
+
+-- what is known of a lent string that passed
+record Whole (lent : List ℕ) (x y : ℕ) (p : Place) (a : ℕ) : Type 0 where
+  pub place : p ≡ At a
+  pub lies : x + y ≤ length lent
+  pub small : y ≤ 65535
+  pub shows : showString lent x y ≡ ok (take y (drop x lent)) []
+
+whole : {lent : List ℕ} {x y a : ℕ} {p q : Place} → StrCheck lent x y p q → q ≡ At a → Whole lent x y p a
+unfolding showString
+whole {lent} {x} {y} {a} {p} c e =
+    check-inv (showString lent x y) p (sym (c .is) ∙ e)
+    (λ bs r f g. after-inv (showSpan lent x y) _ f
+    (λ cs s f1 f2.
+    let h = span-inv lent x y f1 in
+    let i = shown-in lent x y h in
+    let u = cond-inv (leb y 65535) _ R.StringTooLong f2 in
+    let v = cond-inv (utf8 cs) _ R.NotUtf8 (u .1) in
+    let w = cond-inv (noZero cs) _ R.ZeroByte (v .1) in
+    let ec : cs ≡ take y (drop x lent) = (let d = sym f1 ∙ i in cc d) in
+    let es : s ≡ [] = (let d = sym f1 ∙ i in cc d) in
+    record { place = g; lies = h; small = leb-true y 65535 (u .0); shows = rw (f1, u .0, v .0, w .0, ec, es) }))
+
+string-length : (lent : List ℕ) (x y : ℕ) → x + y ≤ length lent → length (stringBytes (take y (drop x lent))) ≡ y + 2
+unfolding stringBytes
+string-length lent x y h =
+    let k = shown-length lent x y h in simp (length-append, length-toLE) (omega arith)
+
+pub string-small : {lent : List ℕ} {x y a : ℕ} {p q : Place} → StrCheck lent x y p q → q ≡ At a → y ≤ 65535
+string-small c e = whole c e .small
+
+passing : {A : Type 0} (v : A) (r : List ℕ) (p : Place) → checkAt (ok v r) p ≡ p
+passing v r (At n) = refl
+passing v r (Refused k) = refl
+
+module _ {lent o : List ℕ} {x y : ℕ} {p q : Place} where
+  pub string-refused : {k : Refusal} → StrCheck lent x y p q → q ≡ Refused k → StrPut lent x y o p o q
+  string-refused c e = record { put = rw (← (c .is)) (put-stays e) }
+
+  pub string-full : {a : ℕ} {t : Bool} → StrCheck lent x y p q → q ≡ At a → Within a (y + 2) (length o) t → t ≡ false → StrPut lent x y o p o (Refused R.NoRoom)
+  string-full c e i h = let k = whole c e in record { put = rw (← (c .is), k .shows) (put-full (string-length lent x y (k .lies)) e i h) }
+
+  pub string-done : {a : ℕ} {t : Bool} {o1 o2 : List ℕ} {m r : Place} → StrCheck lent x y p q → q ≡ At a → Within a (y + 2) (length o) t → t ≡ true → Put (toLE 2 y) o (At a) o1 m
+      → SpanPut lent x y o1 m o2 r → StrPut lent x y o p o2 r
+  unfolding stringBytes
+  string-done {m = m} c e i h f g =
+      let k = whole c e in
+      let n = shown-length lent x y (k .lies) in
+      let s = shown-in lent x y (k .lies) in
+      record { put = rw (← (c .is), e, k .shows, n) (put-then f (rw (s, passing (take y (drop x lent)) [] m) at (g .put)) refl (simp (length-append, length-toLE) (rw n (let l = inside i h in omega arith)))) }

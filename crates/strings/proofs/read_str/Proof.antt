@@ -1,0 +1,74 @@
+use native.Mathlib.Omega.{arith}
+use borrow.Author.Needs.{needs}
+use Rattle.numbers.specs.PlaceLaws.{inside}
+use Rattle.strings.proofs.Ways.{str-cut, str-short, str-bad, str-good}
+use Rattle.strings.proofs.read_str.Statement.{statement}
+use Rattle.strings.proofs.read_str.Tie as tie
+
+enum-known-a : tie.Need-enum-known-a
+enum-known-a c = search needs
+
+enum-told : tie.Need-enum-told
+enum-told c = search needs
+
+returns : tie.Need-returns
+returns c = str-cut (c .before .before .read-u16 .ensures) (c .enum-told .given .1)
+
+cast-len : tie.Need-cast-len
+cast-len c = search needs
+
+add-end : tie.Need-add-end
+add-end c = omega (arith, inside (c .before .within .ensures) (c .if1 .taken))
+
+sub-check-text : tie.Need-sub-check-text
+sub-check-text c = search needs
+
+part-check-text-start : tie.Need-part-check-text-start
+part-check-text-start c = search needs
+
+part-check-text-end : tie.Need-part-check-text-end
+part-check-text-end c = let h = inside (c .before .within .ensures) (c .if1 .taken) in search needs
+
+enum-told-2 : tie.Need-enum-told-2
+enum-told-2 c = search needs
+
+enum-told-3 : tie.Need-enum-told-3
+enum-told-3 c = search needs
+
+returns-2 : tie.Need-returns-2
+returns-2 c =
+    let d = c .before .before .before .before in
+    let e = d .before .before .before .before in
+    str-bad (e .before .before .read-u16 .ensures) (e .a .given .1) (d .before .within .ensures) (d .if1 .taken) (c .before .before .check-text .ensures) (c .enum-told3 .given .1)
+
+returns-3 : tie.Need-returns-3
+returns-3 c =
+    let d = c .before .before .before .before in
+    let e = d .before .before .before .before in
+    str-good (e .before .before .read-u16 .ensures) (e .a .given .1) (d .before .within .ensures) (d .if1 .taken) (c .before .before .check-text .ensures) (c .enum-told2 .given .1)
+
+returns-4 : tie.Need-returns-4
+returns-4 c =
+    let e = c .before .before .before .before in
+    str-short (e .before .before .read-u16 .ensures) (e .a .given .1) (c .before .within .ensures) (c .if1 .left)
+
+pub read-str-spec : {M : Type 1} → statement M
+read-str-spec =
+    tie.close
+    (tie.spec
+    (λ _ _. tt)
+    enum-known-a
+    enum-told
+    returns
+    cast-len
+    (λ _ _. tt)
+    add-end
+    sub-check-text
+    part-check-text-start
+    part-check-text-end
+    (λ _ _. tt)
+    enum-told-2
+    enum-told-3
+    returns-2
+    returns-3
+    returns-4)

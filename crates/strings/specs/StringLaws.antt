@@ -1,0 +1,40 @@
+-- Strings: reading after writing, a cut, writing after reading; and one answer for each question.
+use Prim.Native.Nat.{ℕ, _+_, _<_}
+use native.Mathlib.Omega.{arith}
+use mathlib.Core.Path.{_≡_, refl}
+use mathlib.Core.List.{List}
+use lib.ListN.{length}
+use Rattle.numbers.specs.Numbers.{Bytes}
+use Rattle.numbers.specs.Reading.{ok, after, raw, readNum}
+use Rattle.numbers.specs.ReadingLaws.{Reads, reads-raw, reads-then, reads-after, reads-num, Took, took-then, took-raw, took-num, after-inv, cond-inv}
+use Rattle.numbers.specs.PlaceLaws.{one-answer}
+use Rattle.numbers.specs.declared.Refusal.the-variants as R
+use Rattle.numbers.specs.declared.Place.{Place}
+use Rattle.strings.specs.Utf8.{utf8, noZero}
+use Rattle.strings.specs.Strings.{okText, readString, stringBytes, GoodText}
+use Rattle.strings.specs.Spans.{StrRead}
+
+-- read after put, and a string cut anywhere is short
+pub reads-string : (bs : List ℕ) → GoodText bs → Reads readString (stringBytes bs) bs
+unfolding readString stringBytes
+reads-string bs g =
+    reads-after _ (reads-num 2 (length bs) (g .short)) (reads-then okText (λ r. rw (g .form, g .full)) (reads-raw (length bs) bs refl))
+
+-- put after read
+pub took-string : (xs : List ℕ) {bs r : List ℕ} → Bytes xs → readString xs ≡ ok bs r → Took xs (stringBytes bs) r (GoodText bs)
+unfolding readString stringBytes
+took-string xs {bs} {r} h e =
+    after-inv (readNum 2 xs) _ e
+    (λ n s e1 e2. after-inv (raw n s) okText e2
+    (λ cs t e3 e4.
+    let p = took-num 2 xs h e1 in
+    let q = took-raw n s (p .rest) e3 in
+    let u = cond-inv (utf8 cs) _ R.NotUtf8 e4 in
+    let v = cond-inv (noZero cs) _ R.ZeroByte (u .1) in
+    let w = v .1 in
+    let en : cs ≡ bs = cc in
+    let er : t ≡ r = cc in
+    rw (← en, ← er, q .good .0) (took-then p q (λ a b. record { short = rw (b .0) a; form = u .0; full = v .0 }))))
+
+pub str-one : {s : List ℕ} {p q q' : Place} {x x' y y' : ℕ} → StrRead s p x y q → StrRead s p x' y' q' → (x ≡ x') × (y ≡ y') × (q ≡ q')
+str-one a b = (one-answer (a .start) (b .start), one-answer (a .len) (b .len), one-answer (a .next) (b .next))

@@ -1,0 +1,28 @@
+-- Document 01, "A string (s) is n[2] and n bytes of well-formed UTF-8 with no zero byte."
+use Prim.Native.Nat.{ℕ, _<_}
+use mathlib.Core.Path.{_≡_}
+use mathlib.Core.Bool.{true, cond}
+use mathlib.Core.List.{List, _++_}
+use lib.ListN.{length}
+use Rattle.numbers.specs.Numbers.{toLE}
+use Rattle.numbers.specs.Reading.{Result, ok, bad, after, raw, readNum}
+use Rattle.numbers.specs.declared.Refusal.the-variants as R
+use Rattle.strings.specs.Utf8.{utf8, noZero}
+
+-- the check of a string's bytes: UTF-8 over the whole string first (5), then the zero byte (6)
+abbrev pub okText : List ℕ → List ℕ → Result (List ℕ)
+okText bs r = cond (utf8 bs) (cond (noZero bs) (ok bs r) (bad R.ZeroByte)) (bad R.NotUtf8)
+
+-- "For a string: count, bytes, UTF-8, zero byte."
+unfoldable pub readString : List ℕ → Result (List ℕ)
+readString xs = after (readNum 2 xs) (λ n r. after (raw n r) okText)
+
+-- a string as it is written
+unfoldable pub stringBytes : List ℕ → List ℕ
+stringBytes bs = toLE 2 (length bs) ++ bs
+
+-- what can stand in a string
+pub record GoodText (bs : List ℕ) : Type 0 where
+  pub short : length bs < 65536
+  pub form : utf8 bs ≡ true
+  pub full : noZero bs ≡ true

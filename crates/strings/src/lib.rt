@@ -1,0 +1,145 @@
+// Strings: n[2] and n bytes of well-formed UTF-8 with no zero byte, read and put by spans.
+
+pub mod utf8;
+
+use numbers::Place;
+use numbers::Refusal;
+ghost use mathlib.Core.Path.{_≡_};
+ghost use Prim.Native.Nat.{_+_, _≤_};
+ghost use lib.ListN.{length, take, drop};
+ghost use Rattle.numbers.specs.Places.{over};
+ghost use Rattle.strings.specs.Spans.{Shown, SpanCheck, StrCheck, StrRead, SpanPut, StrPut};
+
+// A part of some bytes: where it starts among them, and its length.
+pub struct Span {
+    pub start: usize,
+    pub len: usize,
+}
+
+// The span of what was read, 0 and 0 if it was refused, and the place behind it.
+pub struct ReadSpan {
+    pub value: Span,
+    pub next: Place,
+}
+
+// The part of the lent bytes that a span shows; the empty part where it lies outside them.
+pub fn shown(lent: &[u8], v: Span) -> &[u8]
+    ensures { λ r. ⌜ Shown (now (lent .entry)) (v .start) (v .len) (now r) ⌝ }
+{
+    let start = v.start;
+    let len = v.len;
+    if numbers::within(start, len, lent.len()) {
+        let end = start + len;
+        return &lent[start..end];
+    }
+    &lent[..0]
+}
+
+// A span of the lent bytes that is to be written: the place itself; or 9.
+pub fn check_span(lent: &[u8], v: Span, p: Place) -> Place
+    ensures { λ r. ⌜ SpanCheck (now (lent .entry)) (v .start) (v .len) p r ⌝ }
+{
+    let Place::At(_) = p else {
+        return p;
+    };
+    if numbers::within(v.start, v.len, lent.len()) {
+        return p;
+    }
+    Place::Refused(Refusal::SpanOutside)
+}
+
+// A string of the lent bytes that is to be written: the place itself; or 9, 7, 5, 6.
+pub fn check_str(lent: &[u8], v: Span, p: Place) -> Place
+    ensures { λ r. ⌜ StrCheck (now (lent .entry)) (v .start) (v .len) p r ⌝ }
+{
+    let q = check_span(lent, v, p);
+    let Place::At(_) = q else {
+        return q;
+    };
+    if 65535 < v.len {
+        return Place::Refused(Refusal::StringTooLong);
+    }
+    utf8::check_text(shown(lent, v), q)
+}
+
+// A string at a place: count, bytes, UTF-8, zero byte.
+pub fn read_str(s: &[u8], p: Place) -> ReadSpan
+    ensures { λ r. ⌜ StrRead (now (s .entry)) p (r .value .start) (r .value .len) (r .next) ⌝ }
+{
+    let none = Span { start: 0, len: 0 };
+    let count = numbers::read_u16(s, p);
+    let a = count.next;
+    let Place::At(start) = a else {
+        return ReadSpan {
+            value: none,
+            next: a,
+        };
+    };
+    let len = count.value as usize;
+    if numbers::within(start, len, s.len()) {
+        let end = start + len;
+        let q = utf8::check_text(&s[start..end], Place::At(end));
+        let Place::At(_) = q else {
+            return ReadSpan {
+                value: none,
+                next: q,
+            };
+        };
+        let some = Span { start, len };
+        return ReadSpan {
+            value: some,
+            next: q,
+        };
+    }
+    ReadSpan {
+        value: none,
+        next: Place::Refused(Refusal::Short),
+    }
+}
+
+// The lent bytes from `start` on, over those of the output from `at` on.
+fn copy(out: &mut [u8], at: usize, lent: &[u8], start: usize, len: usize)
+    requires { ⌜ (at + len ≤ length (now out)) × (start + len ≤ length (now lent)) ⌝ }
+    ensures { λ r. ⌜ now (out .exit) ≡ over (now (out .entry)) at (take len (drop start (now (lent .entry)))) ⌝ }
+{
+    let mut i = 0;
+    while i < len {
+        out[at + i] = lent[start + i];
+        i += 1;
+    }
+}
+
+// The bytes that a span shows, put at a place: 9, 11.
+pub fn put_bytes(out: &mut [u8], p: Place, lent: &[u8], v: Span) -> Place
+    ensures { λ r. ⌜ SpanPut (now (lent .entry)) (v .start) (v .len) (now (out .entry)) p (now (out .exit)) r ⌝ }
+{
+    let q = check_span(lent, v, p);
+    let Place::At(at) = q else {
+        return q;
+    };
+    let start = v.start;
+    let len = v.len;
+    if numbers::within(at, len, out.len()) {
+        copy(out, at, lent, start, len);
+        let end = at + len;
+        return Place::At(end);
+    }
+    Place::Refused(Refusal::NoRoom)
+}
+
+// A string of the lent bytes, put at a place as n[2] and its bytes: 9, 7, 5, 6, 11. The room is tested once, for both.
+pub fn put_str(out: &mut [u8], p: Place, lent: &[u8], v: Span) -> Place
+    ensures { λ r. ⌜ StrPut (now (lent .entry)) (v .start) (v .len) (now (out .entry)) p (now (out .exit)) r ⌝ }
+{
+    let q = check_str(lent, v, p);
+    let Place::At(at) = q else {
+        return q;
+    };
+    let len = v.len;
+    let size = len + 2;
+    if numbers::within(at, size, out.len()) {
+        let text = numbers::put_u16(out, q, len as u16);
+        return put_bytes(out, text, lent, v);
+    }
+    Place::Refused(Refusal::NoRoom)
+}

@@ -1,0 +1,158 @@
+// The check of a string's bytes: UTF-8 by the rows of RFC 3629, section 4, then the zero byte.
+
+use numbers::Place;
+use numbers::Refusal;
+ghost use mathlib.Core.Path.{_≡_};
+ghost use mathlib.Core.List.{[], _∷_};
+ghost use Prim.Native.Nat.{_<_, min, max};
+ghost use lib.ListN.{length};
+ghost use Rattle.strings.specs.Utf8.{_to_, tail, CharAt, utf8};
+ghost use Rattle.strings.specs.Utf8Laws.{FitsAt, Rest, leastOf, greatestOf};
+ghost use Rattle.strings.specs.Spans.{TextCheck};
+
+// Whether the byte at `at` is one from `low` to `high`.
+fn octet(s: &[u8], at: usize, low: u8, high: u8) -> bool
+    ensures { λ r. ⌜ FitsAt (low to high ∷ []) (now (s .entry)) at r ⌝ }
+{
+    if s.len() <= at {
+        return false;
+    }
+    let b = s[at];
+    if b < low {
+        return false;
+    }
+    b <= high
+}
+
+// The rest of a row of two, three and four octets, behind its first at `i`: the row's length if the bytes fit it, else 0.
+fn two(s: &[u8], i: usize) -> usize
+    requires { ⌜ i < length (now s) ⌝ }
+    ensures { λ r. ⌜ Rest (tail ∷ []) (now (s .entry)) i r ⌝ }
+{
+    if octet(s, i + 1, 0x80, 0xbf) {
+        return 2;
+    }
+    0
+}
+
+fn three(s: &[u8], i: usize, low: u8, high: u8) -> usize
+    requires { ⌜ i < length (now s) ⌝ }
+    ensures { λ r. ⌜ Rest (low to high ∷ tail ∷ []) (now (s .entry)) i r ⌝ }
+{
+    if octet(s, i + 1, low, high) {
+        if octet(s, i + 2, 0x80, 0xbf) {
+            return 3;
+        }
+    }
+    0
+}
+
+fn four(s: &[u8], i: usize, low: u8, high: u8) -> usize
+    requires { ⌜ i < length (now s) ⌝ }
+    ensures { λ r. ⌜ Rest (low to high ∷ tail ∷ tail ∷ []) (now (s .entry)) i r ⌝ }
+{
+    if octet(s, i + 1, low, high) {
+        if octet(s, i + 2, 0x80, 0xbf) {
+            if octet(s, i + 3, 0x80, 0xbf) {
+                return 4;
+            }
+        }
+    }
+    0
+}
+
+// The length of the character at `i`, by the rows of the RFC in their order; 0 where no row has these bytes.
+pub fn char_at(s: &[u8], i: usize) -> usize
+    ensures { λ r. ⌜ CharAt (now (s .entry)) i r ⌝ }
+{
+    if s.len() <= i {
+        return 0;
+    }
+    let b = s[i];
+    match b {
+        0x00..=0x7f => 1,
+        0xc2..=0xdf => two(s, i),
+        0xe0 => three(s, i, 0xa0, 0xbf),
+        0xe1..=0xec => three(s, i, 0x80, 0xbf),
+        0xed => three(s, i, 0x80, 0x9f),
+        0xee..=0xef => three(s, i, 0x80, 0xbf),
+        0xf0 => four(s, i, 0x90, 0xbf),
+        0xf1..=0xf3 => four(s, i, 0x80, 0xbf),
+        0xf4 => four(s, i, 0x80, 0x8f),
+        _ => 0,
+    }
+}
+
+// Whether the bytes are characters to their end.
+pub fn is_utf8(s: &[u8]) -> bool
+    ensures { λ r. ⌜ r ≡ utf8 (now (s .entry)) ⌝ }
+{
+    let mut i = 0;
+    while i < s.len() {
+        let k = char_at(s, i);
+        if k == 0 {
+            return false;
+        }
+        i += k;
+    }
+    true
+}
+
+fn least(a: u8, b: u8) -> u8
+    ensures { λ r. ⌜ r ≡ min a b ⌝ }
+{
+    if b < a {
+        return b;
+    }
+    a
+}
+
+fn greatest(a: u8, b: u8) -> u8
+    ensures { λ r. ⌜ r ≡ max a b ⌝ }
+{
+    if a < b {
+        return b;
+    }
+    a
+}
+
+// The least and the greatest of some bytes; of none, 255 and 0.
+pub struct Extremes {
+    pub low: u8,
+    pub high: u8,
+}
+
+// One pass with no early exit, so that the compiler makes it of vectors: most text is plain, and is then done with.
+fn extremes_of(s: &[u8]) -> Extremes
+    ensures { λ r. ⌜ (r .low ≡ leastOf (now (s .entry))) × (r .high ≡ greatestOf (now (s .entry))) ⌝ }
+{
+    let mut low: u8 = 255;
+    let mut high: u8 = 0;
+    let mut i = 0;
+    while i < s.len() {
+        low = least(low, s[i]);
+        high = greatest(high, s[i]);
+        i += 1;
+    }
+    Extremes { low, high }
+}
+
+// The check of a string's bytes: the place itself; or 5, then 6.
+pub fn check_text(s: &[u8], p: Place) -> Place
+    ensures { λ r. ⌜ TextCheck (now (s .entry)) p r ⌝ }
+{
+    let Place::At(_) = p else {
+        return p;
+    };
+    let e = extremes_of(s);
+    if 128 <= e.high {
+        let well_formed = is_utf8(s);
+        if !well_formed {
+            return Place::Refused(Refusal::NotUtf8);
+        }
+    }
+    if e.low == 0 {
+        return Place::Refused(Refusal::ZeroByte);
+    }
+    p
+}
