@@ -20,6 +20,7 @@ use Rattle.numbers.specs.declared.Place.{Place}
 use Rattle.numbers.specs.declared.Place.the-variants.{At, Refused}
 use Rattle.strings.specs.Utf8.{utf8, noZero}
 use Rattle.strings.specs.Strings.{okText, readString, stringBytes}
+use Rattle.strings.specs.SpanLaws.{shown-in, shown-out, shown-length, passed, whole, passing, string-at, start-bad, string-held, string-short, text-refused, text-passed}
 use Rattle.strings.specs.Spans.{bytesIn, showSpan, showString, checkAt, Shown, TextCheck, SpanCheck, StrCheck, startIn, strStart, strLen, pastStr, StrRead, SpanPut, StrPut}
 
 -- ---- a string's bytes
@@ -36,17 +37,6 @@ module _ {bs : List ℕ} {p : Place} {a : ℕ} where
 
 -- ---- a span
 
-shown-in : (lent : List ℕ) (x y : ℕ) → x + y ≤ length lent → showSpan lent x y ≡ ok (take y (drop x lent)) []
-unfolding showSpan
-shown-in lent x y h = rw (le-leb (x + y) (length lent) h)
-
-shown-out : (lent : List ℕ) (x y : ℕ) → length lent < x + y → showSpan lent x y ≡ bad R.SpanOutside
-unfolding showSpan
-shown-out lent x y h = rw (lt-leb (x + y) (length lent) h)
-
-shown-length : (lent : List ℕ) (x y : ℕ) → x + y ≤ length lent → length (take y (drop x lent)) ≡ y
-shown-length lent x y h = length-take-le y (drop x lent) (simp length-drop (omega arith))
-
 module _ {lent : List ℕ} {x y : ℕ} {t : Bool} where
   pub part-in : Within x y (length lent) t → t ≡ true → Shown lent x y (take (x + y - x) (drop x lent))
   part-in i h = let n : x + y - x ≡ y = omega arith in record { is = rw (n, shown-in lent x y (inside i h)) }
@@ -59,30 +49,6 @@ module _ {lent : List ℕ} {x y : ℕ} {t : Bool} where
 
   pub span-out : {p : Place} {a : ℕ} → p ≡ At a → Within x y (length lent) t → t ≡ false → SpanCheck lent x y p (Refused R.SpanOutside)
   span-out e i h = record { is = rw (e, shown-out lent x y (outside i h)) }
-
--- a check that is passed had something to show, at that place
-check-inv : {A X : Type 0} (m : Result A) (p : Place) {a : ℕ} → checkAt m p ≡ At a → ((v : A) (r : List ℕ) → m ≡ ok v r → p ≡ At a → X) → X
-check-inv m (Refused k) e f = absurd (let z : _≡_ {A = ℕ} 0 1 = cc e in omega arith)
-check-inv (ok v r) (At n) e f = f v r refl e
-check-inv (bad k) (At n) e f = absurd (let z : _≡_ {A = ℕ} 0 1 = cc e in omega arith)
-
-span-inv : (lent : List ℕ) (x y : ℕ) {bs r : List ℕ} → showSpan lent x y ≡ ok bs r → x + y ≤ length lent
-span-inv lent x y e =
-    or-else (x + y) (length lent) (λ h. h) (λ h. absurd (let f = sym (shown-out lent x y h) ∙ e in let z : _≡_ {A = ℕ} 0 1 = cc f in omega arith))
-
--- what is known of a span that passed
-record Passed (lent : List ℕ) (x y : ℕ) (p : Place) (a : ℕ) : Type 0 where
-  pub place : p ≡ At a
-  pub lies : x + y ≤ length lent
-  pub shows : showSpan lent x y ≡ ok (take y (drop x lent)) []
-
-passed : {lent : List ℕ} {x y a : ℕ} {p q : Place} → SpanCheck lent x y p q → q ≡ At a → Passed lent x y p a
-passed {lent} {x} {y} {a} {p} c e =
-    check-inv (showSpan lent x y) p (sym (c .is) ∙ e)
-    (λ bs r f g. let h = span-inv lent x y f in record { place = g; lies = h; shows = shown-in lent x y h })
-
-pub span-lies : {lent : List ℕ} {x y a : ℕ} {p q : Place} → SpanCheck lent x y p q → q ≡ At a → x + y ≤ length lent
-span-lies c e = passed c e .lies
 
 -- what a first check refuses, the whole does
 first-refuses : {A B : Type 0} (m : Result A) (k : A → List ℕ → Result B) (p : Place) {j : Refusal} → checkAt m p ≡ Refused j → checkAt (after m k) p ≡ Refused j
@@ -108,45 +74,6 @@ module _ {lent : List ℕ} {x y : ℕ} {p q : Place} where
       record { is = rw (k .place, k .shows, le-leb y 65535 h) (rw (e, s .is, k .shows) at (d .is)) }
 
 -- ---- a string that is read
-
-string-at : (s : List ℕ) (p : Place) → readAt readString s p ≡ after (readAt (readNum 2) s p) (λ n r. after (raw n r) okText)
-unfolding readString
-string-at s (At a) = refl
-string-at s (Refused k) = refl
-
-start-bad : (w : ℕ) (p : Place) (k : Refusal) → startIn w p (bad k) ≡ 0
-start-bad w (At a) k = refl
-start-bad w (Refused j) k = refl
-
--- behind a count that is held: the bytes, or not enough of them
-string-held : {s : List ℕ} {p : Place} {n e : ℕ} → Held 2 s p n e → e + n ≤ length s → readAt readString s p ≡ okText (take n (drop e s)) (drop (e + n) s)
-unfolding raw
-string-held {s} {p} {n} {e} h l =
-    string-at s p ∙ rw (h .place, h .reads, le-leb n (length (drop e s)) (simp length-drop (omega arith)), drop-drop n e s)
-
-string-short : {s : List ℕ} {p : Place} {n e : ℕ} → Held 2 s p n e → length s < e + n → readAt readString s p ≡ bad R.Short
-string-short {s} {p} {n} {e} h l =
-    let f = h .fits in
-    let g = h .ends in
-    string-at s p ∙ rw (h .place, h .reads, raw-short n (drop e s) (simp length-drop (omega arith)))
-
-text-refused : (bs r : List ℕ) {n : ℕ} {q : Place} {k : Refusal} → TextCheck bs (At n) q → q ≡ Refused k → okText bs r ≡ bad k
-text-refused bs r {n} {q} {k} c e = go (utf8 bs) (noZero bs) (sym (c .is) ∙ e)
-  where
-    go : (u z : Bool) → checkAt (cond u (cond z (ok bs []) (bad R.ZeroByte)) (bad R.NotUtf8)) (At n) ≡ Refused k
-        → cond u (cond z (ok bs r) (bad R.ZeroByte)) (bad R.NotUtf8) ≡ bad k
-    go true true f = absurd (let z : _≡_ {A = ℕ} 0 1 = cc f in omega arith)
-    go true false f = let g : R.ZeroByte ≡ k = cc f in ap bad g
-    go false z f = let g : R.NotUtf8 ≡ k = cc f in ap bad g
-
-text-passed : (bs r : List ℕ) {n a : ℕ} {q : Place} → TextCheck bs (At n) q → q ≡ At a → (okText bs r ≡ ok bs r) × (q ≡ At n)
-text-passed bs r {n} {a} {q} c e = go (utf8 bs) (noZero bs) (sym (c .is) ∙ e)
-  where
-    go : (u z : Bool) → checkAt (cond u (cond z (ok bs []) (bad R.ZeroByte)) (bad R.NotUtf8)) (At n) ≡ At a
-        → (cond u (cond z (ok bs r) (bad R.ZeroByte)) (bad R.NotUtf8) ≡ ok bs r) × (q ≡ At n)
-    go true true f = (refl, e ∙ sym f)
-    go true false f = absurd (let z : _≡_ {A = ℕ} 0 1 = cc f in omega arith)
-    go false z f = absurd (let z : _≡_ {A = ℕ} 0 1 = cc f in omega arith)
 
 module _ {s : List ℕ} {p q : Place} where
   refused-str : {k : Refusal} → readAt readString s p ≡ bad k → q ≡ Refused k → StrRead s p 0 0 q
@@ -208,28 +135,6 @@ module _ {lent o : List ℕ} {x y : ℕ} {p q : Place} where
 
 -- ---- a string that is put
 
--- what is known of a lent string that passed
-record Whole (lent : List ℕ) (x y : ℕ) (p : Place) (a : ℕ) : Type 0 where
-  pub place : p ≡ At a
-  pub lies : x + y ≤ length lent
-  pub small : y ≤ 65535
-  pub shows : showString lent x y ≡ ok (take y (drop x lent)) []
-
-whole : {lent : List ℕ} {x y a : ℕ} {p q : Place} → StrCheck lent x y p q → q ≡ At a → Whole lent x y p a
-unfolding showString
-whole {lent} {x} {y} {a} {p} c e =
-    check-inv (showString lent x y) p (sym (c .is) ∙ e)
-    (λ bs r f g. after-inv (showSpan lent x y) _ f
-    (λ cs s f1 f2.
-    let h = span-inv lent x y f1 in
-    let i = shown-in lent x y h in
-    let u = cond-inv (leb y 65535) _ R.StringTooLong f2 in
-    let v = cond-inv (utf8 cs) _ R.NotUtf8 (u .1) in
-    let w = cond-inv (noZero cs) _ R.ZeroByte (v .1) in
-    let ec : cs ≡ take y (drop x lent) = (let d = sym f1 ∙ i in cc d) in
-    let es : s ≡ [] = (let d = sym f1 ∙ i in cc d) in
-    record { place = g; lies = h; small = leb-true y 65535 (u .0); shows = rw (f1, u .0, v .0, w .0, ec, es) }))
-
 string-length : (lent : List ℕ) (x y : ℕ) → x + y ≤ length lent → length (stringBytes (take y (drop x lent))) ≡ y + 2
 unfolding stringBytes
 string-length lent x y h =
@@ -237,10 +142,6 @@ string-length lent x y h =
 
 pub string-small : {lent : List ℕ} {x y a : ℕ} {p q : Place} → StrCheck lent x y p q → q ≡ At a → y ≤ 65535
 string-small c e = whole c e .small
-
-passing : {A : Type 0} (v : A) (r : List ℕ) (p : Place) → checkAt (ok v r) p ≡ p
-passing v r (At n) = refl
-passing v r (Refused k) = refl
 
 module _ {lent o : List ℕ} {x y : ℕ} {p q : Place} where
   pub string-refused : {k : Refusal} → StrCheck lent x y p q → q ≡ Refused k → StrPut lent x y o p o q

@@ -3,3 +3,4 @@ pub mod Strings
 pub mod Spans
 pub mod Utf8Laws
 pub mod StringLaws
+pub mod SpanLaws

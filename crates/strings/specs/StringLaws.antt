@@ -10,9 +10,9 @@ use Rattle.numbers.specs.ReadingLaws.{Reads, reads-raw, reads-then, reads-after
 use Rattle.numbers.specs.PlaceLaws.{one-answer}
 use Rattle.numbers.specs.declared.Refusal.the-variants as R
 use Rattle.numbers.specs.declared.Place.{Place}
-use Rattle.strings.specs.Utf8.{utf8, noZero}
+use Rattle.strings.specs.Utf8.{CharAt, utf8, noZero}
 use Rattle.strings.specs.Strings.{okText, readString, stringBytes, GoodText}
-use Rattle.strings.specs.Spans.{StrRead}
+use Rattle.strings.specs.Spans.{TextCheck, Shown, SpanCheck, StrCheck, StrRead}
 
 -- read after put, and a string cut anywhere is short
 pub reads-string : (bs : List ℕ) → GoodText bs → Reads readString (stringBytes bs) bs
@@ -35,6 +35,24 @@ took-string xs {bs} {r} h e =
     let en : cs ≡ bs = cc in
     let er : t ≡ r = cc in
     rw (← en, ← er, q .good .0) (took-then p q (λ a b. record { short = rw (b .0) a; form = u .0; full = v .0 }))))
+
+-- ---- one answer for each question
+
+pub char-one : {s : List ℕ} {i k k' : ℕ} → CharAt s i k → CharAt s i k' → k ≡ k'
+char-one a b = one-answer (a .is) (b .is)
+
+pub text-one : {bs : List ℕ} {p q q' : Place} → TextCheck bs p q → TextCheck bs p q' → q ≡ q'
+text-one a b = one-answer (a .is) (b .is)
+
+module _ {lent : List ℕ} {x y : ℕ} where
+  pub shown-one : {bs bs' : List ℕ} → Shown lent x y bs → Shown lent x y bs' → bs ≡ bs'
+  shown-one a b = one-answer (a .is) (b .is)
+
+  pub span-one : {p q q' : Place} → SpanCheck lent x y p q → SpanCheck lent x y p q' → q ≡ q'
+  span-one a b = one-answer (a .is) (b .is)
+
+  pub check-one : {p q q' : Place} → StrCheck lent x y p q → StrCheck lent x y p q' → q ≡ q'
+  check-one a b = one-answer (a .is) (b .is)
 
 pub str-one : {s : List ℕ} {p q q' : Place} {x x' y y' : ℕ} → StrRead s p x y q → StrRead s p x' y' q' → (x ≡ x') × (y ≡ y') × (q ≡ q')
 str-one a b = (one-answer (a .start) (b .start), one-answer (a .len) (b .len), one-answer (a .next) (b .next))

@@ -123,7 +123,7 @@ pub struct Extremes {
 }
 
 // One pass with no early exit, so that the compiler makes it of vectors: most text is plain, and is then done with.
-fn extremes_of(s: &[u8]) -> Extremes
+pub fn extremes_of(s: &[u8]) -> Extremes
     ensures { λ r. ⌜ (r .low ≡ leastOf (now (s .entry))) × (r .high ≡ greatestOf (now (s .entry))) ⌝ }
 {
     let mut low: u8 = 255;

@@ -1,7 +1,8 @@
 use native.Mathlib.Omega.{arith}
 use borrow.Author.Needs.{needs}
 use Rattle.numbers.specs.PlaceLaws.{inside}
-use Rattle.strings.proofs.Ways.{span-lies, bytes-refused, bytes-full, bytes-done}
+use Rattle.strings.specs.SpanLaws.{span-lies}
+use Rattle.strings.proofs.Ways.{bytes-refused, bytes-full, bytes-done}
 use Rattle.strings.proofs.put_bytes.Statement.{statement}
 use Rattle.strings.proofs.put_bytes.Tie as tie
 

@@ -1,0 +1,123 @@
+-- What is known of spans that passed their checks, and of a string that was read at a place.
+use Prim.Native.Nat.{ℕ, _+_, _≤_, _<_}
+use native.Mathlib.Omega.{arith}
+use mathlib.Core.Path.{_≡_, refl, sym, ap, _∙_}
+use mathlib.Core.Bool.{Bool, true, false, cond}
+use mathlib.Core.List.{List, []}
+use lib.ListN.{length, take, drop, length-drop}
+use lib.Seq.{length-take-le, drop-drop}
+use lib.Dec.{leb}
+use borrow.Author.Tests.{le-leb, lt-leb, leb-true}
+use Rattle.numbers.specs.Reading.{Result, ok, bad, after, raw, readNum}
+use Rattle.numbers.specs.ReadingLaws.{or-else, after-inv, cond-inv, raw-short}
+use Rattle.numbers.specs.Places.{readAt}
+use Rattle.numbers.specs.PlaceLaws.{Held}
+use Rattle.numbers.specs.declared.Refusal.{Refusal}
+use Rattle.numbers.specs.declared.Refusal.the-variants as R
+use Rattle.numbers.specs.declared.Place.{Place}
+use Rattle.numbers.specs.declared.Place.the-variants.{At, Refused}
+use Rattle.strings.specs.Utf8.{utf8, noZero}
+use Rattle.strings.specs.Strings.{okText, readString}
+use Rattle.strings.specs.Spans.{showSpan, showString, checkAt, TextCheck, SpanCheck, StrCheck, startIn}
+
+pub shown-in : (lent : List ℕ) (x y : ℕ) → x + y ≤ length lent → showSpan lent x y ≡ ok (take y (drop x lent)) []
+unfolding showSpan
+shown-in lent x y h = rw (le-leb (x + y) (length lent) h)
+
+pub shown-out : (lent : List ℕ) (x y : ℕ) → length lent < x + y → showSpan lent x y ≡ bad R.SpanOutside
+unfolding showSpan
+shown-out lent x y h = rw (lt-leb (x + y) (length lent) h)
+
+pub shown-length : (lent : List ℕ) (x y : ℕ) → x + y ≤ length lent → length (take y (drop x lent)) ≡ y
+shown-length lent x y h = length-take-le y (drop x lent) (simp length-drop (omega arith))
+
+-- a check that is passed had something to show, at that place
+pub check-inv : {A X : Type 0} (m : Result A) (p : Place) {a : ℕ} → checkAt m p ≡ At a → ((v : A) (r : List ℕ) → m ≡ ok v r → p ≡ At a → X) → X
+check-inv m (Refused k) e f = absurd (let z : _≡_ {A = ℕ} 0 1 = cc e in omega arith)
+check-inv (ok v r) (At n) e f = f v r refl e
+check-inv (bad k) (At n) e f = absurd (let z : _≡_ {A = ℕ} 0 1 = cc e in omega arith)
+
+pub span-inv : (lent : List ℕ) (x y : ℕ) {bs r : List ℕ} → showSpan lent x y ≡ ok bs r → x + y ≤ length lent
+span-inv lent x y e =
+    or-else (x + y) (length lent) (λ h. h) (λ h. absurd (let f = sym (shown-out lent x y h) ∙ e in let z : _≡_ {A = ℕ} 0 1 = cc f in omega arith))
+
+-- what is known of a span that passed
+pub record Passed (lent : List ℕ) (x y : ℕ) (p : Place) (a : ℕ) : Type 0 where
+  pub place : p ≡ At a
+  pub lies : x + y ≤ length lent
+  pub shows : showSpan lent x y ≡ ok (take y (drop x lent)) []
+
+pub passed : {lent : List ℕ} {x y a : ℕ} {p q : Place} → SpanCheck lent x y p q → q ≡ At a → Passed lent x y p a
+passed {lent} {x} {y} {a} {p} c e =
+    check-inv (showSpan lent x y) p (sym (c .is) ∙ e)
+    (λ bs r f g. let h = span-inv lent x y f in record { place = g; lies = h; shows = shown-in lent x y h })
+
+pub span-lies : {lent : List ℕ} {x y a : ℕ} {p q : Place} → SpanCheck lent x y p q → q ≡ At a → x + y ≤ length lent
+span-lies c e = passed c e .lies
+
+-- what is known of a lent string that passed
+pub record Whole (lent : List ℕ) (x y : ℕ) (p : Place) (a : ℕ) : Type 0 where
+  pub place : p ≡ At a
+  pub lies : x + y ≤ length lent
+  pub small : y ≤ 65535
+  pub shows : showString lent x y ≡ ok (take y (drop x lent)) []
+
+pub whole : {lent : List ℕ} {x y a : ℕ} {p q : Place} → StrCheck lent x y p q → q ≡ At a → Whole lent x y p a
+unfolding showString
+whole {lent} {x} {y} {a} {p} c e =
+    check-inv (showString lent x y) p (sym (c .is) ∙ e)
+    (λ bs r f g. after-inv (showSpan lent x y) _ f
+    (λ cs s f1 f2.
+    let h = span-inv lent x y f1 in
+    let i = shown-in lent x y h in
+    let u = cond-inv (leb y 65535) _ R.StringTooLong f2 in
+    let v = cond-inv (utf8 cs) _ R.NotUtf8 (u .1) in
+    let w = cond-inv (noZero cs) _ R.ZeroByte (v .1) in
+    let ec : cs ≡ take y (drop x lent) = (let d = sym f1 ∙ i in cc d) in
+    let es : s ≡ [] = (let d = sym f1 ∙ i in cc d) in
+    record { place = g; lies = h; small = leb-true y 65535 (u .0); shows = rw (f1, u .0, v .0, w .0, ec, es) }))
+
+pub passing : {A : Type 0} (v : A) (r : List ℕ) (p : Place) → checkAt (ok v r) p ≡ p
+passing v r (At n) = refl
+passing v r (Refused k) = refl
+
+-- ---- a string at a place
+
+pub string-at : (s : List ℕ) (p : Place) → readAt readString s p ≡ after (readAt (readNum 2) s p) (λ n r. after (raw n r) okText)
+unfolding readString
+string-at s (At a) = refl
+string-at s (Refused k) = refl
+
+pub start-bad : (w : ℕ) (p : Place) (k : Refusal) → startIn w p (bad k) ≡ 0
+start-bad w (At a) k = refl
+start-bad w (Refused j) k = refl
+
+-- behind a count that is held: the bytes, or not enough of them
+pub string-held : {s : List ℕ} {p : Place} {n e : ℕ} → Held 2 s p n e → e + n ≤ length s → readAt readString s p ≡ okText (take n (drop e s)) (drop (e + n) s)
+unfolding raw
+string-held {s} {p} {n} {e} h l =
+    string-at s p ∙ rw (h .place, h .reads, le-leb n (length (drop e s)) (simp length-drop (omega arith)), drop-drop n e s)
+
+pub string-short : {s : List ℕ} {p : Place} {n e : ℕ} → Held 2 s p n e → length s < e + n → readAt readString s p ≡ bad R.Short
+string-short {s} {p} {n} {e} h l =
+    let f = h .fits in
+    let g = h .ends in
+    string-at s p ∙ rw (h .place, h .reads, raw-short n (drop e s) (simp length-drop (omega arith)))
+
+pub text-refused : (bs r : List ℕ) {n : ℕ} {q : Place} {k : Refusal} → TextCheck bs (At n) q → q ≡ Refused k → okText bs r ≡ bad k
+text-refused bs r {n} {q} {k} c e = go (utf8 bs) (noZero bs) (sym (c .is) ∙ e)
+  where
+    go : (u z : Bool) → checkAt (cond u (cond z (ok bs []) (bad R.ZeroByte)) (bad R.NotUtf8)) (At n) ≡ Refused k
+        → cond u (cond z (ok bs r) (bad R.ZeroByte)) (bad R.NotUtf8) ≡ bad k
+    go true true f = absurd (let z : _≡_ {A = ℕ} 0 1 = cc f in omega arith)
+    go true false f = let g : R.ZeroByte ≡ k = cc f in ap bad g
+    go false z f = let g : R.NotUtf8 ≡ k = cc f in ap bad g
+
+pub text-passed : (bs r : List ℕ) {n a : ℕ} {q : Place} → TextCheck bs (At n) q → q ≡ At a → (okText bs r ≡ ok bs r) × (q ≡ At n)
+text-passed bs r {n} {a} {q} c e = go (utf8 bs) (noZero bs) (sym (c .is) ∙ e)
+  where
+    go : (u z : Bool) → checkAt (cond u (cond z (ok bs []) (bad R.ZeroByte)) (bad R.NotUtf8)) (At n) ≡ At a
+        → (cond u (cond z (ok bs r) (bad R.ZeroByte)) (bad R.NotUtf8) ≡ ok bs r) × (q ≡ At n)
+    go true true f = (refl, e ∙ sym f)
+    go true false f = absurd (let z : _≡_ {A = ℕ} 0 1 = cc f in omega arith)
+    go false z f = absurd (let z : _≡_ {A = ℕ} 0 1 = cc f in omega arith)
