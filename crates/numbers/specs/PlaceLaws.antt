@@ -159,7 +159,7 @@ put-same : (t : Bool) (o : List ℕ) (a : ℕ) (bs : List ℕ) → leb (a + leng
 put-same true o a bs e = length-over o a bs (leb-true (a + length bs) (length o) e)
 put-same false o a bs e = refl
 
-length-put : (bs o : List ℕ) (p : Place) → length (putAt bs o p) ≡ length o
+pub length-put : (bs o : List ℕ) (p : Place) → length (putAt bs o p) ≡ length o
 unfolding putAt
 length-put bs o (At a) = put-same (leb (a + length bs) (length o)) o a bs refl
 length-put bs o (Refused k) = refl

@@ -180,7 +180,8 @@ fn put_le(out: &mut [u8], at: usize, x: u64, width: usize)
     }
 }
 
-fn put_num(out: &mut [u8], p: Place, x: u64, width: usize) -> Place
+// The lowest `width` bytes of a number.
+pub fn put_num(out: &mut [u8], p: Place, x: u64, width: usize) -> Place
     ensures { λ r. ⌜ Put (toLE width x) (now (out .entry)) p (now (out .exit)) r ⌝ }
 {
     let Place::At(at) = p else {

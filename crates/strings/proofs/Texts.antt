@@ -1,33 +1,12 @@
--- The two loops over a text's bytes, and the ways that its check goes.
-use Prim.Native.Nat.{ℕ, suc, _+_, _≤_, _<_, min, max}
+-- The loop that finds the extremes of a text's bytes.
+use Prim.Native.Nat.{ℕ, _+_, _≤_, _<_, min, max}
 use native.Mathlib.Omega.{arith}
 use native.Mathlib.Numerals.{add-one}
-use mathlib.Core.Path.{_≡_, refl, sym, ap, _∙_}
-use mathlib.Core.Bool.{Bool, true, false, cond}
+use mathlib.Core.Path.{_≡_}
 use mathlib.Core.List.{List, [], _∷_}
-use lib.ListN.{length, drop, getD, length-drop, drop-of-length-le}
-use lib.Seq.{drop-cons, drop-drop}
-use Rattle.strings.specs.Utf8.{char, CharAt, chars, utf8, noZero}
-use Rattle.strings.specs.Utf8Laws.{char-length, one-char, no-char, leastOf, greatestOf}
-
--- ---- characters
-
-pub char-in : {s : List ℕ} {i k : ℕ} → CharAt s i k → i ≤ length s → i + k ≤ length s
-char-in {s} {i} {k} a h =
-    let l = char-length (drop i s) in
-    let d = length-drop i s in
-    let e = a .is in
-    omega arith
-
-pub char-turn : {s : List ℕ} {i k : ℕ} {x : Bool} → CharAt s i k → (k ≡ 0 → ⊥) → utf8 (drop i s) ≡ x → utf8 (drop (i + k) s) ≡ x
-char-turn {s} {i} {k} a h e = ap utf8 (sym (drop-drop k i s)) ∙ sym (one-char (drop i s) k (a .is) h) ∙ e
-
-pub char-lost : {s : List ℕ} {i k : ℕ} {x : Bool} → CharAt s i k → i < length s → k ≡ 0 → utf8 (drop i s) ≡ x → false ≡ x
-char-lost {s} {i} a l h e = sym (no-char s i l (sym h ∙ a .is)) ∙ e
-
-pub chars-over : (s : List ℕ) (i : ℕ) {x : Bool} → length s ≤ i → utf8 (drop i s) ≡ x → true ≡ x
-unfolding utf8 chars
-chars-over s i h e = sym (ap (λ (l : List ℕ). utf8 l) (drop-of-length-le s h)) ∙ e
+use lib.ListN.{length, drop, getD, drop-of-length-le}
+use lib.Seq.{drop-cons}
+use Rattle.strings.specs.Utf8Laws.{leastOf, greatestOf}
 
 -- ---- extremes
 

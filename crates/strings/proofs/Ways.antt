@@ -20,7 +20,7 @@ use Rattle.numbers.specs.declared.Place.{Place}
 use Rattle.numbers.specs.declared.Place.the-variants.{At, Refused}
 use Rattle.strings.specs.Utf8.{utf8, noZero}
 use Rattle.strings.specs.Strings.{okText, readString, stringBytes}
-use Rattle.strings.specs.SpanLaws.{shown-in, shown-out, shown-length, passed, whole, passing, string-at, start-bad, string-held, string-short, text-refused, text-passed}
+use Rattle.strings.specs.SpanLaws.{first-refuses, shown-in, shown-out, shown-length, passed, whole, passing, string-at, start-bad, string-held, string-short, text-refused, text-passed}
 use Rattle.strings.specs.Spans.{bytesIn, showSpan, showString, checkAt, Shown, TextCheck, SpanCheck, StrCheck, startIn, strStart, strLen, pastStr, StrRead, SpanPut, StrPut}
 
 -- ---- a string's bytes
@@ -49,12 +49,6 @@ module _ {lent : List ℕ} {x y : ℕ} {t : Bool} where
 
   pub span-out : {p : Place} {a : ℕ} → p ≡ At a → Within x y (length lent) t → t ≡ false → SpanCheck lent x y p (Refused R.SpanOutside)
   span-out e i h = record { is = rw (e, shown-out lent x y (outside i h)) }
-
--- what a first check refuses, the whole does
-first-refuses : {A B : Type 0} (m : Result A) (k : A → List ℕ → Result B) (p : Place) {j : Refusal} → checkAt m p ≡ Refused j → checkAt (after m k) p ≡ Refused j
-first-refuses m k (Refused i) e = e
-first-refuses (ok a r) k (At n) e = absurd (let z : _≡_ {A = ℕ} 0 1 = cc e in omega arith)
-first-refuses (bad i) k (At n) e = e
 
 -- ---- a lent string
 

@@ -55,7 +55,36 @@ passed {lent} {x} {y} {a} {p} c e =
 pub span-lies : {lent : List ℕ} {x y a : ℕ} {p q : Place} → SpanCheck lent x y p q → q ≡ At a → x + y ≤ length lent
 span-lies c e = passed c e .lies
 
--- what is known of a lent string that passed
+-- what a first check refuses, the whole does
+pub first-refuses : {A B : Type 0} (m : Result A) (k : A → List ℕ → Result B) (p : Place) {j : Refusal} → checkAt m p ≡ Refused j → checkAt (after m k) p ≡ Refused j
+first-refuses m k (Refused i) e = e
+first-refuses (ok a r) k (At n) e = absurd (let z : _≡_ {A = ℕ} 0 1 = cc e in omega arith)
+first-refuses (bad i) k (At n) e = e
+
+-- what is known of a lent string that is shown, and of one that passed
+pub record StringShown (lent : List ℕ) (x y : ℕ) (bs r : List ℕ) : Type 0 where
+  pub lies : x + y ≤ length lent
+  pub small : y ≤ 65535
+  pub bytes : bs ≡ take y (drop x lent)
+  pub rest : r ≡ []
+
+pub string-inv : (lent : List ℕ) (x y : ℕ) {bs r : List ℕ} → showString lent x y ≡ ok bs r → StringShown lent x y bs r
+unfolding showString
+string-inv lent x y {bs} {r} e =
+    after-inv (showSpan lent x y) _ e
+    (λ cs s f1 f2.
+    let h = span-inv lent x y f1 in
+    let d = sym f1 ∙ shown-in lent x y h in
+    let u = cond-inv (leb y 65535) _ R.StringTooLong f2 in
+    let v = cond-inv (utf8 cs) _ R.NotUtf8 (u .1) in
+    let w = cond-inv (noZero cs) _ R.ZeroByte (v .1) in
+    let g = w .1 in
+    let eb : bs ≡ cs = cc g in
+    let er : r ≡ s = cc g in
+    let ec : cs ≡ take y (drop x lent) = cc d in
+    let es : s ≡ [] = cc d in
+    record { lies = h; small = leb-true y 65535 (u .0); bytes = eb ∙ ec; rest = er ∙ es })
+
 pub record Whole (lent : List ℕ) (x y : ℕ) (p : Place) (a : ℕ) : Type 0 where
   pub place : p ≡ At a
   pub lies : x + y ≤ length lent
@@ -63,19 +92,11 @@ pub record Whole (lent : List ℕ) (x y : ℕ) (p : Place) (a : ℕ) : Type 0 wh
   pub shows : showString lent x y ≡ ok (take y (drop x lent)) []
 
 pub whole : {lent : List ℕ} {x y a : ℕ} {p q : Place} → StrCheck lent x y p q → q ≡ At a → Whole lent x y p a
-unfolding showString
 whole {lent} {x} {y} {a} {p} c e =
     check-inv (showString lent x y) p (sym (c .is) ∙ e)
-    (λ bs r f g. after-inv (showSpan lent x y) _ f
-    (λ cs s f1 f2.
-    let h = span-inv lent x y f1 in
-    let i = shown-in lent x y h in
-    let u = cond-inv (leb y 65535) _ R.StringTooLong f2 in
-    let v = cond-inv (utf8 cs) _ R.NotUtf8 (u .1) in
-    let w = cond-inv (noZero cs) _ R.ZeroByte (v .1) in
-    let ec : cs ≡ take y (drop x lent) = (let d = sym f1 ∙ i in cc d) in
-    let es : s ≡ [] = (let d = sym f1 ∙ i in cc d) in
-    record { place = g; lies = h; small = leb-true y 65535 (u .0); shows = rw (f1, u .0, v .0, w .0, ec, es) }))
+    (λ bs r f g.
+    let i = string-inv lent x y f in
+    record { place = g; lies = i .lies; small = i .small; shows = f ∙ rw (i .bytes, i .rest) })
 
 pub passing : {A : Type 0} (v : A) (r : List ℕ) (p : Place) → checkAt (ok v r) p ≡ p
 passing v r (At n) = refl

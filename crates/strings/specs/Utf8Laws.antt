@@ -5,12 +5,12 @@ use native.Mathlib.Nat.{min-le-left, min-le-right}
 use mathlib.Core.Path.{_≡_, refl, sym, ap, _∙_}
 use mathlib.Core.Bool.{Bool, true, false, cond, _&&_}
 use mathlib.Core.List.{List, [], _∷_}
-use lib.ListN.{length, drop, getD, length-drop}
+use lib.ListN.{length, drop, getD, length-drop, drop-of-length-le}
 use lib.Seq.{drop-cons, drop-drop, drop-length}
 use lib.Dec.{leb, eqb, leb·zero}
 use borrow.Author.Tests.{le-leb, lt-leb, ne-eqb, eq-eqb}
 use Rattle.numbers.specs.ReadingLaws.{or-else}
-use Rattle.strings.specs.Utf8.{Range, _to_, inRange, rows, fits, charIn, char, chars, utf8, noZero}
+use Rattle.strings.specs.Utf8.{Range, _to_, inRange, rows, fits, charIn, char, CharAt, chars, utf8, noZero}
 
 -- ---- what the code's helpers say
 
@@ -83,6 +83,25 @@ unfolding utf8
 no-char s i h e =
     rw (drop-cons s i 0 h)
     (chars-cons (getD s i 0) (drop (suc i) s) ∙ ap (λ (n : ℕ). next n (drop (suc i) s)) (sym (e ∙ ap char (drop-cons s i 0 h))))
+
+-- ---- the loop over the characters of s, i bytes on
+
+pub char-in : {s : List ℕ} {i k : ℕ} → CharAt s i k → i ≤ length s → i + k ≤ length s
+char-in {s} {i} {k} a h =
+    let l = char-length (drop i s) in
+    let d = length-drop i s in
+    let e = a .is in
+    omega arith
+
+pub char-turn : {s : List ℕ} {i k : ℕ} {x : Bool} → CharAt s i k → (k ≡ 0 → ⊥) → utf8 (drop i s) ≡ x → utf8 (drop (i + k) s) ≡ x
+char-turn {s} {i} {k} a h e = ap utf8 (sym (drop-drop k i s)) ∙ sym (one-char (drop i s) k (a .is) h) ∙ e
+
+pub char-lost : {s : List ℕ} {i k : ℕ} {x : Bool} → CharAt s i k → i < length s → k ≡ 0 → utf8 (drop i s) ≡ x → false ≡ x
+char-lost {s} {i} a l h e = sym (no-char s i l (sym h ∙ a .is)) ∙ e
+
+pub chars-over : (s : List ℕ) (i : ℕ) {x : Bool} → length s ≤ i → utf8 (drop i s) ≡ x → true ≡ x
+unfolding utf8 chars
+chars-over s i h e = sym (ap (λ (l : List ℕ). utf8 l) (drop-of-length-le s h)) ∙ e
 
 -- ---- plain text
 

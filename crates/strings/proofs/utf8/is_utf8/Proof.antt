@@ -4,7 +4,7 @@ use mathlib.Core.Path.{_≡_, refl}
 use native.Mathlib.Omega.{arith}
 use lib.ListN.{length, drop}
 use Rattle.strings.specs.Utf8.{utf8}
-use Rattle.strings.proofs.Texts.{char-in, char-turn, char-lost, chars-over}
+use Rattle.strings.specs.Utf8Laws.{char-in, char-turn, char-lost, chars-over}
 use Rattle.strings.proofs.utf8.is_utf8.Statement.{statement}
 use Rattle.strings.proofs.utf8.is_utf8.Tie as tie
 

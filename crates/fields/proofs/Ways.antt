@@ -1,0 +1,180 @@
+-- The ways that the readers of data and vectors go: one law for each way out, over plain variables.
+use Prim.Native.Nat.{ℕ, _+_, _-_, _*_, _≤_, _<_}
+use native.Mathlib.Omega.{arith}
+use mathlib.Core.Path.{_≡_, refl, sym, ap, ap₂, _∙_}
+use mathlib.Core.Bool.{Bool, true, false, cond}
+use mathlib.Core.List.{List, [], _∷_}
+use lib.ListN.{length, take, drop, length-append, length-drop}
+use lib.Seq.{drop-drop, length-take-le}
+use lib.Dec.{leb}
+use borrow.Author.Tests.{le-leb, lt-leb}
+use Rattle.numbers.specs.Numbers.{Bytes, bytes-drop}
+use Rattle.numbers.specs.Reading.{Result, ok, bad, after, raw, readNum}
+use Rattle.numbers.specs.ReadingLaws.{Took, raw-short}
+use Rattle.numbers.specs.Places.{Within, readAt, restAt, NumRead}
+use Rattle.numbers.specs.PlaceLaws.{inside, outside, Held, num-holds, num-refused}
+use Rattle.numbers.specs.declared.Refusal.{Refusal}
+use Rattle.numbers.specs.declared.Refusal.the-variants as R
+use Rattle.numbers.specs.declared.Place.{Place}
+use Rattle.numbers.specs.declared.Place.the-variants.{At, Refused}
+use Rattle.fields.specs.Layouts.{Field, dat, strs, quids, Item, bytes, strings, qids, most, readMany, readField, manyBytes}
+use Rattle.fields.specs.LayoutLaws.{took-many}
+use Rattle.fields.specs.Values.{Value, span, part, place}
+use Rattle.fields.specs.Fields.{nothing, placedIn, valueAt, pastField, FieldRead, ManyRead, Nowhere}
+
+-- ---- a field, refused or read
+
+placed-bad : (f : Field) (p : Place) (k : Refusal) → placedIn f p (bad k) ≡ nothing f
+placed-bad f (At a) k = refl
+placed-bad f (Refused j) k = refl
+
+refused-field : {f : Field} {s : List ℕ} {p q : Place} {k : Refusal} → readAt (readField f) s p ≡ bad k → q ≡ Refused k → FieldRead f s p (nothing f) q
+unfolding valueAt pastField
+refused-field {f} {s} {p} {q} {k} e h = record { value = rw e (sym (placed-bad f p k)); next = rw e h }
+
+read-field : {f : Field} {s : List ℕ} {p q : Place} {a : ℕ} {i : Item} {r : List ℕ} → p ≡ At a → readAt (readField f) s p ≡ ok i r → q ≡ At (length s - length r)
+    → FieldRead f s p (place a i) q
+unfolding valueAt pastField
+read-field g e h = record { value = rw (e, g); next = rw e h }
+
+-- ---- a field that begins with a count of w bytes
+
+record Counted (f : Field) (w : ℕ) (g : ℕ → List ℕ → Result Item) : Type 0 where
+  pub is : (xs : List ℕ) → readField f xs ≡ after (readNum w xs) g
+
+module _ {f : Field} {w : ℕ} {g : ℕ → List ℕ → Result Item} where
+  counted-at : Counted f w g → (s : List ℕ) (p : Place) → readAt (readField f) s p ≡ after (readAt (readNum w) s p) g
+  counted-at c s (At a) = c .is (drop a s)
+  counted-at c s (Refused k) = refl
+
+  counted-refused : {s : List ℕ} {p q : Place} {n : ℕ} {k : Refusal} → Counted f w g → NumRead w s p n q → q ≡ Refused k → FieldRead f s p (nothing f) q
+  counted-refused {s} {p} c r e = refused-field (counted-at c s p ∙ rw (num-refused r e .reads)) e
+
+  counted-held : {s : List ℕ} {p : Place} {n e : ℕ} → Counted f w g → Held w s p n e → readAt (readField f) s p ≡ g n (drop e s)
+  counted-held {s} {p} c h = counted-at c s p ∙ rw (h .place, h .reads)
+
+raw-held : (n e : ℕ) (s : List ℕ) → e + n ≤ length s → raw n (drop e s) ≡ ok (take n (drop e s)) (drop (e + n) s)
+unfolding raw
+raw-held n e s h = rw (le-leb n (length (drop e s)) (simp length-drop (omega arith)), drop-drop n e s)
+
+raw-cut : (n e : ℕ) (s : List ℕ) → length s < e + n → e ≤ length s → raw n (drop e s) ≡ bad R.Short
+raw-cut n e s h l = raw-short n (drop e s) (simp length-drop (omega arith))
+
+held-length : (n e : ℕ) (s : List ℕ) → e + n ≤ length s → length (take n (drop e s)) ≡ n
+held-length n e s h = length-take-le n (drop e s) (simp length-drop (omega arith))
+
+held-next : (n e : ℕ) (s : List ℕ) → e + n ≤ length s → At (e + n) ≡ At (length s - length (drop (e + n) s))
+held-next n e s h = ap At (let d = length-drop (e + n) s in omega arith)
+
+-- ---- data
+
+counted-dat : Counted dat 4 (λ n r. cond (leb n most) (after (raw n r) (λ bs s. ok (bytes bs) s)) (bad R.DataTooLong))
+unfolding readField
+counted-dat = record { is = λ xs. refl }
+
+pub data-cut : {s : List ℕ} {p a : Place} {n : ℕ} {k : Refusal} → NumRead 4 s p n a → a ≡ Refused k → FieldRead dat s p (span 0 0) a
+data-cut r f = counted-refused counted-dat r f
+
+module _ {s : List ℕ} {p a : Place} {n e : ℕ} where
+  pub data-limit : NumRead 4 s p n a → a ≡ At e → most < n → FieldRead dat s p (span 0 0) (Refused R.DataTooLong)
+  data-limit r f h = refused-field (counted-held counted-dat (num-holds (omega arith) r f) ∙ rw (lt-leb n most h)) refl
+
+  pub data-short : {t : Bool} → NumRead 4 s p n a → a ≡ At e → n ≤ most → Within e n (length s) t → t ≡ false → FieldRead dat s p (span 0 0) (Refused R.Short)
+  data-short r f h i l =
+      let k = num-holds (omega arith) r f in
+      let x = k .fits in
+      let y = k .ends in
+      refused-field (counted-held counted-dat k ∙ rw (le-leb n most h, raw-cut n e s (outside i l) (omega arith))) refl
+
+  pub data-good : {t : Bool} → NumRead 4 s p n a → a ≡ At e → n ≤ most → Within e n (length s) t → t ≡ true → FieldRead dat s p (span e n) (At (e + n))
+  data-good r f h i l =
+      let k = num-holds (omega arith) r f in
+      let m = inside i l in
+      let u : readAt (readField dat) s p ≡ ok (bytes (take n (drop e s))) (drop (e + n) s)
+      = counted-held counted-dat k ∙ rw (le-leb n most h, raw-held n e s m) in
+      rw (held-length n e s m, ← (k .ends)) at (read-field (k .place) u (held-next n e s m))
+
+-- ---- qids
+
+counted-quids : Counted quids 2 (λ n r. after (raw (13 * n) r) (λ bs s. ok (qids n bs) s))
+unfolding readField
+counted-quids = record { is = λ xs. refl }
+
+-- a part that was refused, made by another function
+nowhere : {f : Field} {s : List ℕ} {p e k : Place} {v : Value} → nothing f ≡ part 0 0 0 → Nowhere v e k → FieldRead f s p (nothing f) k → FieldRead f s p v e
+nowhere h n r = record { value = n .value ∙ sym h ∙ r .value; next = n .next ∙ r .next }
+
+module _ {s : List ℕ} {p a q : Place} {n : ℕ} {v : Value} where
+  pub quids-cut : {k : Refusal} → NumRead 2 s p n a → a ≡ Refused k → Nowhere v q a → FieldRead quids s p v q
+  quids-cut r f w = nowhere refl w (counted-refused counted-quids r f)
+
+  pub quids-short : {e : ℕ} {t : Bool} → NumRead 2 s p n a → a ≡ At e → Within e (13 * n) (length s) t → t ≡ false → Nowhere v q (Refused R.Short) → FieldRead quids s p v q
+  quids-short {e} r f i l w =
+      let k = num-holds (omega arith) r f in
+      let x = k .fits in
+      let y = k .ends in
+      nowhere refl w (refused-field (counted-held counted-quids k ∙ rw (raw-cut (13 * n) e s (outside i l) (omega arith))) refl)
+
+pub quids-good : {s : List ℕ} {p a : Place} {n e : ℕ} {t : Bool} → NumRead 2 s p n a → a ≡ At e → Within e (13 * n) (length s) t → t ≡ true
+    → FieldRead quids s p (part n e (13 * n)) (At (e + 13 * n))
+quids-good {s} {p} {a} {n} {e} r f i l =
+    let k = num-holds (omega arith) r f in
+    let m = inside i l in
+    let u : readAt (readField quids) s p ≡ ok (qids n (take (13 * n) (drop e s))) (drop (e + 13 * n) s)
+    = counted-held counted-quids k ∙ rw (raw-held (13 * n) e s m) in
+    rw (held-length (13 * n) e s m, ← (k .ends)) at (read-field (k .place) u (held-next (13 * n) e s m))
+
+-- ---- strings
+
+counted-strs : Counted strs 2 (λ n r. after (readMany n r) (λ l s. ok (strings l) s))
+unfolding readField
+counted-strs = record { is = λ xs. refl }
+
+rest-bad : {A : Type 0} (m : Result A) (n : ℕ) {k : Refusal} → restAt n m ≡ Refused k → m ≡ bad k
+rest-bad (ok a r) n e = absurd (let z : _≡_ {A = ℕ} 0 1 = cc e in omega arith)
+rest-bad (bad j) n {k} e = let f : j ≡ k = cc e in ap bad f
+
+rest-ok : {A X : Type 0} (m : Result A) (n : ℕ) {g : ℕ} → restAt n m ≡ At g → ((a : A) (r : List ℕ) → m ≡ ok a r → n - length r ≡ g → X) → X
+rest-ok (ok a r) n e f = f a r refl (cc e)
+rest-ok (bad j) n e f = absurd (let z : _≡_ {A = ℕ} 0 1 = cc e in omega arith)
+
+pub count-lies : {s : List ℕ} {p a : Place} {n e : ℕ} → NumRead 2 s p n a → a ≡ At e → e ≤ length s
+count-lies r f = let k = num-holds (omega arith) r f in let x = k .fits in let y = k .ends in omega arith
+
+module _ {s : List ℕ} {p a q : Place} {n : ℕ} {v : Value} where
+  pub strs-cut : {k : Refusal} → NumRead 2 s p n a → a ≡ Refused k → Nowhere v q a → FieldRead strs s p v q
+  strs-cut r f w = nowhere refl w (counted-refused counted-strs r f)
+
+  pub strs-bad : {e : ℕ} {m : Place} {k : Refusal} → NumRead 2 s p n a → a ≡ At e → ManyRead n s e m → m ≡ Refused k → Nowhere v q m → FieldRead strs s p v q
+  strs-bad {e} r f c h w =
+      nowhere refl w
+      (refused-field (counted-held counted-strs (num-holds (omega arith) r f) ∙ rw (rest-bad (readMany n (drop e s)) (length s) (sym (c .next) ∙ h))) h)
+
+-- so many strings from e to g
+record Many (n : ℕ) (s : List ℕ) (e g : ℕ) : Type 0 where
+  pub names : List (List ℕ)
+  pub left : List ℕ
+  pub reads : readMany n (drop e s) ≡ ok names left
+  pub count : length names ≡ n
+  pub size : e + length (manyBytes names) ≡ g
+  pub ends : length s - length left ≡ g
+
+many : {n e g : ℕ} {s : List ℕ} {m : Place} → Bytes s → e ≤ length s → ManyRead n s e m → m ≡ At g → Many n s e g
+many {n} {e} {g} {s} b l c h =
+    rest-ok (readMany n (drop e s)) (length s) (sym (c .next) ∙ h)
+    (λ names left f i.
+    let t = took-many n (drop e s) (bytes-drop e s b) f in
+    let w : length (manyBytes names) + length left ≡ length s - e = sym (length-append (manyBytes names) left) ∙ ap length (sym (t .whole)) ∙ length-drop e s in
+    record { names = names; left = left; reads = f; count = t .good .0; size = omega arith; ends = i })
+
+module _ {s : List ℕ} {p a m : Place} {n e g : ℕ} where
+  pub strs-on : Bytes s → NumRead 2 s p n a → a ≡ At e → ManyRead n s e m → m ≡ At g → e ≤ g
+  strs-on b r f c h = let z = many b (count-lies r f) c h .size in omega arith
+
+  pub strs-good : Bytes s → NumRead 2 s p n a → a ≡ At e → ManyRead n s e m → m ≡ At g → FieldRead strs s p (part n e (g - e)) (At g)
+  strs-good b r f c h =
+      let z = many b (count-lies r f) c h in
+      let k = num-holds (omega arith) r f in
+      let u : readAt (readField strs) s p ≡ ok (strings (z .names)) (z .left) = counted-held counted-strs k ∙ rw (z .reads) in
+      let i : length (manyBytes (z .names)) ≡ g - e = (let y = z .size in omega arith) in
+      rw (z .count, i, ← (k .ends)) at (read-field (k .place) u (ap At (sym (z .ends))))

@@ -1,0 +1,65 @@
+-- Fields at places: what the readers' contracts cite.
+use Prim.Native.Nat.{ℕ}
+use mathlib.Core.Path.{_≡_}
+use mathlib.Core.List.{List, [], _∷_}
+use mathlib.Core.Bool.{cond}
+use lib.ListN.{length, drop}
+use lib.Dec.{ltb}
+use Rattle.numbers.specs.Reading.{Result, ok, bad}
+use Rattle.numbers.specs.Places.{readAt, restAt}
+use Rattle.numbers.specs.declared.Place.{Place}
+use Rattle.numbers.specs.declared.Place.the-variants.{At, Refused}
+use Rattle.fields.specs.Layouts.{Field, num, str, dat, strs, quids, Layout, Item, readMany, readField}
+use Rattle.fields.specs.Values.{Value, val, span, part, place}
+
+-- the value of a field that was refused
+abbrev pub nothing : Field → Value
+nothing (num w) = val 0
+nothing str = span 0 0
+nothing dat = span 0 0
+nothing strs = part 0 0 0
+nothing quids = part 0 0 0
+
+-- the value of what was read at a place
+abbrev pub placedIn : Field → Place → Result Item → Value
+placedIn f (At a) (ok i r) = place a i
+placedIn f (At a) (bad k) = nothing f
+placedIn f (Refused k) m = nothing f
+
+unfoldable pub valueAt : Field → List ℕ → Place → Value
+valueAt f s p = placedIn f p (readAt (readField f) s p)
+
+unfoldable pub pastField : Field → List ℕ → Place → Place
+pastField f s p = restAt (length s) (readAt (readField f) s p)
+
+-- what a field's reader answers at p of s: the value, and the place behind it
+pub record FieldRead (f : Field) (s : List ℕ) (p : Place) (v : Value) (e : Place) : Type 0 where
+  pub value : v ≡ valueAt f s p
+  pub next : e ≡ pastField f s p
+
+-- so many strings from a position on: the place behind them
+pub record ManyRead (n : ℕ) (s : List ℕ) (a : ℕ) (e : Place) : Type 0 where
+  pub next : e ≡ restAt (length s) (readMany n (drop a s))
+
+-- the part of a vector that was refused, and the place that says why
+pub record Nowhere (v : Value) (e k : Place) : Type 0 where
+  pub value : v ≡ part 0 0 0
+  pub next : e ≡ k
+
+-- where a text has to be looked at: nowhere if its greatest byte is below 128
+abbrev pub lookFrom : ℕ → ℕ → ℕ
+lookFrom high n = cond (ltb high 128) n 0
+
+-- field after field; once one is refused, so are all behind it
+unfoldable pub valuesAt : Layout → List ℕ → Place → List Value
+valuesAt [] s p = []
+valuesAt (f ∷ fs) s p = valueAt f s p ∷ valuesAt fs s (pastField f s p)
+
+unfoldable pub pastFields : Layout → List ℕ → Place → Place
+pastFields [] s p = p
+pastFields (f ∷ fs) s p = pastFields fs s (pastField f s p)
+
+-- what a reader of a layout answers: the values of its fields, and the place behind them
+pub record Fields (fs : Layout) (s : List ℕ) (p : Place) (vs : List Value) (e : Place) : Type 0 where
+  pub values : vs ≡ valuesAt fs s p
+  pub next : e ≡ pastFields fs s p

@@ -1,0 +1,99 @@
+-- The format as data: fields, layouts, items; how a layout is read, and how items are written.
+use Prim.Native.Nat.{ℕ, zero, suc, _+_, _*_, _^_, _<_}
+use mathlib.Core.Path.{_≡_}
+use mathlib.Core.Bool.{cond}
+use mathlib.Core.List.{List, [], _∷_, _++_}
+use lib.ListN.{length}
+use lib.Dec.{leb}
+use Rattle.numbers.specs.Numbers.{toLE}
+use Rattle.numbers.specs.Reading.{Result, ok, bad, after, raw, readNum}
+use Rattle.numbers.specs.declared.Refusal.the-variants as R
+use Rattle.strings.specs.Strings.{readString, stringBytes, GoodText}
+
+-- Document 01, "Bytes of a frame": a number of so many bytes, a string (s), data (d), a vector of strings, a vector of qids
+pub data Field : Type 0 where
+  num : ℕ → Field
+  str : Field
+  dat : Field
+  strs : Field
+  quids : Field
+
+abbrev pub Layout : Type 0
+Layout = List Field
+
+-- "Qid (q) is ty[1] version[4] path[8], 13 bytes."
+abbrev pub q : Layout
+q = num 1 ∷ num 4 ∷ num 8 ∷ []
+
+-- a field's content: numbers, and the bytes shown
+pub data Item : Type 0 where
+  number : ℕ → ℕ → Item
+  string : List ℕ → Item
+  bytes : List ℕ → Item
+  strings : List (List ℕ) → Item
+  qids : ℕ → List ℕ → Item
+
+abbrev pub kind : Item → Field
+kind (number w n) = num w
+kind (string bs) = str
+kind (bytes bs) = dat
+kind (strings l) = strs
+kind (qids n bs) = quids
+
+-- ---- reading
+
+-- "data count above 33,554,432"
+abbrev pub most : ℕ
+most = 33554432
+
+-- "A vector is count[2] and its elements.": so many strings
+unfoldable pub readMany : ℕ → List ℕ → Result (List (List ℕ))
+readMany zero xs = ok [] xs
+readMany (suc n) xs = after (readString xs) (λ b r. after (readMany n r) (λ bs s. ok (b ∷ bs) s))
+
+-- "For data: count, then the limit, then bytes."
+unfoldable pub readField : Field → List ℕ → Result Item
+readField (num w) xs = after (readNum w xs) (λ n r. ok (number w n) r)
+readField str xs = after (readString xs) (λ bs r. ok (string bs) r)
+readField dat xs = after (readNum 4 xs) (λ n r. cond (leb n most) (after (raw n r) (λ bs s. ok (bytes bs) s)) (bad R.DataTooLong))
+readField strs xs = after (readNum 2 xs) (λ n r. after (readMany n r) (λ l s. ok (strings l) s))
+readField quids xs = after (readNum 2 xs) (λ n r. after (raw (13 * n) r) (λ bs s. ok (qids n bs) s))
+
+-- "fields in order. The first step that fails answers."
+unfoldable pub readFields : Layout → List ℕ → Result (List Item)
+readFields [] xs = ok [] xs
+readFields (f ∷ fs) xs = after (readField f xs) (λ i r. after (readFields fs r) (λ is s. ok (i ∷ is) s))
+
+-- ---- writing
+
+unfoldable pub manyBytes : List (List ℕ) → List ℕ
+manyBytes [] = []
+manyBytes (b ∷ bs) = stringBytes b ++ manyBytes bs
+
+unfoldable pub itemBytes : Item → List ℕ
+itemBytes (number w n) = toLE w n
+itemBytes (string bs) = stringBytes bs
+itemBytes (bytes bs) = toLE 4 (length bs) ++ bs
+itemBytes (strings l) = toLE 2 (length l) ++ manyBytes l
+itemBytes (qids n bs) = toLE 2 n ++ bs
+
+unfoldable pub itemsBytes : List Item → List ℕ
+itemsBytes [] = []
+itemsBytes (i ∷ is) = itemBytes i ++ itemsBytes is
+
+-- ---- what can stand in a frame
+
+abbrev pub AllGood : List (List ℕ) → Type 0
+AllGood [] = Unit {0}
+AllGood (b ∷ bs) = GoodText b × AllGood bs
+
+abbrev pub Good : Item → Type 0
+Good (number w n) = n < 256 ^ w
+Good (string bs) = GoodText bs
+Good (bytes bs) = length bs < suc most
+Good (strings l) = (length l < 65536) × AllGood l
+Good (qids n bs) = (n < 65536) × (length bs ≡ 13 * n)
+
+abbrev pub Goods : List Item → Type 0
+Goods [] = Unit {0}
+Goods (i ∷ is) = Good i × Goods is

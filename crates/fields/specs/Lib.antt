@@ -1,0 +1,9 @@
+pub mod Layouts
+pub mod LayoutLaws
+pub mod Values
+pub mod ValueLaws
+pub mod Fields
+pub mod FieldLaws
+pub mod Laying
+pub mod LayingLaws
+pub mod WritingLaws

@@ -1,0 +1,88 @@
+-- Values: what a record holds of a field. Items show bytes; values say where they stand.
+use Prim.Native.Nat.{ℕ, zero, suc, _+_, _*_}
+use mathlib.Core.Bool.{cond}
+use mathlib.Core.List.{List, [], _∷_}
+use lib.ListN.{length}
+use lib.Dec.{eqb}
+use Rattle.numbers.specs.Reading.{Result, ok, bad, after}
+use Rattle.numbers.specs.Refusals.{numberOf}
+use Rattle.numbers.specs.declared.Refusal.{Refusal}
+use Rattle.numbers.specs.declared.Refusal.the-variants as R
+use Rattle.strings.specs.Spans.{showSpan, showString}
+use Rattle.fields.specs.Layouts.{Field, num, str, dat, strs, quids, Layout, Item, number, string, bytes, strings, qids, readMany, manyBytes, itemBytes}
+
+-- a number; a span of the bytes, its start and length; a part of them with the count of its elements
+pub data Value : Type 0 where
+  val : ℕ → Value
+  span : ℕ → ℕ → Value
+  part : ℕ → ℕ → ℕ → Value
+
+-- what a value has; 0 where it has none
+abbrev pub numOf : Value → ℕ
+numOf (val n) = n
+numOf (span x y) = 0
+numOf (part c x y) = 0
+
+abbrev pub startOf : Value → ℕ
+startOf (val n) = 0
+startOf (span x y) = x
+startOf (part c x y) = x
+
+abbrev pub lenOf : Value → ℕ
+lenOf (val n) = 0
+lenOf (span x y) = y
+lenOf (part c x y) = y
+
+abbrev pub countOf : Value → ℕ
+countOf (val n) = 0
+countOf (span x y) = 0
+countOf (part c x y) = c
+
+-- ---- where an item stands that begins at a: its bytes are behind its count
+
+abbrev pub place : ℕ → Item → Value
+place a (number w n) = val n
+place a (string bs) = span (a + 2) (length bs)
+place a (bytes bs) = span (a + 4) (length bs)
+place a (strings l) = part (length l) (a + 2) (length (manyBytes l))
+place a (qids n bs) = part n (a + 2) (length bs)
+
+unfoldable pub places : ℕ → List Item → List Value
+places a [] = []
+places a (i ∷ is) = place a i ∷ places (a + length (itemBytes i)) is
+
+-- ---- what a value shows of the lent bytes, with the writer's refusals. The rest of an `ok` is not used, and is []
+
+-- "the first failing one answers, cut off 14, then 5, 6"
+abbrev pub cutOff : Refusal → Refusal
+cutOff k = cond (eqb (numberOf k) 1) R.PartMalformed k
+
+-- "bytes left over 14"
+abbrev pub wholePart : {A : Type 0} → Result A → Result A
+wholePart (ok a []) = ok a []
+wholePart (ok a (x ∷ r)) = bad R.PartMalformed
+wholePart (bad k) = bad (cutOff k)
+
+-- "each string 9, 7, 5, 6; data 9; a walk's element part 9, then its elements"; "A qid part is 14 unless it is 13 times the count."
+unfoldable pub show : Field → List ℕ → Value → Result Item
+show (num w) lent v = ok (number w (numOf v)) []
+show str lent v = after (showString lent (startOf v) (lenOf v)) (λ bs r. ok (string bs) r)
+show dat lent v = after (showSpan lent (startOf v) (lenOf v)) (λ bs r. ok (bytes bs) r)
+show strs lent v =
+    after (showSpan lent (startOf v) (lenOf v)) (λ bs r. after (wholePart (readMany (countOf v) bs)) (λ l s. ok (strings l) s))
+show quids lent v =
+    after (showSpan lent (startOf v) (lenOf v)) (λ bs r. cond (eqb (lenOf v) (13 * countOf v)) (ok (qids (countOf v) bs) r) (bad R.PartMalformed))
+
+-- the first of the values, and the others
+abbrev pub firstOf : List Value → Value
+firstOf [] = val 0
+firstOf (v ∷ vs) = v
+
+abbrev pub othersOf : List Value → List Value
+othersOf [] = []
+othersOf (v ∷ vs) = vs
+
+-- "fields in order"
+unfoldable pub shows : Layout → List ℕ → List Value → Result (List Item)
+shows [] lent vs = ok [] []
+shows (f ∷ fs) lent vs = after (show f lent (firstOf vs)) (λ i r. after (shows fs lent (othersOf vs)) (λ is s. ok (i ∷ is) s))

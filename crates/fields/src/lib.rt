@@ -1,0 +1,170 @@
+// Data and vectors: read at a place of a slice as a span or a part, and every kind of field laid into an output.
+
+pub mod lay;
+
+use numbers::Place;
+use numbers::Refusal;
+use strings::ReadSpan;
+use strings::Span;
+ghost use mathlib.Core.Path.{_≡_};
+ghost use Prim.Native.Nat.{_≤_};
+ghost use lib.ListN.{length};
+ghost use Rattle.fields.specs.Layouts.{dat, strs, quids};
+ghost use Rattle.fields.specs.Values.{span, part};
+ghost use Rattle.fields.specs.Fields.{FieldRead, ManyRead, Nowhere, lookFrom};
+
+// The elements of a vector: how many they are, and the part of the bytes that holds them.
+pub struct Part {
+    pub count: u16,
+    pub elements: Span,
+}
+
+// The part of what was read, all 0 if it was refused, and the place behind it.
+pub struct ReadPart {
+    pub value: Part,
+    pub next: Place,
+}
+
+// Data at a place: count, then the limit, then bytes.
+pub fn read_data(s: &[u8], p: Place) -> ReadSpan
+    ensures { λ r. ⌜ FieldRead dat (now (s .entry)) p (span (r .value .start) (r .value .len)) (r .next) ⌝ }
+{
+    let none = Span { start: 0, len: 0 };
+    let count = numbers::read_u32(s, p);
+    let a = count.next;
+    let Place::At(start) = a else {
+        return ReadSpan {
+            value: none,
+            next: a,
+        };
+    };
+    let len = count.value as usize;
+    if 33554432 < len {
+        return ReadSpan {
+            value: none,
+            next: Place::Refused(Refusal::DataTooLong),
+        };
+    }
+    if numbers::within(start, len, s.len()) {
+        let end = start + len;
+        let some = Span { start, len };
+        return ReadSpan {
+            value: some,
+            next: Place::At(end),
+        };
+    }
+    ReadSpan {
+        value: none,
+        next: Place::Refused(Refusal::Short),
+    }
+}
+
+// Where the characters of a text have to be looked at: from its front, or not at all where every byte is below 128.
+fn first_to_look_at(high: u8, len: usize) -> usize
+    ensures { λ r. ⌜ r ≡ lookFrom high len ⌝ }
+{
+    if high < 128 {
+        return len;
+    }
+    0
+}
+
+// So many strings from a position on: the place behind them, or the refusal of the first that fails, whichever that is.
+fn scan_names(s: &[u8], from: usize, count: u16) -> Place
+    requires { ⌜ from ≤ length (now s) ⌝ }
+    ensures { λ r. ⌜ ManyRead count (now (s .entry)) from r ⌝ }
+{
+    let mut at = from;
+    let mut n = count;
+    'names: loop {
+        if n == 0 {
+            break 'names Place::At(at);
+        }
+        let c = numbers::read_u16(s, Place::At(at));
+        let a = c.next;
+        let Place::At(start) = a else {
+            break 'names a;
+        };
+        let len = c.value as usize;
+        if s.len() < len {
+            break 'names Place::Refused(Refusal::Short);
+        }
+        if s.len() - len < start {
+            break 'names Place::Refused(Refusal::Short);
+        }
+        let end = start + len;
+        let name = &s[start..end];
+        let e = strings::utf8::extremes_of(name);
+        let mut i = first_to_look_at(e.high, len);
+        while i < len {
+            let k = strings::utf8::char_at(name, i);
+            if k == 0 {
+                break 'names Place::Refused(Refusal::NotUtf8);
+            }
+            i += k;
+        }
+        if e.low == 0 {
+            break 'names Place::Refused(Refusal::ZeroByte);
+        }
+        at = end;
+        n -= 1;
+    }
+}
+
+// A vector of strings at a place.
+pub fn read_names(s: &[u8], p: Place) -> ReadPart
+    ensures { λ r. ⌜ FieldRead strs (now (s .entry)) p (part (r .value .count) (r .value .elements .start) (r .value .elements .len)) (r .next) ⌝ }
+{
+    let c = numbers::read_u16(s, p);
+    let a = c.next;
+    let Place::At(start) = a else {
+        return no_part(a);
+    };
+    let end = scan_names(s, start, c.value);
+    let Place::At(stop) = end else {
+        return no_part(end);
+    };
+    let len = stop - start;
+    let elements = Span { start, len };
+    let some = Part {
+        count: c.value,
+        elements,
+    };
+    ReadPart {
+        value: some,
+        next: end,
+    }
+}
+
+fn no_part(next: Place) -> ReadPart
+    ensures { λ r. ⌜ Nowhere (part (r .value .count) (r .value .elements .start) (r .value .elements .len)) (r .next) next ⌝ }
+{
+    let elements = Span { start: 0, len: 0 };
+    let none = Part { count: 0, elements };
+    ReadPart { value: none, next }
+}
+
+// A vector of qids at a place, each of 13 bytes.
+pub fn read_qids(s: &[u8], p: Place) -> ReadPart
+    ensures { λ r. ⌜ FieldRead quids (now (s .entry)) p (part (r .value .count) (r .value .elements .start) (r .value .elements .len)) (r .next) ⌝ }
+{
+    let c = numbers::read_u16(s, p);
+    let a = c.next;
+    let Place::At(start) = a else {
+        return no_part(a);
+    };
+    let len = 13 * (c.value as usize);
+    if numbers::within(start, len, s.len()) {
+        let end = start + len;
+        let elements = Span { start, len };
+        let some = Part {
+            count: c.value,
+            elements,
+        };
+        return ReadPart {
+            value: some,
+            next: Place::At(end),
+        };
+    }
+    no_part(Place::Refused(Refusal::Short))
+}

@@ -1,0 +1,14 @@
+use Rattle.fields.specs.LayingLaws.{lay-qid, laid-none, laid-length}
+use Rattle.messages.proofs.directories.lay_rsymlink.Statement.{statement}
+use Rattle.messages.proofs.directories.lay_rsymlink.Tie as tie
+
+returns : tie.Need-returns
+returns c =
+    let c1 = c .before .before in
+    lay-qid (c1 .lay-qid .ensures) laid-none
+
+same-length : tie.Need-same-length
+same-length c = laid-length (returns c)
+
+pub lay-rsymlink-spec : {M : Type 1} → statement M
+lay-rsymlink-spec = tie.close (tie.spec (λ _ _. tt) same-length returns)

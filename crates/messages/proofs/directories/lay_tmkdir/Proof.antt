@@ -1,0 +1,17 @@
+use Rattle.fields.specs.LayingLaws.{lay-num, lay, laid-none, laid-length}
+use Rattle.messages.proofs.directories.lay_tmkdir.Statement.{statement}
+use Rattle.messages.proofs.directories.lay_tmkdir.Tie as tie
+
+returns : tie.Need-returns
+returns c =
+    let c4 = c .before .before in
+    let c3 = c4 .before .before .before .before .before in
+    let c2 = c3 .before .before .before .before in
+    let c1 = c2 .before .before .before .before .before in
+    lay (lay-num (c1 .lay-u32 .ensures)) (lay (c2 .lay-str .ensures) (lay (lay-num (c3 .lay-u322 .ensures)) (lay (lay-num (c4 .lay-u323 .ensures)) laid-none)))
+
+same-length : tie.Need-same-length
+same-length c = laid-length (returns c)
+
+pub lay-tmkdir-spec : {M : Type 1} → statement M
+lay-tmkdir-spec = tie.close (tie.spec (λ _ _. tt) (λ _ _. tt) (λ _ _. tt) (λ _ _. tt) same-length returns)

@@ -1,0 +1,482 @@
+// Attributes: of a file system, of a file, and those that bear names.
+
+use crate::ids::Fid;
+use crate::ids::Gid;
+use crate::qids;
+use crate::qids::Qid;
+use fields::lay;
+use fields::lay::Pass;
+use numbers::Place;
+use strings::Span;
+ghost use Rattle.fields.specs.Fields.{Fields};
+ghost use Rattle.fields.specs.Laying.{Laid};
+ghost use Rattle.messages.specs.Tables.{layoutT, layoutR};
+ghost use Rattle.messages.specs.Records.{tstatfs, rstatfs, tgetattr, rgetattr, tsetattr, txattrwalk, rxattrwalk, txattrcreate};
+
+pub struct Tstatfs {
+    pub fid: Fid,
+}
+
+pub struct ReadTstatfs {
+    pub value: Tstatfs,
+    pub next: Place,
+}
+
+pub fn read_tstatfs(s: &[u8], p: Place) -> ReadTstatfs
+    ensures { λ r. ⌜ Fields (layoutT 8) (now (s .entry)) p (tstatfs (r .value)) (r .next) ⌝ }
+{
+    let r1 = numbers::read_u32(s, p);
+    let p1 = r1.next;
+    let fid = Fid(r1.value);
+    let value = Tstatfs { fid };
+    ReadTstatfs { value, next: p1 }
+}
+
+pub fn lay_tstatfs(out: &mut [u8], p: Place, lent: &[u8], m: Tstatfs, pass: Pass) -> Place
+    ensures { λ r. ⌜ Laid (layoutT 8) (now (lent .entry)) (tstatfs m) pass (now (out .entry)) p (now (out .exit)) r ⌝ }
+{
+    let fid = m.fid;
+    lay::lay_u32(out, p, fid.0, pass)
+}
+
+pub struct Rstatfs {
+    pub ty: u32,
+    pub bsize: u32,
+    pub blocks: u64,
+    pub bfree: u64,
+    pub bavail: u64,
+    pub files: u64,
+    pub ffree: u64,
+    pub fsid: u64,
+    pub namelen: u32,
+}
+
+pub struct ReadRstatfs {
+    pub value: Rstatfs,
+    pub next: Place,
+}
+
+pub fn read_rstatfs(s: &[u8], p: Place) -> ReadRstatfs
+    ensures { λ r. ⌜ Fields (layoutR 9) (now (s .entry)) p (rstatfs (r .value)) (r .next) ⌝ }
+{
+    let r1 = numbers::read_u32(s, p);
+    let p1 = r1.next;
+    let ty = r1.value;
+    let r2 = numbers::read_u32(s, p1);
+    let p2 = r2.next;
+    let bsize = r2.value;
+    let r3 = numbers::read_u64(s, p2);
+    let p3 = r3.next;
+    let blocks = r3.value;
+    let r4 = numbers::read_u64(s, p3);
+    let p4 = r4.next;
+    let bfree = r4.value;
+    let r5 = numbers::read_u64(s, p4);
+    let p5 = r5.next;
+    let bavail = r5.value;
+    let r6 = numbers::read_u64(s, p5);
+    let p6 = r6.next;
+    let files = r6.value;
+    let r7 = numbers::read_u64(s, p6);
+    let p7 = r7.next;
+    let ffree = r7.value;
+    let r8 = numbers::read_u64(s, p7);
+    let p8 = r8.next;
+    let fsid = r8.value;
+    let r9 = numbers::read_u32(s, p8);
+    let p9 = r9.next;
+    let namelen = r9.value;
+    let value = Rstatfs {
+        ty,
+        bsize,
+        blocks,
+        bfree,
+        bavail,
+        files,
+        ffree,
+        fsid,
+        namelen,
+    };
+    ReadRstatfs { value, next: p9 }
+}
+
+pub fn lay_rstatfs(out: &mut [u8], p: Place, lent: &[u8], m: Rstatfs, pass: Pass) -> Place
+    ensures { λ r. ⌜ Laid (layoutR 9) (now (lent .entry)) (rstatfs m) pass (now (out .entry)) p (now (out .exit)) r ⌝ }
+{
+    let p1 = lay::lay_u32(out, p, m.ty, pass);
+    let p2 = lay::lay_u32(out, p1, m.bsize, pass);
+    let p3 = lay::lay_u64(out, p2, m.blocks, pass);
+    let p4 = lay::lay_u64(out, p3, m.bfree, pass);
+    let p5 = lay::lay_u64(out, p4, m.bavail, pass);
+    let p6 = lay::lay_u64(out, p5, m.files, pass);
+    let p7 = lay::lay_u64(out, p6, m.ffree, pass);
+    let p8 = lay::lay_u64(out, p7, m.fsid, pass);
+    lay::lay_u32(out, p8, m.namelen, pass)
+}
+
+pub struct Tgetattr {
+    pub fid: Fid,
+    pub request_mask: u64,
+}
+
+pub struct ReadTgetattr {
+    pub value: Tgetattr,
+    pub next: Place,
+}
+
+pub fn read_tgetattr(s: &[u8], p: Place) -> ReadTgetattr
+    ensures { λ r. ⌜ Fields (layoutT 24) (now (s .entry)) p (tgetattr (r .value)) (r .next) ⌝ }
+{
+    let r1 = numbers::read_u32(s, p);
+    let p1 = r1.next;
+    let fid = Fid(r1.value);
+    let r2 = numbers::read_u64(s, p1);
+    let p2 = r2.next;
+    let request_mask = r2.value;
+    let value = Tgetattr { fid, request_mask };
+    ReadTgetattr { value, next: p2 }
+}
+
+pub fn lay_tgetattr(out: &mut [u8], p: Place, lent: &[u8], m: Tgetattr, pass: Pass) -> Place
+    ensures { λ r. ⌜ Laid (layoutT 24) (now (lent .entry)) (tgetattr m) pass (now (out .entry)) p (now (out .exit)) r ⌝ }
+{
+    let fid = m.fid;
+    let p1 = lay::lay_u32(out, p, fid.0, pass);
+    lay::lay_u64(out, p1, m.request_mask, pass)
+}
+
+pub struct Rgetattr {
+    pub valid: u64,
+    pub qid: Qid,
+    pub mode: u32,
+    pub uid: u32,
+    pub gid: Gid,
+    pub nlink: u64,
+    pub rdev: u64,
+    pub size: u64,
+    pub blksize: u64,
+    pub blocks: u64,
+    pub atime_sec: u64,
+    pub atime_nsec: u64,
+    pub mtime_sec: u64,
+    pub mtime_nsec: u64,
+    pub ctime_sec: u64,
+    pub ctime_nsec: u64,
+    pub btime_sec: u64,
+    pub btime_nsec: u64,
+    pub gen_: u64,
+    pub data_version: u64,
+}
+
+pub struct ReadRgetattr {
+    pub value: Rgetattr,
+    pub next: Place,
+}
+
+pub fn read_rgetattr(s: &[u8], p: Place) -> ReadRgetattr
+    ensures { λ r. ⌜ Fields (layoutR 25) (now (s .entry)) p (rgetattr (r .value)) (r .next) ⌝ }
+{
+    let r1 = numbers::read_u64(s, p);
+    let p1 = r1.next;
+    let valid = r1.value;
+    let r2 = qids::read_qid(s, p1);
+    let p2 = r2.next;
+    let qid = r2.value;
+    let r3 = numbers::read_u32(s, p2);
+    let p3 = r3.next;
+    let mode = r3.value;
+    let r4 = numbers::read_u32(s, p3);
+    let p4 = r4.next;
+    let uid = r4.value;
+    let r5 = numbers::read_u32(s, p4);
+    let p5 = r5.next;
+    let gid = Gid(r5.value);
+    let r6 = numbers::read_u64(s, p5);
+    let p6 = r6.next;
+    let nlink = r6.value;
+    let r7 = numbers::read_u64(s, p6);
+    let p7 = r7.next;
+    let rdev = r7.value;
+    let r8 = numbers::read_u64(s, p7);
+    let p8 = r8.next;
+    let size = r8.value;
+    let r9 = numbers::read_u64(s, p8);
+    let p9 = r9.next;
+    let blksize = r9.value;
+    let r10 = numbers::read_u64(s, p9);
+    let p10 = r10.next;
+    let blocks = r10.value;
+    let r11 = numbers::read_u64(s, p10);
+    let p11 = r11.next;
+    let atime_sec = r11.value;
+    let r12 = numbers::read_u64(s, p11);
+    let p12 = r12.next;
+    let atime_nsec = r12.value;
+    let r13 = numbers::read_u64(s, p12);
+    let p13 = r13.next;
+    let mtime_sec = r13.value;
+    let r14 = numbers::read_u64(s, p13);
+    let p14 = r14.next;
+    let mtime_nsec = r14.value;
+    let r15 = numbers::read_u64(s, p14);
+    let p15 = r15.next;
+    let ctime_sec = r15.value;
+    let r16 = numbers::read_u64(s, p15);
+    let p16 = r16.next;
+    let ctime_nsec = r16.value;
+    let r17 = numbers::read_u64(s, p16);
+    let p17 = r17.next;
+    let btime_sec = r17.value;
+    let r18 = numbers::read_u64(s, p17);
+    let p18 = r18.next;
+    let btime_nsec = r18.value;
+    let r19 = numbers::read_u64(s, p18);
+    let p19 = r19.next;
+    let gen_ = r19.value;
+    let r20 = numbers::read_u64(s, p19);
+    let p20 = r20.next;
+    let data_version = r20.value;
+    let value = Rgetattr {
+        valid,
+        qid,
+        mode,
+        uid,
+        gid,
+        nlink,
+        rdev,
+        size,
+        blksize,
+        blocks,
+        atime_sec,
+        atime_nsec,
+        mtime_sec,
+        mtime_nsec,
+        ctime_sec,
+        ctime_nsec,
+        btime_sec,
+        btime_nsec,
+        gen_,
+        data_version,
+    };
+    ReadRgetattr { value, next: p20 }
+}
+
+pub fn lay_rgetattr(out: &mut [u8], p: Place, lent: &[u8], m: Rgetattr, pass: Pass) -> Place
+    ensures { λ r. ⌜ Laid (layoutR 25) (now (lent .entry)) (rgetattr m) pass (now (out .entry)) p (now (out .exit)) r ⌝ }
+{
+    let p1 = lay::lay_u64(out, p, m.valid, pass);
+    let qid = m.qid;
+    let p2 = qids::lay_qid(out, p1, lent, qid, pass);
+    let p3 = lay::lay_u32(out, p2, m.mode, pass);
+    let p4 = lay::lay_u32(out, p3, m.uid, pass);
+    let gid = m.gid;
+    let p5 = lay::lay_u32(out, p4, gid.0, pass);
+    let p6 = lay::lay_u64(out, p5, m.nlink, pass);
+    let p7 = lay::lay_u64(out, p6, m.rdev, pass);
+    let p8 = lay::lay_u64(out, p7, m.size, pass);
+    let p9 = lay::lay_u64(out, p8, m.blksize, pass);
+    let p10 = lay::lay_u64(out, p9, m.blocks, pass);
+    let p11 = lay::lay_u64(out, p10, m.atime_sec, pass);
+    let p12 = lay::lay_u64(out, p11, m.atime_nsec, pass);
+    let p13 = lay::lay_u64(out, p12, m.mtime_sec, pass);
+    let p14 = lay::lay_u64(out, p13, m.mtime_nsec, pass);
+    let p15 = lay::lay_u64(out, p14, m.ctime_sec, pass);
+    let p16 = lay::lay_u64(out, p15, m.ctime_nsec, pass);
+    let p17 = lay::lay_u64(out, p16, m.btime_sec, pass);
+    let p18 = lay::lay_u64(out, p17, m.btime_nsec, pass);
+    let p19 = lay::lay_u64(out, p18, m.gen_, pass);
+    lay::lay_u64(out, p19, m.data_version, pass)
+}
+
+pub struct Tsetattr {
+    pub fid: Fid,
+    pub valid: u32,
+    pub mode: u32,
+    pub uid: u32,
+    pub gid: Gid,
+    pub size: u64,
+    pub atime_sec: u64,
+    pub atime_nsec: u64,
+    pub mtime_sec: u64,
+    pub mtime_nsec: u64,
+}
+
+pub struct ReadTsetattr {
+    pub value: Tsetattr,
+    pub next: Place,
+}
+
+pub fn read_tsetattr(s: &[u8], p: Place) -> ReadTsetattr
+    ensures { λ r. ⌜ Fields (layoutT 26) (now (s .entry)) p (tsetattr (r .value)) (r .next) ⌝ }
+{
+    let r1 = numbers::read_u32(s, p);
+    let p1 = r1.next;
+    let fid = Fid(r1.value);
+    let r2 = numbers::read_u32(s, p1);
+    let p2 = r2.next;
+    let valid = r2.value;
+    let r3 = numbers::read_u32(s, p2);
+    let p3 = r3.next;
+    let mode = r3.value;
+    let r4 = numbers::read_u32(s, p3);
+    let p4 = r4.next;
+    let uid = r4.value;
+    let r5 = numbers::read_u32(s, p4);
+    let p5 = r5.next;
+    let gid = Gid(r5.value);
+    let r6 = numbers::read_u64(s, p5);
+    let p6 = r6.next;
+    let size = r6.value;
+    let r7 = numbers::read_u64(s, p6);
+    let p7 = r7.next;
+    let atime_sec = r7.value;
+    let r8 = numbers::read_u64(s, p7);
+    let p8 = r8.next;
+    let atime_nsec = r8.value;
+    let r9 = numbers::read_u64(s, p8);
+    let p9 = r9.next;
+    let mtime_sec = r9.value;
+    let r10 = numbers::read_u64(s, p9);
+    let p10 = r10.next;
+    let mtime_nsec = r10.value;
+    let value = Tsetattr {
+        fid,
+        valid,
+        mode,
+        uid,
+        gid,
+        size,
+        atime_sec,
+        atime_nsec,
+        mtime_sec,
+        mtime_nsec,
+    };
+    ReadTsetattr { value, next: p10 }
+}
+
+pub fn lay_tsetattr(out: &mut [u8], p: Place, lent: &[u8], m: Tsetattr, pass: Pass) -> Place
+    ensures { λ r. ⌜ Laid (layoutT 26) (now (lent .entry)) (tsetattr m) pass (now (out .entry)) p (now (out .exit)) r ⌝ }
+{
+    let fid = m.fid;
+    let p1 = lay::lay_u32(out, p, fid.0, pass);
+    let p2 = lay::lay_u32(out, p1, m.valid, pass);
+    let p3 = lay::lay_u32(out, p2, m.mode, pass);
+    let p4 = lay::lay_u32(out, p3, m.uid, pass);
+    let gid = m.gid;
+    let p5 = lay::lay_u32(out, p4, gid.0, pass);
+    let p6 = lay::lay_u64(out, p5, m.size, pass);
+    let p7 = lay::lay_u64(out, p6, m.atime_sec, pass);
+    let p8 = lay::lay_u64(out, p7, m.atime_nsec, pass);
+    let p9 = lay::lay_u64(out, p8, m.mtime_sec, pass);
+    lay::lay_u64(out, p9, m.mtime_nsec, pass)
+}
+
+pub struct Txattrwalk {
+    pub fid: Fid,
+    pub newfid: Fid,
+    pub name: Span,
+}
+
+pub struct ReadTxattrwalk {
+    pub value: Txattrwalk,
+    pub next: Place,
+}
+
+pub fn read_txattrwalk(s: &[u8], p: Place) -> ReadTxattrwalk
+    ensures { λ r. ⌜ Fields (layoutT 30) (now (s .entry)) p (txattrwalk (r .value)) (r .next) ⌝ }
+{
+    let r1 = numbers::read_u32(s, p);
+    let p1 = r1.next;
+    let fid = Fid(r1.value);
+    let r2 = numbers::read_u32(s, p1);
+    let p2 = r2.next;
+    let newfid = Fid(r2.value);
+    let r3 = strings::read_str(s, p2);
+    let p3 = r3.next;
+    let name = r3.value;
+    let value = Txattrwalk { fid, newfid, name };
+    ReadTxattrwalk { value, next: p3 }
+}
+
+pub fn lay_txattrwalk(out: &mut [u8], p: Place, lent: &[u8], m: Txattrwalk, pass: Pass) -> Place
+    ensures { λ r. ⌜ Laid (layoutT 30) (now (lent .entry)) (txattrwalk m) pass (now (out .entry)) p (now (out .exit)) r ⌝ }
+{
+    let fid = m.fid;
+    let p1 = lay::lay_u32(out, p, fid.0, pass);
+    let newfid = m.newfid;
+    let p2 = lay::lay_u32(out, p1, newfid.0, pass);
+    let name = m.name;
+    lay::lay_str(out, p2, lent, name, pass)
+}
+
+pub struct Rxattrwalk {
+    pub size: u64,
+}
+
+pub struct ReadRxattrwalk {
+    pub value: Rxattrwalk,
+    pub next: Place,
+}
+
+pub fn read_rxattrwalk(s: &[u8], p: Place) -> ReadRxattrwalk
+    ensures { λ r. ⌜ Fields (layoutR 31) (now (s .entry)) p (rxattrwalk (r .value)) (r .next) ⌝ }
+{
+    let r1 = numbers::read_u64(s, p);
+    let p1 = r1.next;
+    let size = r1.value;
+    let value = Rxattrwalk { size };
+    ReadRxattrwalk { value, next: p1 }
+}
+
+pub fn lay_rxattrwalk(out: &mut [u8], p: Place, lent: &[u8], m: Rxattrwalk, pass: Pass) -> Place
+    ensures { λ r. ⌜ Laid (layoutR 31) (now (lent .entry)) (rxattrwalk m) pass (now (out .entry)) p (now (out .exit)) r ⌝ }
+{
+    lay::lay_u64(out, p, m.size, pass)
+}
+
+pub struct Txattrcreate {
+    pub fid: Fid,
+    pub name: Span,
+    pub attr_size: u64,
+    pub flags: u32,
+}
+
+pub struct ReadTxattrcreate {
+    pub value: Txattrcreate,
+    pub next: Place,
+}
+
+pub fn read_txattrcreate(s: &[u8], p: Place) -> ReadTxattrcreate
+    ensures { λ r. ⌜ Fields (layoutT 32) (now (s .entry)) p (txattrcreate (r .value)) (r .next) ⌝ }
+{
+    let r1 = numbers::read_u32(s, p);
+    let p1 = r1.next;
+    let fid = Fid(r1.value);
+    let r2 = strings::read_str(s, p1);
+    let p2 = r2.next;
+    let name = r2.value;
+    let r3 = numbers::read_u64(s, p2);
+    let p3 = r3.next;
+    let attr_size = r3.value;
+    let r4 = numbers::read_u32(s, p3);
+    let p4 = r4.next;
+    let flags = r4.value;
+    let value = Txattrcreate {
+        fid,
+        name,
+        attr_size,
+        flags,
+    };
+    ReadTxattrcreate { value, next: p4 }
+}
+
+pub fn lay_txattrcreate(out: &mut [u8], p: Place, lent: &[u8], m: Txattrcreate, pass: Pass) -> Place
+    ensures { λ r. ⌜ Laid (layoutT 32) (now (lent .entry)) (txattrcreate m) pass (now (out .entry)) p (now (out .exit)) r ⌝ }
+{
+    let fid = m.fid;
+    let p1 = lay::lay_u32(out, p, fid.0, pass);
+    let name = m.name;
+    let p2 = lay::lay_str(out, p1, lent, name, pass);
+    let p3 = lay::lay_u64(out, p2, m.attr_size, pass);
+    lay::lay_u32(out, p3, m.flags, pass)
+}

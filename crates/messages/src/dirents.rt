@@ -1,0 +1,72 @@
+// Directory entries: a qid, offset[8], ty[1] and a name; 24 bytes and the name. They stand in no frame's layout, but in the data of an
+// Rreaddir, and are read and written alone.
+
+use crate::qids;
+use crate::qids::Qid;
+use fields::lay;
+use fields::lay::Pass;
+use numbers::Place;
+use strings::Span;
+ghost use Rattle.fields.specs.Fields.{Fields};
+ghost use Rattle.fields.specs.Laying.{Laid, Written};
+ghost use Rattle.messages.specs.Tables.{layoutDirent};
+ghost use Rattle.messages.specs.Records.{dirent};
+
+pub struct Dirent {
+    pub qid: Qid,
+    pub offset: u64,
+    pub ty: u8,
+    pub name: Span,
+}
+
+pub struct ReadDirent {
+    pub value: Dirent,
+    pub next: Place,
+}
+
+pub fn read_dirent(s: &[u8], p: Place) -> ReadDirent
+    ensures { λ r. ⌜ Fields layoutDirent (now (s .entry)) p (dirent (r .value)) (r .next) ⌝ }
+{
+    let r1 = qids::read_qid(s, p);
+    let p1 = r1.next;
+    let qid = r1.value;
+    let r2 = numbers::read_u64(s, p1);
+    let p2 = r2.next;
+    let offset = r2.value;
+    let r3 = numbers::read_u8(s, p2);
+    let p3 = r3.next;
+    let ty = r3.value;
+    let r4 = strings::read_str(s, p3);
+    let p4 = r4.next;
+    let name = r4.value;
+    let value = Dirent {
+        qid,
+        offset,
+        ty,
+        name,
+    };
+    ReadDirent { value, next: p4 }
+}
+
+pub fn lay_dirent(out: &mut [u8], p: Place, lent: &[u8], m: Dirent, pass: Pass) -> Place
+    ensures { λ r. ⌜ Laid layoutDirent (now (lent .entry)) (dirent m) pass (now (out .entry)) p (now (out .exit)) r ⌝ }
+{
+    let qid = m.qid;
+    let p1 = qids::lay_qid(out, p, lent, qid, pass);
+    let p2 = lay::lay_u64(out, p1, m.offset, pass);
+    let p3 = lay::lay_u8(out, p2, m.ty, pass);
+    let name = m.name;
+    lay::lay_str(out, p3, lent, name, pass)
+}
+
+// A whole entry written at a place: 9, 7, 5, 6, then 10, then 11; a refusal leaves the output as it was.
+pub fn write_dirent(out: &mut [u8], p: Place, lent: &[u8], m: Dirent) -> Place
+    ensures { λ r. ⌜ Written layoutDirent (now (lent .entry)) (dirent m) (now (out .entry)) p (now (out .exit)) r ⌝ }
+{
+    let end = lay_dirent(out, p, lent, m, Pass::Check);
+    let q = lay::settled(end, out.len());
+    let Place::At(_) = q else {
+        return q;
+    };
+    lay_dirent(out, p, lent, m, Pass::Put)
+}

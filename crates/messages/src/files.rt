@@ -1,0 +1,342 @@
+// Files: opened, made, read, written, synced, removed.
+
+use crate::ids::Fid;
+use crate::ids::Gid;
+use crate::qids;
+use crate::qids::Qid;
+use fields::lay;
+use fields::lay::Pass;
+use numbers::Place;
+use strings::Span;
+ghost use Rattle.fields.specs.Fields.{Fields};
+ghost use Rattle.fields.specs.Laying.{Laid};
+ghost use Rattle.messages.specs.Tables.{layoutT, layoutR};
+ghost use Rattle.messages.specs.Records.{tlopen, rlopen, tlcreate, rlcreate, tread, rread, twrite, rwrite, tfsync, tremove};
+
+pub struct Tlopen {
+    pub fid: Fid,
+    pub flags: u32,
+}
+
+pub struct ReadTlopen {
+    pub value: Tlopen,
+    pub next: Place,
+}
+
+pub fn read_tlopen(s: &[u8], p: Place) -> ReadTlopen
+    ensures { λ r. ⌜ Fields (layoutT 12) (now (s .entry)) p (tlopen (r .value)) (r .next) ⌝ }
+{
+    let r1 = numbers::read_u32(s, p);
+    let p1 = r1.next;
+    let fid = Fid(r1.value);
+    let r2 = numbers::read_u32(s, p1);
+    let p2 = r2.next;
+    let flags = r2.value;
+    let value = Tlopen { fid, flags };
+    ReadTlopen { value, next: p2 }
+}
+
+pub fn lay_tlopen(out: &mut [u8], p: Place, lent: &[u8], m: Tlopen, pass: Pass) -> Place
+    ensures { λ r. ⌜ Laid (layoutT 12) (now (lent .entry)) (tlopen m) pass (now (out .entry)) p (now (out .exit)) r ⌝ }
+{
+    let fid = m.fid;
+    let p1 = lay::lay_u32(out, p, fid.0, pass);
+    lay::lay_u32(out, p1, m.flags, pass)
+}
+
+pub struct Rlopen {
+    pub qid: Qid,
+    pub iounit: u32,
+}
+
+pub struct ReadRlopen {
+    pub value: Rlopen,
+    pub next: Place,
+}
+
+pub fn read_rlopen(s: &[u8], p: Place) -> ReadRlopen
+    ensures { λ r. ⌜ Fields (layoutR 13) (now (s .entry)) p (rlopen (r .value)) (r .next) ⌝ }
+{
+    let r1 = qids::read_qid(s, p);
+    let p1 = r1.next;
+    let qid = r1.value;
+    let r2 = numbers::read_u32(s, p1);
+    let p2 = r2.next;
+    let iounit = r2.value;
+    let value = Rlopen { qid, iounit };
+    ReadRlopen { value, next: p2 }
+}
+
+pub fn lay_rlopen(out: &mut [u8], p: Place, lent: &[u8], m: Rlopen, pass: Pass) -> Place
+    ensures { λ r. ⌜ Laid (layoutR 13) (now (lent .entry)) (rlopen m) pass (now (out .entry)) p (now (out .exit)) r ⌝ }
+{
+    let qid = m.qid;
+    let p1 = qids::lay_qid(out, p, lent, qid, pass);
+    lay::lay_u32(out, p1, m.iounit, pass)
+}
+
+pub struct Tlcreate {
+    pub fid: Fid,
+    pub name: Span,
+    pub flags: u32,
+    pub mode: u32,
+    pub gid: Gid,
+}
+
+pub struct ReadTlcreate {
+    pub value: Tlcreate,
+    pub next: Place,
+}
+
+pub fn read_tlcreate(s: &[u8], p: Place) -> ReadTlcreate
+    ensures { λ r. ⌜ Fields (layoutT 14) (now (s .entry)) p (tlcreate (r .value)) (r .next) ⌝ }
+{
+    let r1 = numbers::read_u32(s, p);
+    let p1 = r1.next;
+    let fid = Fid(r1.value);
+    let r2 = strings::read_str(s, p1);
+    let p2 = r2.next;
+    let name = r2.value;
+    let r3 = numbers::read_u32(s, p2);
+    let p3 = r3.next;
+    let flags = r3.value;
+    let r4 = numbers::read_u32(s, p3);
+    let p4 = r4.next;
+    let mode = r4.value;
+    let r5 = numbers::read_u32(s, p4);
+    let p5 = r5.next;
+    let gid = Gid(r5.value);
+    let value = Tlcreate {
+        fid,
+        name,
+        flags,
+        mode,
+        gid,
+    };
+    ReadTlcreate { value, next: p5 }
+}
+
+pub fn lay_tlcreate(out: &mut [u8], p: Place, lent: &[u8], m: Tlcreate, pass: Pass) -> Place
+    ensures { λ r. ⌜ Laid (layoutT 14) (now (lent .entry)) (tlcreate m) pass (now (out .entry)) p (now (out .exit)) r ⌝ }
+{
+    let fid = m.fid;
+    let p1 = lay::lay_u32(out, p, fid.0, pass);
+    let name = m.name;
+    let p2 = lay::lay_str(out, p1, lent, name, pass);
+    let p3 = lay::lay_u32(out, p2, m.flags, pass);
+    let p4 = lay::lay_u32(out, p3, m.mode, pass);
+    let gid = m.gid;
+    lay::lay_u32(out, p4, gid.0, pass)
+}
+
+pub struct Rlcreate {
+    pub qid: Qid,
+    pub iounit: u32,
+}
+
+pub struct ReadRlcreate {
+    pub value: Rlcreate,
+    pub next: Place,
+}
+
+pub fn read_rlcreate(s: &[u8], p: Place) -> ReadRlcreate
+    ensures { λ r. ⌜ Fields (layoutR 15) (now (s .entry)) p (rlcreate (r .value)) (r .next) ⌝ }
+{
+    let r1 = qids::read_qid(s, p);
+    let p1 = r1.next;
+    let qid = r1.value;
+    let r2 = numbers::read_u32(s, p1);
+    let p2 = r2.next;
+    let iounit = r2.value;
+    let value = Rlcreate { qid, iounit };
+    ReadRlcreate { value, next: p2 }
+}
+
+pub fn lay_rlcreate(out: &mut [u8], p: Place, lent: &[u8], m: Rlcreate, pass: Pass) -> Place
+    ensures { λ r. ⌜ Laid (layoutR 15) (now (lent .entry)) (rlcreate m) pass (now (out .entry)) p (now (out .exit)) r ⌝ }
+{
+    let qid = m.qid;
+    let p1 = qids::lay_qid(out, p, lent, qid, pass);
+    lay::lay_u32(out, p1, m.iounit, pass)
+}
+
+pub struct Tread {
+    pub fid: Fid,
+    pub offset: u64,
+    pub count: u32,
+}
+
+pub struct ReadTread {
+    pub value: Tread,
+    pub next: Place,
+}
+
+pub fn read_tread(s: &[u8], p: Place) -> ReadTread
+    ensures { λ r. ⌜ Fields (layoutT 116) (now (s .entry)) p (tread (r .value)) (r .next) ⌝ }
+{
+    let r1 = numbers::read_u32(s, p);
+    let p1 = r1.next;
+    let fid = Fid(r1.value);
+    let r2 = numbers::read_u64(s, p1);
+    let p2 = r2.next;
+    let offset = r2.value;
+    let r3 = numbers::read_u32(s, p2);
+    let p3 = r3.next;
+    let count = r3.value;
+    let value = Tread { fid, offset, count };
+    ReadTread { value, next: p3 }
+}
+
+pub fn lay_tread(out: &mut [u8], p: Place, lent: &[u8], m: Tread, pass: Pass) -> Place
+    ensures { λ r. ⌜ Laid (layoutT 116) (now (lent .entry)) (tread m) pass (now (out .entry)) p (now (out .exit)) r ⌝ }
+{
+    let fid = m.fid;
+    let p1 = lay::lay_u32(out, p, fid.0, pass);
+    let p2 = lay::lay_u64(out, p1, m.offset, pass);
+    lay::lay_u32(out, p2, m.count, pass)
+}
+
+pub struct Rread {
+    pub data: Span,
+}
+
+pub struct ReadRread {
+    pub value: Rread,
+    pub next: Place,
+}
+
+pub fn read_rread(s: &[u8], p: Place) -> ReadRread
+    ensures { λ r. ⌜ Fields (layoutR 117) (now (s .entry)) p (rread (r .value)) (r .next) ⌝ }
+{
+    let r1 = fields::read_data(s, p);
+    let p1 = r1.next;
+    let data = r1.value;
+    let value = Rread { data };
+    ReadRread { value, next: p1 }
+}
+
+pub fn lay_rread(out: &mut [u8], p: Place, lent: &[u8], m: Rread, pass: Pass) -> Place
+    ensures { λ r. ⌜ Laid (layoutR 117) (now (lent .entry)) (rread m) pass (now (out .entry)) p (now (out .exit)) r ⌝ }
+{
+    let data = m.data;
+    lay::lay_data(out, p, lent, data, pass)
+}
+
+pub struct Twrite {
+    pub fid: Fid,
+    pub offset: u64,
+    pub data: Span,
+}
+
+pub struct ReadTwrite {
+    pub value: Twrite,
+    pub next: Place,
+}
+
+pub fn read_twrite(s: &[u8], p: Place) -> ReadTwrite
+    ensures { λ r. ⌜ Fields (layoutT 118) (now (s .entry)) p (twrite (r .value)) (r .next) ⌝ }
+{
+    let r1 = numbers::read_u32(s, p);
+    let p1 = r1.next;
+    let fid = Fid(r1.value);
+    let r2 = numbers::read_u64(s, p1);
+    let p2 = r2.next;
+    let offset = r2.value;
+    let r3 = fields::read_data(s, p2);
+    let p3 = r3.next;
+    let data = r3.value;
+    let value = Twrite { fid, offset, data };
+    ReadTwrite { value, next: p3 }
+}
+
+pub fn lay_twrite(out: &mut [u8], p: Place, lent: &[u8], m: Twrite, pass: Pass) -> Place
+    ensures { λ r. ⌜ Laid (layoutT 118) (now (lent .entry)) (twrite m) pass (now (out .entry)) p (now (out .exit)) r ⌝ }
+{
+    let fid = m.fid;
+    let p1 = lay::lay_u32(out, p, fid.0, pass);
+    let p2 = lay::lay_u64(out, p1, m.offset, pass);
+    let data = m.data;
+    lay::lay_data(out, p2, lent, data, pass)
+}
+
+pub struct Rwrite {
+    pub count: u32,
+}
+
+pub struct ReadRwrite {
+    pub value: Rwrite,
+    pub next: Place,
+}
+
+pub fn read_rwrite(s: &[u8], p: Place) -> ReadRwrite
+    ensures { λ r. ⌜ Fields (layoutR 119) (now (s .entry)) p (rwrite (r .value)) (r .next) ⌝ }
+{
+    let r1 = numbers::read_u32(s, p);
+    let p1 = r1.next;
+    let count = r1.value;
+    let value = Rwrite { count };
+    ReadRwrite { value, next: p1 }
+}
+
+pub fn lay_rwrite(out: &mut [u8], p: Place, lent: &[u8], m: Rwrite, pass: Pass) -> Place
+    ensures { λ r. ⌜ Laid (layoutR 119) (now (lent .entry)) (rwrite m) pass (now (out .entry)) p (now (out .exit)) r ⌝ }
+{
+    lay::lay_u32(out, p, m.count, pass)
+}
+
+pub struct Tfsync {
+    pub fid: Fid,
+    pub datasync: u32,
+}
+
+pub struct ReadTfsync {
+    pub value: Tfsync,
+    pub next: Place,
+}
+
+pub fn read_tfsync(s: &[u8], p: Place) -> ReadTfsync
+    ensures { λ r. ⌜ Fields (layoutT 50) (now (s .entry)) p (tfsync (r .value)) (r .next) ⌝ }
+{
+    let r1 = numbers::read_u32(s, p);
+    let p1 = r1.next;
+    let fid = Fid(r1.value);
+    let r2 = numbers::read_u32(s, p1);
+    let p2 = r2.next;
+    let datasync = r2.value;
+    let value = Tfsync { fid, datasync };
+    ReadTfsync { value, next: p2 }
+}
+
+pub fn lay_tfsync(out: &mut [u8], p: Place, lent: &[u8], m: Tfsync, pass: Pass) -> Place
+    ensures { λ r. ⌜ Laid (layoutT 50) (now (lent .entry)) (tfsync m) pass (now (out .entry)) p (now (out .exit)) r ⌝ }
+{
+    let fid = m.fid;
+    let p1 = lay::lay_u32(out, p, fid.0, pass);
+    lay::lay_u32(out, p1, m.datasync, pass)
+}
+
+pub struct Tremove {
+    pub fid: Fid,
+}
+
+pub struct ReadTremove {
+    pub value: Tremove,
+    pub next: Place,
+}
+
+pub fn read_tremove(s: &[u8], p: Place) -> ReadTremove
+    ensures { λ r. ⌜ Fields (layoutT 122) (now (s .entry)) p (tremove (r .value)) (r .next) ⌝ }
+{
+    let r1 = numbers::read_u32(s, p);
+    let p1 = r1.next;
+    let fid = Fid(r1.value);
+    let value = Tremove { fid };
+    ReadTremove { value, next: p1 }
+}
+
+pub fn lay_tremove(out: &mut [u8], p: Place, lent: &[u8], m: Tremove, pass: Pass) -> Place
+    ensures { λ r. ⌜ Laid (layoutT 122) (now (lent .entry)) (tremove m) pass (now (out .entry)) p (now (out .exit)) r ⌝ }
+{
+    let fid = m.fid;
+    lay::lay_u32(out, p, fid.0, pass)
+}

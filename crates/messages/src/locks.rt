@@ -1,0 +1,212 @@
+// Locks.
+
+use crate::ids::Fid;
+use fields::lay;
+use fields::lay::Pass;
+use numbers::Place;
+use strings::Span;
+ghost use Rattle.fields.specs.Fields.{Fields};
+ghost use Rattle.fields.specs.Laying.{Laid};
+ghost use Rattle.messages.specs.Tables.{layoutT, layoutR};
+ghost use Rattle.messages.specs.Records.{tlock, rlock, tgetlock, rgetlock};
+
+pub struct Tlock {
+    pub fid: Fid,
+    pub type_: u8,
+    pub flags: u32,
+    pub start: u64,
+    pub length: u64,
+    pub proc_id: u32,
+    pub client_id: Span,
+}
+
+pub struct ReadTlock {
+    pub value: Tlock,
+    pub next: Place,
+}
+
+pub fn read_tlock(s: &[u8], p: Place) -> ReadTlock
+    ensures { λ r. ⌜ Fields (layoutT 52) (now (s .entry)) p (tlock (r .value)) (r .next) ⌝ }
+{
+    let r1 = numbers::read_u32(s, p);
+    let p1 = r1.next;
+    let fid = Fid(r1.value);
+    let r2 = numbers::read_u8(s, p1);
+    let p2 = r2.next;
+    let type_ = r2.value;
+    let r3 = numbers::read_u32(s, p2);
+    let p3 = r3.next;
+    let flags = r3.value;
+    let r4 = numbers::read_u64(s, p3);
+    let p4 = r4.next;
+    let start = r4.value;
+    let r5 = numbers::read_u64(s, p4);
+    let p5 = r5.next;
+    let length = r5.value;
+    let r6 = numbers::read_u32(s, p5);
+    let p6 = r6.next;
+    let proc_id = r6.value;
+    let r7 = strings::read_str(s, p6);
+    let p7 = r7.next;
+    let client_id = r7.value;
+    let value = Tlock {
+        fid,
+        type_,
+        flags,
+        start,
+        length,
+        proc_id,
+        client_id,
+    };
+    ReadTlock { value, next: p7 }
+}
+
+pub fn lay_tlock(out: &mut [u8], p: Place, lent: &[u8], m: Tlock, pass: Pass) -> Place
+    ensures { λ r. ⌜ Laid (layoutT 52) (now (lent .entry)) (tlock m) pass (now (out .entry)) p (now (out .exit)) r ⌝ }
+{
+    let fid = m.fid;
+    let p1 = lay::lay_u32(out, p, fid.0, pass);
+    let p2 = lay::lay_u8(out, p1, m.type_, pass);
+    let p3 = lay::lay_u32(out, p2, m.flags, pass);
+    let p4 = lay::lay_u64(out, p3, m.start, pass);
+    let p5 = lay::lay_u64(out, p4, m.length, pass);
+    let p6 = lay::lay_u32(out, p5, m.proc_id, pass);
+    let client_id = m.client_id;
+    lay::lay_str(out, p6, lent, client_id, pass)
+}
+
+pub struct Rlock {
+    pub status: u8,
+}
+
+pub struct ReadRlock {
+    pub value: Rlock,
+    pub next: Place,
+}
+
+pub fn read_rlock(s: &[u8], p: Place) -> ReadRlock
+    ensures { λ r. ⌜ Fields (layoutR 53) (now (s .entry)) p (rlock (r .value)) (r .next) ⌝ }
+{
+    let r1 = numbers::read_u8(s, p);
+    let p1 = r1.next;
+    let status = r1.value;
+    let value = Rlock { status };
+    ReadRlock { value, next: p1 }
+}
+
+pub fn lay_rlock(out: &mut [u8], p: Place, lent: &[u8], m: Rlock, pass: Pass) -> Place
+    ensures { λ r. ⌜ Laid (layoutR 53) (now (lent .entry)) (rlock m) pass (now (out .entry)) p (now (out .exit)) r ⌝ }
+{
+    lay::lay_u8(out, p, m.status, pass)
+}
+
+pub struct Tgetlock {
+    pub fid: Fid,
+    pub type_: u8,
+    pub start: u64,
+    pub length: u64,
+    pub proc_id: u32,
+    pub client_id: Span,
+}
+
+pub struct ReadTgetlock {
+    pub value: Tgetlock,
+    pub next: Place,
+}
+
+pub fn read_tgetlock(s: &[u8], p: Place) -> ReadTgetlock
+    ensures { λ r. ⌜ Fields (layoutT 54) (now (s .entry)) p (tgetlock (r .value)) (r .next) ⌝ }
+{
+    let r1 = numbers::read_u32(s, p);
+    let p1 = r1.next;
+    let fid = Fid(r1.value);
+    let r2 = numbers::read_u8(s, p1);
+    let p2 = r2.next;
+    let type_ = r2.value;
+    let r3 = numbers::read_u64(s, p2);
+    let p3 = r3.next;
+    let start = r3.value;
+    let r4 = numbers::read_u64(s, p3);
+    let p4 = r4.next;
+    let length = r4.value;
+    let r5 = numbers::read_u32(s, p4);
+    let p5 = r5.next;
+    let proc_id = r5.value;
+    let r6 = strings::read_str(s, p5);
+    let p6 = r6.next;
+    let client_id = r6.value;
+    let value = Tgetlock {
+        fid,
+        type_,
+        start,
+        length,
+        proc_id,
+        client_id,
+    };
+    ReadTgetlock { value, next: p6 }
+}
+
+pub fn lay_tgetlock(out: &mut [u8], p: Place, lent: &[u8], m: Tgetlock, pass: Pass) -> Place
+    ensures { λ r. ⌜ Laid (layoutT 54) (now (lent .entry)) (tgetlock m) pass (now (out .entry)) p (now (out .exit)) r ⌝ }
+{
+    let fid = m.fid;
+    let p1 = lay::lay_u32(out, p, fid.0, pass);
+    let p2 = lay::lay_u8(out, p1, m.type_, pass);
+    let p3 = lay::lay_u64(out, p2, m.start, pass);
+    let p4 = lay::lay_u64(out, p3, m.length, pass);
+    let p5 = lay::lay_u32(out, p4, m.proc_id, pass);
+    let client_id = m.client_id;
+    lay::lay_str(out, p5, lent, client_id, pass)
+}
+
+pub struct Rgetlock {
+    pub type_: u8,
+    pub start: u64,
+    pub length: u64,
+    pub proc_id: u32,
+    pub client_id: Span,
+}
+
+pub struct ReadRgetlock {
+    pub value: Rgetlock,
+    pub next: Place,
+}
+
+pub fn read_rgetlock(s: &[u8], p: Place) -> ReadRgetlock
+    ensures { λ r. ⌜ Fields (layoutR 55) (now (s .entry)) p (rgetlock (r .value)) (r .next) ⌝ }
+{
+    let r1 = numbers::read_u8(s, p);
+    let p1 = r1.next;
+    let type_ = r1.value;
+    let r2 = numbers::read_u64(s, p1);
+    let p2 = r2.next;
+    let start = r2.value;
+    let r3 = numbers::read_u64(s, p2);
+    let p3 = r3.next;
+    let length = r3.value;
+    let r4 = numbers::read_u32(s, p3);
+    let p4 = r4.next;
+    let proc_id = r4.value;
+    let r5 = strings::read_str(s, p4);
+    let p5 = r5.next;
+    let client_id = r5.value;
+    let value = Rgetlock {
+        type_,
+        start,
+        length,
+        proc_id,
+        client_id,
+    };
+    ReadRgetlock { value, next: p5 }
+}
+
+pub fn lay_rgetlock(out: &mut [u8], p: Place, lent: &[u8], m: Rgetlock, pass: Pass) -> Place
+    ensures { λ r. ⌜ Laid (layoutR 55) (now (lent .entry)) (rgetlock m) pass (now (out .entry)) p (now (out .exit)) r ⌝ }
+{
+    let p1 = lay::lay_u8(out, p, m.type_, pass);
+    let p2 = lay::lay_u64(out, p1, m.start, pass);
+    let p3 = lay::lay_u64(out, p2, m.length, pass);
+    let p4 = lay::lay_u32(out, p3, m.proc_id, pass);
+    let client_id = m.client_id;
+    lay::lay_str(out, p4, lent, client_id, pass)
+}

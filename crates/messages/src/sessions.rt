@@ -1,0 +1,308 @@
+// Opening and closing a session: version, auth, attach, flush, clunk, and the error reply.
+
+use crate::ids::Fid;
+use crate::ids::Tag;
+use crate::qids;
+use crate::qids::Qid;
+use fields::lay;
+use fields::lay::Pass;
+use numbers::Place;
+use strings::Span;
+ghost use Rattle.fields.specs.Fields.{Fields};
+ghost use Rattle.fields.specs.Laying.{Laid};
+ghost use Rattle.messages.specs.Tables.{layoutT, layoutR};
+ghost use Rattle.messages.specs.Records.{tversion, rversion, tauth, rauth, tattach, rattach, tflush, tclunk, rlerror};
+
+pub struct Tversion {
+    pub msize: u32,
+    pub version: Span,
+}
+
+pub struct ReadTversion {
+    pub value: Tversion,
+    pub next: Place,
+}
+
+pub fn read_tversion(s: &[u8], p: Place) -> ReadTversion
+    ensures { λ r. ⌜ Fields (layoutT 100) (now (s .entry)) p (tversion (r .value)) (r .next) ⌝ }
+{
+    let r1 = numbers::read_u32(s, p);
+    let p1 = r1.next;
+    let msize = r1.value;
+    let r2 = strings::read_str(s, p1);
+    let p2 = r2.next;
+    let version = r2.value;
+    let value = Tversion { msize, version };
+    ReadTversion { value, next: p2 }
+}
+
+pub fn lay_tversion(out: &mut [u8], p: Place, lent: &[u8], m: Tversion, pass: Pass) -> Place
+    ensures { λ r. ⌜ Laid (layoutT 100) (now (lent .entry)) (tversion m) pass (now (out .entry)) p (now (out .exit)) r ⌝ }
+{
+    let p1 = lay::lay_u32(out, p, m.msize, pass);
+    let version = m.version;
+    lay::lay_str(out, p1, lent, version, pass)
+}
+
+pub struct Rversion {
+    pub msize: u32,
+    pub version: Span,
+}
+
+pub struct ReadRversion {
+    pub value: Rversion,
+    pub next: Place,
+}
+
+pub fn read_rversion(s: &[u8], p: Place) -> ReadRversion
+    ensures { λ r. ⌜ Fields (layoutR 101) (now (s .entry)) p (rversion (r .value)) (r .next) ⌝ }
+{
+    let r1 = numbers::read_u32(s, p);
+    let p1 = r1.next;
+    let msize = r1.value;
+    let r2 = strings::read_str(s, p1);
+    let p2 = r2.next;
+    let version = r2.value;
+    let value = Rversion { msize, version };
+    ReadRversion { value, next: p2 }
+}
+
+pub fn lay_rversion(out: &mut [u8], p: Place, lent: &[u8], m: Rversion, pass: Pass) -> Place
+    ensures { λ r. ⌜ Laid (layoutR 101) (now (lent .entry)) (rversion m) pass (now (out .entry)) p (now (out .exit)) r ⌝ }
+{
+    let p1 = lay::lay_u32(out, p, m.msize, pass);
+    let version = m.version;
+    lay::lay_str(out, p1, lent, version, pass)
+}
+
+pub struct Tauth {
+    pub afid: Fid,
+    pub uname: Span,
+    pub aname: Span,
+    pub n_uname: u32,
+}
+
+pub struct ReadTauth {
+    pub value: Tauth,
+    pub next: Place,
+}
+
+pub fn read_tauth(s: &[u8], p: Place) -> ReadTauth
+    ensures { λ r. ⌜ Fields (layoutT 102) (now (s .entry)) p (tauth (r .value)) (r .next) ⌝ }
+{
+    let r1 = numbers::read_u32(s, p);
+    let p1 = r1.next;
+    let afid = Fid(r1.value);
+    let r2 = strings::read_str(s, p1);
+    let p2 = r2.next;
+    let uname = r2.value;
+    let r3 = strings::read_str(s, p2);
+    let p3 = r3.next;
+    let aname = r3.value;
+    let r4 = numbers::read_u32(s, p3);
+    let p4 = r4.next;
+    let n_uname = r4.value;
+    let value = Tauth {
+        afid,
+        uname,
+        aname,
+        n_uname,
+    };
+    ReadTauth { value, next: p4 }
+}
+
+pub fn lay_tauth(out: &mut [u8], p: Place, lent: &[u8], m: Tauth, pass: Pass) -> Place
+    ensures { λ r. ⌜ Laid (layoutT 102) (now (lent .entry)) (tauth m) pass (now (out .entry)) p (now (out .exit)) r ⌝ }
+{
+    let afid = m.afid;
+    let p1 = lay::lay_u32(out, p, afid.0, pass);
+    let uname = m.uname;
+    let p2 = lay::lay_str(out, p1, lent, uname, pass);
+    let aname = m.aname;
+    let p3 = lay::lay_str(out, p2, lent, aname, pass);
+    lay::lay_u32(out, p3, m.n_uname, pass)
+}
+
+pub struct Rauth {
+    pub aqid: Qid,
+}
+
+pub struct ReadRauth {
+    pub value: Rauth,
+    pub next: Place,
+}
+
+pub fn read_rauth(s: &[u8], p: Place) -> ReadRauth
+    ensures { λ r. ⌜ Fields (layoutR 103) (now (s .entry)) p (rauth (r .value)) (r .next) ⌝ }
+{
+    let r1 = qids::read_qid(s, p);
+    let p1 = r1.next;
+    let aqid = r1.value;
+    let value = Rauth { aqid };
+    ReadRauth { value, next: p1 }
+}
+
+pub fn lay_rauth(out: &mut [u8], p: Place, lent: &[u8], m: Rauth, pass: Pass) -> Place
+    ensures { λ r. ⌜ Laid (layoutR 103) (now (lent .entry)) (rauth m) pass (now (out .entry)) p (now (out .exit)) r ⌝ }
+{
+    let aqid = m.aqid;
+    qids::lay_qid(out, p, lent, aqid, pass)
+}
+
+pub struct Tattach {
+    pub fid: Fid,
+    pub afid: Fid,
+    pub uname: Span,
+    pub aname: Span,
+    pub n_uname: u32,
+}
+
+pub struct ReadTattach {
+    pub value: Tattach,
+    pub next: Place,
+}
+
+pub fn read_tattach(s: &[u8], p: Place) -> ReadTattach
+    ensures { λ r. ⌜ Fields (layoutT 104) (now (s .entry)) p (tattach (r .value)) (r .next) ⌝ }
+{
+    let r1 = numbers::read_u32(s, p);
+    let p1 = r1.next;
+    let fid = Fid(r1.value);
+    let r2 = numbers::read_u32(s, p1);
+    let p2 = r2.next;
+    let afid = Fid(r2.value);
+    let r3 = strings::read_str(s, p2);
+    let p3 = r3.next;
+    let uname = r3.value;
+    let r4 = strings::read_str(s, p3);
+    let p4 = r4.next;
+    let aname = r4.value;
+    let r5 = numbers::read_u32(s, p4);
+    let p5 = r5.next;
+    let n_uname = r5.value;
+    let value = Tattach {
+        fid,
+        afid,
+        uname,
+        aname,
+        n_uname,
+    };
+    ReadTattach { value, next: p5 }
+}
+
+pub fn lay_tattach(out: &mut [u8], p: Place, lent: &[u8], m: Tattach, pass: Pass) -> Place
+    ensures { λ r. ⌜ Laid (layoutT 104) (now (lent .entry)) (tattach m) pass (now (out .entry)) p (now (out .exit)) r ⌝ }
+{
+    let fid = m.fid;
+    let p1 = lay::lay_u32(out, p, fid.0, pass);
+    let afid = m.afid;
+    let p2 = lay::lay_u32(out, p1, afid.0, pass);
+    let uname = m.uname;
+    let p3 = lay::lay_str(out, p2, lent, uname, pass);
+    let aname = m.aname;
+    let p4 = lay::lay_str(out, p3, lent, aname, pass);
+    lay::lay_u32(out, p4, m.n_uname, pass)
+}
+
+pub struct Rattach {
+    pub qid: Qid,
+}
+
+pub struct ReadRattach {
+    pub value: Rattach,
+    pub next: Place,
+}
+
+pub fn read_rattach(s: &[u8], p: Place) -> ReadRattach
+    ensures { λ r. ⌜ Fields (layoutR 105) (now (s .entry)) p (rattach (r .value)) (r .next) ⌝ }
+{
+    let r1 = qids::read_qid(s, p);
+    let p1 = r1.next;
+    let qid = r1.value;
+    let value = Rattach { qid };
+    ReadRattach { value, next: p1 }
+}
+
+pub fn lay_rattach(out: &mut [u8], p: Place, lent: &[u8], m: Rattach, pass: Pass) -> Place
+    ensures { λ r. ⌜ Laid (layoutR 105) (now (lent .entry)) (rattach m) pass (now (out .entry)) p (now (out .exit)) r ⌝ }
+{
+    let qid = m.qid;
+    qids::lay_qid(out, p, lent, qid, pass)
+}
+
+pub struct Tflush {
+    pub oldtag: Tag,
+}
+
+pub struct ReadTflush {
+    pub value: Tflush,
+    pub next: Place,
+}
+
+pub fn read_tflush(s: &[u8], p: Place) -> ReadTflush
+    ensures { λ r. ⌜ Fields (layoutT 108) (now (s .entry)) p (tflush (r .value)) (r .next) ⌝ }
+{
+    let r1 = numbers::read_u16(s, p);
+    let p1 = r1.next;
+    let oldtag = Tag(r1.value);
+    let value = Tflush { oldtag };
+    ReadTflush { value, next: p1 }
+}
+
+pub fn lay_tflush(out: &mut [u8], p: Place, lent: &[u8], m: Tflush, pass: Pass) -> Place
+    ensures { λ r. ⌜ Laid (layoutT 108) (now (lent .entry)) (tflush m) pass (now (out .entry)) p (now (out .exit)) r ⌝ }
+{
+    let oldtag = m.oldtag;
+    lay::lay_u16(out, p, oldtag.0, pass)
+}
+
+pub struct Tclunk {
+    pub fid: Fid,
+}
+
+pub struct ReadTclunk {
+    pub value: Tclunk,
+    pub next: Place,
+}
+
+pub fn read_tclunk(s: &[u8], p: Place) -> ReadTclunk
+    ensures { λ r. ⌜ Fields (layoutT 120) (now (s .entry)) p (tclunk (r .value)) (r .next) ⌝ }
+{
+    let r1 = numbers::read_u32(s, p);
+    let p1 = r1.next;
+    let fid = Fid(r1.value);
+    let value = Tclunk { fid };
+    ReadTclunk { value, next: p1 }
+}
+
+pub fn lay_tclunk(out: &mut [u8], p: Place, lent: &[u8], m: Tclunk, pass: Pass) -> Place
+    ensures { λ r. ⌜ Laid (layoutT 120) (now (lent .entry)) (tclunk m) pass (now (out .entry)) p (now (out .exit)) r ⌝ }
+{
+    let fid = m.fid;
+    lay::lay_u32(out, p, fid.0, pass)
+}
+
+pub struct Rlerror {
+    pub ecode: u32,
+}
+
+pub struct ReadRlerror {
+    pub value: Rlerror,
+    pub next: Place,
+}
+
+pub fn read_rlerror(s: &[u8], p: Place) -> ReadRlerror
+    ensures { λ r. ⌜ Fields (layoutR 7) (now (s .entry)) p (rlerror (r .value)) (r .next) ⌝ }
+{
+    let r1 = numbers::read_u32(s, p);
+    let p1 = r1.next;
+    let ecode = r1.value;
+    let value = Rlerror { ecode };
+    ReadRlerror { value, next: p1 }
+}
+
+pub fn lay_rlerror(out: &mut [u8], p: Place, lent: &[u8], m: Rlerror, pass: Pass) -> Place
+    ensures { λ r. ⌜ Laid (layoutR 7) (now (lent .entry)) (rlerror m) pass (now (out .entry)) p (now (out .exit)) r ⌝ }
+{
+    lay::lay_u32(out, p, m.ecode, pass)
+}

@@ -1,0 +1,79 @@
+// Walking from a fid to another: names in the request, a qid for each step in the reply.
+
+use crate::ids::Fid;
+use fields::Part;
+use fields::lay;
+use fields::lay::Pass;
+use numbers::Place;
+ghost use Rattle.fields.specs.Fields.{Fields};
+ghost use Rattle.fields.specs.Laying.{Laid};
+ghost use Rattle.messages.specs.Tables.{layoutT, layoutR};
+ghost use Rattle.messages.specs.Records.{twalk, rwalk};
+
+pub struct Twalk {
+    pub fid: Fid,
+    pub newfid: Fid,
+    pub wnames: Part,
+}
+
+pub struct ReadTwalk {
+    pub value: Twalk,
+    pub next: Place,
+}
+
+pub fn read_twalk(s: &[u8], p: Place) -> ReadTwalk
+    ensures { λ r. ⌜ Fields (layoutT 110) (now (s .entry)) p (twalk (r .value)) (r .next) ⌝ }
+{
+    let r1 = numbers::read_u32(s, p);
+    let p1 = r1.next;
+    let fid = Fid(r1.value);
+    let r2 = numbers::read_u32(s, p1);
+    let p2 = r2.next;
+    let newfid = Fid(r2.value);
+    let r3 = fields::read_names(s, p2);
+    let p3 = r3.next;
+    let wnames = r3.value;
+    let value = Twalk {
+        fid,
+        newfid,
+        wnames,
+    };
+    ReadTwalk { value, next: p3 }
+}
+
+pub fn lay_twalk(out: &mut [u8], p: Place, lent: &[u8], m: Twalk, pass: Pass) -> Place
+    ensures { λ r. ⌜ Laid (layoutT 110) (now (lent .entry)) (twalk m) pass (now (out .entry)) p (now (out .exit)) r ⌝ }
+{
+    let fid = m.fid;
+    let p1 = lay::lay_u32(out, p, fid.0, pass);
+    let newfid = m.newfid;
+    let p2 = lay::lay_u32(out, p1, newfid.0, pass);
+    let wnames = m.wnames;
+    lay::lay_names(out, p2, lent, wnames, pass)
+}
+
+pub struct Rwalk {
+    pub wqids: Part,
+}
+
+pub struct ReadRwalk {
+    pub value: Rwalk,
+    pub next: Place,
+}
+
+pub fn read_rwalk(s: &[u8], p: Place) -> ReadRwalk
+    ensures { λ r. ⌜ Fields (layoutR 111) (now (s .entry)) p (rwalk (r .value)) (r .next) ⌝ }
+{
+    let r1 = fields::read_qids(s, p);
+    let p1 = r1.next;
+    let wqids = r1.value;
+    let value = Rwalk { wqids };
+    ReadRwalk { value, next: p1 }
+}
+
+pub fn lay_rwalk(out: &mut [u8], p: Place, lent: &[u8], m: Rwalk, pass: Pass) -> Place
+    ensures { λ r. ⌜ Laid (layoutR 111) (now (lent .entry)) (rwalk m) pass (now (out .entry)) p (now (out .exit)) r ⌝ }
+{
+    let wqids = m.wqids;
+    lay::lay_qids(out, p, lent, wqids, pass)
+}
