@@ -1,0 +1,29 @@
+-- A body read at a place, by the row that a table has for its type.
+use Prim.Native.Nat.{ℕ}
+use mathlib.Core.List.{List}
+use mathlib.Core.Option.{Option, none, some}
+use Rattle.numbers.specs.declared.Refusal.{Refusal}
+use Rattle.numbers.specs.declared.Refusal.the-variants as R
+use Rattle.numbers.specs.declared.Place.{Place}
+use Rattle.numbers.specs.declared.Place.the-variants.{At, Refused}
+use Rattle.fields.specs.Layouts.{Layout}
+use Rattle.fields.specs.Values.{Value}
+use Rattle.fields.specs.Fields.{valuesAt, pastFields}
+use Rattle.messages.specs.Tables.{Row, lookup}
+
+-- the number, the values and where the fields end; or the refusal
+pub data Answer : Type 0 where
+  accepted : ℕ → List Value → ℕ → Answer
+  refused : Refusal → Answer
+
+abbrev pub finishAt : ℕ → List Value → Place → Answer
+finishAt ty vs (At n) = accepted ty vs n
+finishAt ty vs (Refused k) = refused k
+
+-- "an unknown type refused; fields in order"
+abbrev pub bodyAt : Option Layout → ℕ → List ℕ → Place → Answer
+bodyAt none ty s p = refused R.UnknownType
+bodyAt (some l) ty s p = finishAt ty (valuesAt l s p) (pastFields l s p)
+
+abbrev pub readBody : List Row → ℕ → List ℕ → Place → Answer
+readBody rows ty s p = bodyAt (lookup rows ty) ty s p

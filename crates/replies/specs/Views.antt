@@ -1,0 +1,77 @@
+-- For each case of `Rmessage` this paper's number, and its values.
+use Prim.Native.Nat.{ℕ}
+use mathlib.Core.List.{List, []}
+use Rattle.fields.specs.Values.{Value}
+use Rattle.messages.specs.Records.{rversion, rwalk, rread, rwrite, rattach, rauth, rstatfs, rlopen, rlcreate, rsymlink, rmknod, rreadlink, rgetattr, rxattrwalk, rreaddir, rlock, rgetlock, rmkdir, rlerror}
+use Rattle.messages.specs.Bodies.{Answer, accepted, refused}
+use Rattle.replies.specs.declared.Rmessage.{Rmessage}
+use Rattle.replies.specs.declared.Rmessage.the-variants as M
+use Rattle.replies.specs.declared.Rbody.{Rbody}
+use Rattle.replies.specs.declared.Rbody.the-variants as B
+
+abbrev pub typeR : Rmessage → ℕ
+typeR (M.Version m) = 101
+typeR M.Flush = 109
+typeR (M.Walk m) = 111
+typeR (M.Read m) = 117
+typeR (M.Write m) = 119
+typeR M.Clunk = 121
+typeR M.Remove = 123
+typeR (M.Attach m) = 105
+typeR (M.Auth m) = 103
+typeR (M.Statfs m) = 9
+typeR (M.Lopen m) = 13
+typeR (M.Lcreate m) = 15
+typeR (M.Symlink m) = 17
+typeR (M.Mknod m) = 19
+typeR M.Rename = 21
+typeR (M.Readlink m) = 23
+typeR (M.GetAttr m) = 25
+typeR M.SetAttr = 27
+typeR (M.XattrWalk m) = 31
+typeR M.XattrCreate = 33
+typeR (M.Readdir m) = 41
+typeR M.Fsync = 51
+typeR (M.Lock m) = 53
+typeR (M.GetLock m) = 55
+typeR M.Link = 71
+typeR (M.Mkdir m) = 73
+typeR M.RenameAt = 75
+typeR M.UnlinkAt = 77
+typeR (M.Lerror m) = 7
+
+unfoldable pub valuesR : Rmessage → List Value
+valuesR (M.Version m) = rversion m
+valuesR M.Flush = []
+valuesR (M.Walk m) = rwalk m
+valuesR (M.Read m) = rread m
+valuesR (M.Write m) = rwrite m
+valuesR M.Clunk = []
+valuesR M.Remove = []
+valuesR (M.Attach m) = rattach m
+valuesR (M.Auth m) = rauth m
+valuesR (M.Statfs m) = rstatfs m
+valuesR (M.Lopen m) = rlopen m
+valuesR (M.Lcreate m) = rlcreate m
+valuesR (M.Symlink m) = rsymlink m
+valuesR (M.Mknod m) = rmknod m
+valuesR M.Rename = []
+valuesR (M.Readlink m) = rreadlink m
+valuesR (M.GetAttr m) = rgetattr m
+valuesR M.SetAttr = []
+valuesR (M.XattrWalk m) = rxattrwalk m
+valuesR M.XattrCreate = []
+valuesR (M.Readdir m) = rreaddir m
+valuesR M.Fsync = []
+valuesR (M.Lock m) = rlock m
+valuesR (M.GetLock m) = rgetlock m
+valuesR M.Link = []
+valuesR (M.Mkdir m) = rmkdir m
+valuesR M.RenameAt = []
+valuesR M.UnlinkAt = []
+valuesR (M.Lerror m) = rlerror m
+
+-- a body seen as its number, its values and where it ends; or its refusal
+unfoldable pub viewR : Rbody → Answer
+viewR (B.Message m n) = accepted (typeR m) (valuesR m) n
+viewR (B.Refused k) = refused k

@@ -1,0 +1,351 @@
+// The 28 requests in one enum: a body read by its type number, and written by its case.
+
+use fields::lay;
+use fields::lay::Pass;
+use messages::attributes;
+use messages::attributes::Tgetattr;
+use messages::attributes::Tsetattr;
+use messages::attributes::Tstatfs;
+use messages::attributes::Txattrcreate;
+use messages::attributes::Txattrwalk;
+use messages::directories;
+use messages::directories::Tlink;
+use messages::directories::Tmkdir;
+use messages::directories::Tmknod;
+use messages::directories::Treaddir;
+use messages::directories::Treadlink;
+use messages::directories::Trename;
+use messages::directories::Trenameat;
+use messages::directories::Tsymlink;
+use messages::directories::Tunlinkat;
+use messages::files;
+use messages::files::Tfsync;
+use messages::files::Tlcreate;
+use messages::files::Tlopen;
+use messages::files::Tread;
+use messages::files::Tremove;
+use messages::files::Twrite;
+use messages::locks;
+use messages::locks::Tgetlock;
+use messages::locks::Tlock;
+use messages::sessions;
+use messages::sessions::Tattach;
+use messages::sessions::Tauth;
+use messages::sessions::Tclunk;
+use messages::sessions::Tflush;
+use messages::sessions::Tversion;
+use messages::walking;
+use messages::walking::Twalk;
+use numbers::Place;
+use numbers::Refusal;
+ghost use mathlib.Core.Path.{_≡_};
+ghost use Rattle.fields.specs.Laying.{Laid, Written};
+ghost use Rattle.messages.specs.Tables.{tableT, layoutT};
+ghost use Rattle.messages.specs.Bodies.{readBody, finishAt};
+ghost use Rattle.requests.specs.Views.{typeT, valuesT, viewT};
+
+pub enum Tmessage {
+    Version(Tversion),
+    Flush(Tflush),
+    Walk(Twalk),
+    Read(Tread),
+    Write(Twrite),
+    Clunk(Tclunk),
+    Remove(Tremove),
+    Attach(Tattach),
+    Auth(Tauth),
+    Statfs(Tstatfs),
+    Lopen(Tlopen),
+    Lcreate(Tlcreate),
+    Symlink(Tsymlink),
+    Mknod(Tmknod),
+    Rename(Trename),
+    Readlink(Treadlink),
+    GetAttr(Tgetattr),
+    SetAttr(Tsetattr),
+    XattrWalk(Txattrwalk),
+    XattrCreate(Txattrcreate),
+    Readdir(Treaddir),
+    Fsync(Tfsync),
+    Lock(Tlock),
+    GetLock(Tgetlock),
+    Link(Tlink),
+    Mkdir(Tmkdir),
+    RenameAt(Trenameat),
+    UnlinkAt(Tunlinkat),
+}
+
+// A body that was read: the message and the position behind its fields; or why it is refused.
+pub enum Tbody {
+    Message(Tmessage, usize),
+    Refused(Refusal),
+}
+
+fn finish(m: Tmessage, end: Place) -> Tbody
+    ensures { λ r. ⌜ viewT r ≡ finishAt (typeT m) (valuesT m) end ⌝ }
+{
+    match end {
+        Place::At(n) => Tbody::Message(m, n),
+        Place::Refused(k) => Tbody::Refused(k),
+    }
+}
+
+// The type decides the body.
+pub fn read_tmessage(s: &[u8], ty: u8, p: Place) -> Tbody
+    ensures { λ r. ⌜ viewT r ≡ readBody tableT ty (now (s .entry)) p ⌝ }
+{
+    match ty {
+        8 => {
+            let r = attributes::read_tstatfs(s, p);
+            let m = r.value;
+            let e = r.next;
+            finish(Tmessage::Statfs(m), e)
+        }
+        12 => {
+            let r = files::read_tlopen(s, p);
+            let m = r.value;
+            let e = r.next;
+            finish(Tmessage::Lopen(m), e)
+        }
+        14 => {
+            let r = files::read_tlcreate(s, p);
+            let m = r.value;
+            let e = r.next;
+            finish(Tmessage::Lcreate(m), e)
+        }
+        16 => {
+            let r = directories::read_tsymlink(s, p);
+            let m = r.value;
+            let e = r.next;
+            finish(Tmessage::Symlink(m), e)
+        }
+        18 => {
+            let r = directories::read_tmknod(s, p);
+            let m = r.value;
+            let e = r.next;
+            finish(Tmessage::Mknod(m), e)
+        }
+        20 => {
+            let r = directories::read_trename(s, p);
+            let m = r.value;
+            let e = r.next;
+            finish(Tmessage::Rename(m), e)
+        }
+        22 => {
+            let r = directories::read_treadlink(s, p);
+            let m = r.value;
+            let e = r.next;
+            finish(Tmessage::Readlink(m), e)
+        }
+        24 => {
+            let r = attributes::read_tgetattr(s, p);
+            let m = r.value;
+            let e = r.next;
+            finish(Tmessage::GetAttr(m), e)
+        }
+        26 => {
+            let r = attributes::read_tsetattr(s, p);
+            let m = r.value;
+            let e = r.next;
+            finish(Tmessage::SetAttr(m), e)
+        }
+        30 => {
+            let r = attributes::read_txattrwalk(s, p);
+            let m = r.value;
+            let e = r.next;
+            finish(Tmessage::XattrWalk(m), e)
+        }
+        32 => {
+            let r = attributes::read_txattrcreate(s, p);
+            let m = r.value;
+            let e = r.next;
+            finish(Tmessage::XattrCreate(m), e)
+        }
+        40 => {
+            let r = directories::read_treaddir(s, p);
+            let m = r.value;
+            let e = r.next;
+            finish(Tmessage::Readdir(m), e)
+        }
+        50 => {
+            let r = files::read_tfsync(s, p);
+            let m = r.value;
+            let e = r.next;
+            finish(Tmessage::Fsync(m), e)
+        }
+        52 => {
+            let r = locks::read_tlock(s, p);
+            let m = r.value;
+            let e = r.next;
+            finish(Tmessage::Lock(m), e)
+        }
+        54 => {
+            let r = locks::read_tgetlock(s, p);
+            let m = r.value;
+            let e = r.next;
+            finish(Tmessage::GetLock(m), e)
+        }
+        70 => {
+            let r = directories::read_tlink(s, p);
+            let m = r.value;
+            let e = r.next;
+            finish(Tmessage::Link(m), e)
+        }
+        72 => {
+            let r = directories::read_tmkdir(s, p);
+            let m = r.value;
+            let e = r.next;
+            finish(Tmessage::Mkdir(m), e)
+        }
+        74 => {
+            let r = directories::read_trenameat(s, p);
+            let m = r.value;
+            let e = r.next;
+            finish(Tmessage::RenameAt(m), e)
+        }
+        76 => {
+            let r = directories::read_tunlinkat(s, p);
+            let m = r.value;
+            let e = r.next;
+            finish(Tmessage::UnlinkAt(m), e)
+        }
+        100 => {
+            let r = sessions::read_tversion(s, p);
+            let m = r.value;
+            let e = r.next;
+            finish(Tmessage::Version(m), e)
+        }
+        102 => {
+            let r = sessions::read_tauth(s, p);
+            let m = r.value;
+            let e = r.next;
+            finish(Tmessage::Auth(m), e)
+        }
+        104 => {
+            let r = sessions::read_tattach(s, p);
+            let m = r.value;
+            let e = r.next;
+            finish(Tmessage::Attach(m), e)
+        }
+        108 => {
+            let r = sessions::read_tflush(s, p);
+            let m = r.value;
+            let e = r.next;
+            finish(Tmessage::Flush(m), e)
+        }
+        110 => {
+            let r = walking::read_twalk(s, p);
+            let m = r.value;
+            let e = r.next;
+            finish(Tmessage::Walk(m), e)
+        }
+        116 => {
+            let r = files::read_tread(s, p);
+            let m = r.value;
+            let e = r.next;
+            finish(Tmessage::Read(m), e)
+        }
+        118 => {
+            let r = files::read_twrite(s, p);
+            let m = r.value;
+            let e = r.next;
+            finish(Tmessage::Write(m), e)
+        }
+        120 => {
+            let r = sessions::read_tclunk(s, p);
+            let m = r.value;
+            let e = r.next;
+            finish(Tmessage::Clunk(m), e)
+        }
+        122 => {
+            let r = files::read_tremove(s, p);
+            let m = r.value;
+            let e = r.next;
+            finish(Tmessage::Remove(m), e)
+        }
+        _ => Tbody::Refused(Refusal::UnknownType),
+    }
+}
+
+// The number of a message's type.
+pub fn type_of(m: Tmessage) -> u8
+    ensures { λ r. ⌜ r ≡ typeT m ⌝ }
+{
+    match m {
+        Tmessage::Version(_) => 100,
+        Tmessage::Flush(_) => 108,
+        Tmessage::Walk(_) => 110,
+        Tmessage::Read(_) => 116,
+        Tmessage::Write(_) => 118,
+        Tmessage::Clunk(_) => 120,
+        Tmessage::Remove(_) => 122,
+        Tmessage::Attach(_) => 104,
+        Tmessage::Auth(_) => 102,
+        Tmessage::Statfs(_) => 8,
+        Tmessage::Lopen(_) => 12,
+        Tmessage::Lcreate(_) => 14,
+        Tmessage::Symlink(_) => 16,
+        Tmessage::Mknod(_) => 18,
+        Tmessage::Rename(_) => 20,
+        Tmessage::Readlink(_) => 22,
+        Tmessage::GetAttr(_) => 24,
+        Tmessage::SetAttr(_) => 26,
+        Tmessage::XattrWalk(_) => 30,
+        Tmessage::XattrCreate(_) => 32,
+        Tmessage::Readdir(_) => 40,
+        Tmessage::Fsync(_) => 50,
+        Tmessage::Lock(_) => 52,
+        Tmessage::GetLock(_) => 54,
+        Tmessage::Link(_) => 70,
+        Tmessage::Mkdir(_) => 72,
+        Tmessage::RenameAt(_) => 74,
+        Tmessage::UnlinkAt(_) => 76,
+    }
+}
+
+pub fn lay_tmessage(out: &mut [u8], p: Place, lent: &[u8], m: Tmessage, pass: Pass) -> Place
+    ensures { λ r. ⌜ Laid (layoutT (typeT m)) (now (lent .entry)) (valuesT m) pass (now (out .entry)) p (now (out .exit)) r ⌝ }
+{
+    match m {
+        Tmessage::Version(x) => sessions::lay_tversion(out, p, lent, x, pass),
+        Tmessage::Flush(x) => sessions::lay_tflush(out, p, lent, x, pass),
+        Tmessage::Walk(x) => walking::lay_twalk(out, p, lent, x, pass),
+        Tmessage::Read(x) => files::lay_tread(out, p, lent, x, pass),
+        Tmessage::Write(x) => files::lay_twrite(out, p, lent, x, pass),
+        Tmessage::Clunk(x) => sessions::lay_tclunk(out, p, lent, x, pass),
+        Tmessage::Remove(x) => files::lay_tremove(out, p, lent, x, pass),
+        Tmessage::Attach(x) => sessions::lay_tattach(out, p, lent, x, pass),
+        Tmessage::Auth(x) => sessions::lay_tauth(out, p, lent, x, pass),
+        Tmessage::Statfs(x) => attributes::lay_tstatfs(out, p, lent, x, pass),
+        Tmessage::Lopen(x) => files::lay_tlopen(out, p, lent, x, pass),
+        Tmessage::Lcreate(x) => files::lay_tlcreate(out, p, lent, x, pass),
+        Tmessage::Symlink(x) => directories::lay_tsymlink(out, p, lent, x, pass),
+        Tmessage::Mknod(x) => directories::lay_tmknod(out, p, lent, x, pass),
+        Tmessage::Rename(x) => directories::lay_trename(out, p, lent, x, pass),
+        Tmessage::Readlink(x) => directories::lay_treadlink(out, p, lent, x, pass),
+        Tmessage::GetAttr(x) => attributes::lay_tgetattr(out, p, lent, x, pass),
+        Tmessage::SetAttr(x) => attributes::lay_tsetattr(out, p, lent, x, pass),
+        Tmessage::XattrWalk(x) => attributes::lay_txattrwalk(out, p, lent, x, pass),
+        Tmessage::XattrCreate(x) => attributes::lay_txattrcreate(out, p, lent, x, pass),
+        Tmessage::Readdir(x) => directories::lay_treaddir(out, p, lent, x, pass),
+        Tmessage::Fsync(x) => files::lay_tfsync(out, p, lent, x, pass),
+        Tmessage::Lock(x) => locks::lay_tlock(out, p, lent, x, pass),
+        Tmessage::GetLock(x) => locks::lay_tgetlock(out, p, lent, x, pass),
+        Tmessage::Link(x) => directories::lay_tlink(out, p, lent, x, pass),
+        Tmessage::Mkdir(x) => directories::lay_tmkdir(out, p, lent, x, pass),
+        Tmessage::RenameAt(x) => directories::lay_trenameat(out, p, lent, x, pass),
+        Tmessage::UnlinkAt(x) => directories::lay_tunlinkat(out, p, lent, x, pass),
+    }
+}
+
+// A body written at a place: its fields' refusals in order, then 10, then 11; a refusal leaves the output as it was.
+pub fn write_tmessage(out: &mut [u8], p: Place, lent: &[u8], m: Tmessage) -> Place
+    ensures { λ r. ⌜ Written (layoutT (typeT m)) (now (lent .entry)) (valuesT m) (now (out .entry)) p (now (out .exit)) r ⌝ }
+{
+    let end = lay_tmessage(out, p, lent, m, Pass::Check);
+    let q = lay::settled(end, out.len());
+    let Place::At(_) = q else {
+        return q;
+    };
+    lay_tmessage(out, p, lent, m, Pass::Put)
+}
