@@ -61,41 +61,32 @@ pub fn read_rstatfs(s: &[u8], p: Place) -> ReadRstatfs
 {
     let r1 = numbers::read_u32(s, p);
     let p1 = r1.next;
-    let ty = r1.value;
     let r2 = numbers::read_u32(s, p1);
     let p2 = r2.next;
-    let bsize = r2.value;
     let r3 = numbers::read_u64(s, p2);
     let p3 = r3.next;
-    let blocks = r3.value;
     let r4 = numbers::read_u64(s, p3);
     let p4 = r4.next;
-    let bfree = r4.value;
     let r5 = numbers::read_u64(s, p4);
     let p5 = r5.next;
-    let bavail = r5.value;
     let r6 = numbers::read_u64(s, p5);
     let p6 = r6.next;
-    let files = r6.value;
     let r7 = numbers::read_u64(s, p6);
     let p7 = r7.next;
-    let ffree = r7.value;
     let r8 = numbers::read_u64(s, p7);
     let p8 = r8.next;
-    let fsid = r8.value;
     let r9 = numbers::read_u32(s, p8);
     let p9 = r9.next;
-    let namelen = r9.value;
     let value = Rstatfs {
-        ty,
-        bsize,
-        blocks,
-        bfree,
-        bavail,
-        files,
-        ffree,
-        fsid,
-        namelen,
+        ty: r1.value,
+        bsize: r2.value,
+        blocks: r3.value,
+        bfree: r4.value,
+        bavail: r5.value,
+        files: r6.value,
+        ffree: r7.value,
+        fsid: r8.value,
+        namelen: r9.value,
     };
     ReadRstatfs { value, next: p9 }
 }
@@ -132,8 +123,10 @@ pub fn read_tgetattr(s: &[u8], p: Place) -> ReadTgetattr
     let fid = Fid(r1.value);
     let r2 = numbers::read_u64(s, p1);
     let p2 = r2.next;
-    let request_mask = r2.value;
-    let value = Tgetattr { fid, request_mask };
+    let value = Tgetattr {
+        fid,
+        request_mask: r2.value,
+    };
     ReadTgetattr { value, next: p2 }
 }
 
@@ -178,85 +171,67 @@ pub fn read_rgetattr(s: &[u8], p: Place) -> ReadRgetattr
 {
     let r1 = numbers::read_u64(s, p);
     let p1 = r1.next;
-    let valid = r1.value;
     let r2 = qids::read_qid(s, p1);
     let p2 = r2.next;
     let qid = r2.value;
     let r3 = numbers::read_u32(s, p2);
     let p3 = r3.next;
-    let mode = r3.value;
     let r4 = numbers::read_u32(s, p3);
     let p4 = r4.next;
-    let uid = r4.value;
     let r5 = numbers::read_u32(s, p4);
     let p5 = r5.next;
     let gid = Gid(r5.value);
     let r6 = numbers::read_u64(s, p5);
     let p6 = r6.next;
-    let nlink = r6.value;
     let r7 = numbers::read_u64(s, p6);
     let p7 = r7.next;
-    let rdev = r7.value;
     let r8 = numbers::read_u64(s, p7);
     let p8 = r8.next;
-    let size = r8.value;
     let r9 = numbers::read_u64(s, p8);
     let p9 = r9.next;
-    let blksize = r9.value;
     let r10 = numbers::read_u64(s, p9);
     let p10 = r10.next;
-    let blocks = r10.value;
     let r11 = numbers::read_u64(s, p10);
     let p11 = r11.next;
-    let atime_sec = r11.value;
     let r12 = numbers::read_u64(s, p11);
     let p12 = r12.next;
-    let atime_nsec = r12.value;
     let r13 = numbers::read_u64(s, p12);
     let p13 = r13.next;
-    let mtime_sec = r13.value;
     let r14 = numbers::read_u64(s, p13);
     let p14 = r14.next;
-    let mtime_nsec = r14.value;
     let r15 = numbers::read_u64(s, p14);
     let p15 = r15.next;
-    let ctime_sec = r15.value;
     let r16 = numbers::read_u64(s, p15);
     let p16 = r16.next;
-    let ctime_nsec = r16.value;
     let r17 = numbers::read_u64(s, p16);
     let p17 = r17.next;
-    let btime_sec = r17.value;
     let r18 = numbers::read_u64(s, p17);
     let p18 = r18.next;
-    let btime_nsec = r18.value;
     let r19 = numbers::read_u64(s, p18);
     let p19 = r19.next;
-    let gen_ = r19.value;
     let r20 = numbers::read_u64(s, p19);
     let p20 = r20.next;
-    let data_version = r20.value;
     let value = Rgetattr {
-        valid,
+        valid: r1.value,
         qid,
-        mode,
-        uid,
+        mode: r3.value,
+        uid: r4.value,
         gid,
-        nlink,
-        rdev,
-        size,
-        blksize,
-        blocks,
-        atime_sec,
-        atime_nsec,
-        mtime_sec,
-        mtime_nsec,
-        ctime_sec,
-        ctime_nsec,
-        btime_sec,
-        btime_nsec,
-        gen_,
-        data_version,
+        nlink: r6.value,
+        rdev: r7.value,
+        size: r8.value,
+        blksize: r9.value,
+        blocks: r10.value,
+        atime_sec: r11.value,
+        atime_nsec: r12.value,
+        mtime_sec: r13.value,
+        mtime_nsec: r14.value,
+        ctime_sec: r15.value,
+        ctime_nsec: r16.value,
+        btime_sec: r17.value,
+        btime_nsec: r18.value,
+        gen_: r19.value,
+        data_version: r20.value,
     };
     ReadRgetattr { value, next: p20 }
 }
@@ -314,42 +289,34 @@ pub fn read_tsetattr(s: &[u8], p: Place) -> ReadTsetattr
     let fid = Fid(r1.value);
     let r2 = numbers::read_u32(s, p1);
     let p2 = r2.next;
-    let valid = r2.value;
     let r3 = numbers::read_u32(s, p2);
     let p3 = r3.next;
-    let mode = r3.value;
     let r4 = numbers::read_u32(s, p3);
     let p4 = r4.next;
-    let uid = r4.value;
     let r5 = numbers::read_u32(s, p4);
     let p5 = r5.next;
     let gid = Gid(r5.value);
     let r6 = numbers::read_u64(s, p5);
     let p6 = r6.next;
-    let size = r6.value;
     let r7 = numbers::read_u64(s, p6);
     let p7 = r7.next;
-    let atime_sec = r7.value;
     let r8 = numbers::read_u64(s, p7);
     let p8 = r8.next;
-    let atime_nsec = r8.value;
     let r9 = numbers::read_u64(s, p8);
     let p9 = r9.next;
-    let mtime_sec = r9.value;
     let r10 = numbers::read_u64(s, p9);
     let p10 = r10.next;
-    let mtime_nsec = r10.value;
     let value = Tsetattr {
         fid,
-        valid,
-        mode,
-        uid,
+        valid: r2.value,
+        mode: r3.value,
+        uid: r4.value,
         gid,
-        size,
-        atime_sec,
-        atime_nsec,
-        mtime_sec,
-        mtime_nsec,
+        size: r6.value,
+        atime_sec: r7.value,
+        atime_nsec: r8.value,
+        mtime_sec: r9.value,
+        mtime_nsec: r10.value,
     };
     ReadTsetattr { value, next: p10 }
 }
@@ -423,8 +390,7 @@ pub fn read_rxattrwalk(s: &[u8], p: Place) -> ReadRxattrwalk
 {
     let r1 = numbers::read_u64(s, p);
     let p1 = r1.next;
-    let size = r1.value;
-    let value = Rxattrwalk { size };
+    let value = Rxattrwalk { size: r1.value };
     ReadRxattrwalk { value, next: p1 }
 }
 
@@ -457,15 +423,13 @@ pub fn read_txattrcreate(s: &[u8], p: Place) -> ReadTxattrcreate
     let name = r2.value;
     let r3 = numbers::read_u64(s, p2);
     let p3 = r3.next;
-    let attr_size = r3.value;
     let r4 = numbers::read_u32(s, p3);
     let p4 = r4.next;
-    let flags = r4.value;
     let value = Txattrcreate {
         fid,
         name,
-        attr_size,
-        flags,
+        attr_size: r3.value,
+        flags: r4.value,
     };
     ReadTxattrcreate { value, next: p4 }
 }

@@ -113,22 +113,19 @@ pub fn read_tmknod(s: &[u8], p: Place) -> ReadTmknod
     let name = r2.value;
     let r3 = numbers::read_u32(s, p2);
     let p3 = r3.next;
-    let mode = r3.value;
     let r4 = numbers::read_u32(s, p3);
     let p4 = r4.next;
-    let major = r4.value;
     let r5 = numbers::read_u32(s, p4);
     let p5 = r5.next;
-    let minor = r5.value;
     let r6 = numbers::read_u32(s, p5);
     let p6 = r6.next;
     let gid = Gid(r6.value);
     let value = Tmknod {
         dfid,
         name,
-        mode,
-        major,
-        minor,
+        mode: r3.value,
+        major: r4.value,
+        minor: r5.value,
         gid,
     };
     ReadTmknod { value, next: p6 }
@@ -283,11 +280,13 @@ pub fn read_treaddir(s: &[u8], p: Place) -> ReadTreaddir
     let fid = Fid(r1.value);
     let r2 = numbers::read_u64(s, p1);
     let p2 = r2.next;
-    let offset = r2.value;
     let r3 = numbers::read_u32(s, p2);
     let p3 = r3.next;
-    let count = r3.value;
-    let value = Treaddir { fid, offset, count };
+    let value = Treaddir {
+        fid,
+        offset: r2.value,
+        count: r3.value,
+    };
     ReadTreaddir { value, next: p3 }
 }
 
@@ -387,14 +386,13 @@ pub fn read_tmkdir(s: &[u8], p: Place) -> ReadTmkdir
     let name = r2.value;
     let r3 = numbers::read_u32(s, p2);
     let p3 = r3.next;
-    let mode = r3.value;
     let r4 = numbers::read_u32(s, p3);
     let p4 = r4.next;
     let gid = Gid(r4.value);
     let value = Tmkdir {
         dfid,
         name,
-        mode,
+        mode: r3.value,
         gid,
     };
     ReadTmkdir { value, next: p4 }
@@ -509,8 +507,11 @@ pub fn read_tunlinkat(s: &[u8], p: Place) -> ReadTunlinkat
     let name = r2.value;
     let r3 = numbers::read_u32(s, p2);
     let p3 = r3.next;
-    let flags = r3.value;
-    let value = Tunlinkat { dirfd, name, flags };
+    let value = Tunlinkat {
+        dirfd,
+        name,
+        flags: r3.value,
+    };
     ReadTunlinkat { value, next: p3 }
 }
 

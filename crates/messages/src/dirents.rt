@@ -32,17 +32,15 @@ pub fn read_dirent(s: &[u8], p: Place) -> ReadDirent
     let qid = r1.value;
     let r2 = numbers::read_u64(s, p1);
     let p2 = r2.next;
-    let offset = r2.value;
     let r3 = numbers::read_u8(s, p2);
     let p3 = r3.next;
-    let ty = r3.value;
     let r4 = strings::read_str(s, p3);
     let p4 = r4.next;
     let name = r4.value;
     let value = Dirent {
         qid,
-        offset,
-        ty,
+        offset: r2.value,
+        ty: r3.value,
         name,
     };
     ReadDirent { value, next: p4 }

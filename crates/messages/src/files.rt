@@ -31,8 +31,10 @@ pub fn read_tlopen(s: &[u8], p: Place) -> ReadTlopen
     let fid = Fid(r1.value);
     let r2 = numbers::read_u32(s, p1);
     let p2 = r2.next;
-    let flags = r2.value;
-    let value = Tlopen { fid, flags };
+    let value = Tlopen {
+        fid,
+        flags: r2.value,
+    };
     ReadTlopen { value, next: p2 }
 }
 
@@ -62,8 +64,10 @@ pub fn read_rlopen(s: &[u8], p: Place) -> ReadRlopen
     let qid = r1.value;
     let r2 = numbers::read_u32(s, p1);
     let p2 = r2.next;
-    let iounit = r2.value;
-    let value = Rlopen { qid, iounit };
+    let value = Rlopen {
+        qid,
+        iounit: r2.value,
+    };
     ReadRlopen { value, next: p2 }
 }
 
@@ -99,18 +103,16 @@ pub fn read_tlcreate(s: &[u8], p: Place) -> ReadTlcreate
     let name = r2.value;
     let r3 = numbers::read_u32(s, p2);
     let p3 = r3.next;
-    let flags = r3.value;
     let r4 = numbers::read_u32(s, p3);
     let p4 = r4.next;
-    let mode = r4.value;
     let r5 = numbers::read_u32(s, p4);
     let p5 = r5.next;
     let gid = Gid(r5.value);
     let value = Tlcreate {
         fid,
         name,
-        flags,
-        mode,
+        flags: r3.value,
+        mode: r4.value,
         gid,
     };
     ReadTlcreate { value, next: p5 }
@@ -147,8 +149,10 @@ pub fn read_rlcreate(s: &[u8], p: Place) -> ReadRlcreate
     let qid = r1.value;
     let r2 = numbers::read_u32(s, p1);
     let p2 = r2.next;
-    let iounit = r2.value;
-    let value = Rlcreate { qid, iounit };
+    let value = Rlcreate {
+        qid,
+        iounit: r2.value,
+    };
     ReadRlcreate { value, next: p2 }
 }
 
@@ -179,11 +183,13 @@ pub fn read_tread(s: &[u8], p: Place) -> ReadTread
     let fid = Fid(r1.value);
     let r2 = numbers::read_u64(s, p1);
     let p2 = r2.next;
-    let offset = r2.value;
     let r3 = numbers::read_u32(s, p2);
     let p3 = r3.next;
-    let count = r3.value;
-    let value = Tread { fid, offset, count };
+    let value = Tread {
+        fid,
+        offset: r2.value,
+        count: r3.value,
+    };
     ReadTread { value, next: p3 }
 }
 
@@ -241,11 +247,14 @@ pub fn read_twrite(s: &[u8], p: Place) -> ReadTwrite
     let fid = Fid(r1.value);
     let r2 = numbers::read_u64(s, p1);
     let p2 = r2.next;
-    let offset = r2.value;
     let r3 = fields::read_data(s, p2);
     let p3 = r3.next;
     let data = r3.value;
-    let value = Twrite { fid, offset, data };
+    let value = Twrite {
+        fid,
+        offset: r2.value,
+        data,
+    };
     ReadTwrite { value, next: p3 }
 }
 
@@ -273,8 +282,7 @@ pub fn read_rwrite(s: &[u8], p: Place) -> ReadRwrite
 {
     let r1 = numbers::read_u32(s, p);
     let p1 = r1.next;
-    let count = r1.value;
-    let value = Rwrite { count };
+    let value = Rwrite { count: r1.value };
     ReadRwrite { value, next: p1 }
 }
 
@@ -302,8 +310,10 @@ pub fn read_tfsync(s: &[u8], p: Place) -> ReadTfsync
     let fid = Fid(r1.value);
     let r2 = numbers::read_u32(s, p1);
     let p2 = r2.next;
-    let datasync = r2.value;
-    let value = Tfsync { fid, datasync };
+    let value = Tfsync {
+        fid,
+        datasync: r2.value,
+    };
     ReadTfsync { value, next: p2 }
 }
 

@@ -33,29 +33,24 @@ pub fn read_tlock(s: &[u8], p: Place) -> ReadTlock
     let fid = Fid(r1.value);
     let r2 = numbers::read_u8(s, p1);
     let p2 = r2.next;
-    let type_ = r2.value;
     let r3 = numbers::read_u32(s, p2);
     let p3 = r3.next;
-    let flags = r3.value;
     let r4 = numbers::read_u64(s, p3);
     let p4 = r4.next;
-    let start = r4.value;
     let r5 = numbers::read_u64(s, p4);
     let p5 = r5.next;
-    let length = r5.value;
     let r6 = numbers::read_u32(s, p5);
     let p6 = r6.next;
-    let proc_id = r6.value;
     let r7 = strings::read_str(s, p6);
     let p7 = r7.next;
     let client_id = r7.value;
     let value = Tlock {
         fid,
-        type_,
-        flags,
-        start,
-        length,
-        proc_id,
+        type_: r2.value,
+        flags: r3.value,
+        start: r4.value,
+        length: r5.value,
+        proc_id: r6.value,
         client_id,
     };
     ReadTlock { value, next: p7 }
@@ -89,8 +84,7 @@ pub fn read_rlock(s: &[u8], p: Place) -> ReadRlock
 {
     let r1 = numbers::read_u8(s, p);
     let p1 = r1.next;
-    let status = r1.value;
-    let value = Rlock { status };
+    let value = Rlock { status: r1.value };
     ReadRlock { value, next: p1 }
 }
 
@@ -122,25 +116,21 @@ pub fn read_tgetlock(s: &[u8], p: Place) -> ReadTgetlock
     let fid = Fid(r1.value);
     let r2 = numbers::read_u8(s, p1);
     let p2 = r2.next;
-    let type_ = r2.value;
     let r3 = numbers::read_u64(s, p2);
     let p3 = r3.next;
-    let start = r3.value;
     let r4 = numbers::read_u64(s, p3);
     let p4 = r4.next;
-    let length = r4.value;
     let r5 = numbers::read_u32(s, p4);
     let p5 = r5.next;
-    let proc_id = r5.value;
     let r6 = strings::read_str(s, p5);
     let p6 = r6.next;
     let client_id = r6.value;
     let value = Tgetlock {
         fid,
-        type_,
-        start,
-        length,
-        proc_id,
+        type_: r2.value,
+        start: r3.value,
+        length: r4.value,
+        proc_id: r5.value,
         client_id,
     };
     ReadTgetlock { value, next: p6 }
@@ -177,24 +167,20 @@ pub fn read_rgetlock(s: &[u8], p: Place) -> ReadRgetlock
 {
     let r1 = numbers::read_u8(s, p);
     let p1 = r1.next;
-    let type_ = r1.value;
     let r2 = numbers::read_u64(s, p1);
     let p2 = r2.next;
-    let start = r2.value;
     let r3 = numbers::read_u64(s, p2);
     let p3 = r3.next;
-    let length = r3.value;
     let r4 = numbers::read_u32(s, p3);
     let p4 = r4.next;
-    let proc_id = r4.value;
     let r5 = strings::read_str(s, p4);
     let p5 = r5.next;
     let client_id = r5.value;
     let value = Rgetlock {
-        type_,
-        start,
-        length,
-        proc_id,
+        type_: r1.value,
+        start: r2.value,
+        length: r3.value,
+        proc_id: r4.value,
         client_id,
     };
     ReadRgetlock { value, next: p5 }

@@ -28,11 +28,13 @@ pub fn read_tversion(s: &[u8], p: Place) -> ReadTversion
 {
     let r1 = numbers::read_u32(s, p);
     let p1 = r1.next;
-    let msize = r1.value;
     let r2 = strings::read_str(s, p1);
     let p2 = r2.next;
     let version = r2.value;
-    let value = Tversion { msize, version };
+    let value = Tversion {
+        msize: r1.value,
+        version,
+    };
     ReadTversion { value, next: p2 }
 }
 
@@ -59,11 +61,13 @@ pub fn read_rversion(s: &[u8], p: Place) -> ReadRversion
 {
     let r1 = numbers::read_u32(s, p);
     let p1 = r1.next;
-    let msize = r1.value;
     let r2 = strings::read_str(s, p1);
     let p2 = r2.next;
     let version = r2.value;
-    let value = Rversion { msize, version };
+    let value = Rversion {
+        msize: r1.value,
+        version,
+    };
     ReadRversion { value, next: p2 }
 }
 
@@ -101,12 +105,11 @@ pub fn read_tauth(s: &[u8], p: Place) -> ReadTauth
     let aname = r3.value;
     let r4 = numbers::read_u32(s, p3);
     let p4 = r4.next;
-    let n_uname = r4.value;
     let value = Tauth {
         afid,
         uname,
         aname,
-        n_uname,
+        n_uname: r4.value,
     };
     ReadTauth { value, next: p4 }
 }
@@ -179,13 +182,12 @@ pub fn read_tattach(s: &[u8], p: Place) -> ReadTattach
     let aname = r4.value;
     let r5 = numbers::read_u32(s, p4);
     let p5 = r5.next;
-    let n_uname = r5.value;
     let value = Tattach {
         fid,
         afid,
         uname,
         aname,
-        n_uname,
+        n_uname: r5.value,
     };
     ReadTattach { value, next: p5 }
 }
@@ -296,8 +298,7 @@ pub fn read_rlerror(s: &[u8], p: Place) -> ReadRlerror
 {
     let r1 = numbers::read_u32(s, p);
     let p1 = r1.next;
-    let ecode = r1.value;
-    let value = Rlerror { ecode };
+    let value = Rlerror { ecode: r1.value };
     ReadRlerror { value, next: p1 }
 }
 
