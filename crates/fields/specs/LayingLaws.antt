@@ -99,7 +99,7 @@ pub record Behind (f : Field) (lent : List ℕ) (v : Value) (i : Item) : Type 0 
   pub size : length tail ≡ lenOf v
   pub item : itemBytes i ≡ toLE (headWidth f) (headOf f v) ++ tail
 
-span-shown : (lent : List ℕ) (x y : ℕ) {bs r : List ℕ} → showSpan lent x y ≡ ok bs r → (showSpan lent x y ≡ ok bs []) × (length bs ≡ y) × (bs ≡ take y (drop x lent))
+pub span-shown : (lent : List ℕ) (x y : ℕ) {bs r : List ℕ} → showSpan lent x y ≡ ok bs r → (showSpan lent x y ≡ ok bs []) × (length bs ≡ y) × (bs ≡ take y (drop x lent))
 span-shown lent x y {bs} {r} e =
     let h = span-inv lent x y e in
     let g = shown-in lent x y h in
@@ -107,7 +107,7 @@ span-shown lent x y {bs} {r} e =
     let f : bs ≡ take y (drop x lent) = cc d in
     (g ∙ ap (λ z. ok z []) (sym f), rw f (shown-length lent x y h), f)
 
-whole-inv : {A X : Type 0} (m : Result A) {a : A} {r : List ℕ} → wholePart m ≡ ok a r → (m ≡ ok a [] → X) → X
+pub whole-inv : {A X : Type 0} (m : Result A) {a : A} {r : List ℕ} → wholePart m ≡ ok a r → (m ≡ ok a [] → X) → X
 whole-inv (ok a []) {a = b} e f = f (let g : a ≡ b = cc e in ap (λ x. ok x []) g)
 whole-inv (ok a (x ∷ r)) e f = absurd (let z : _≡_ {A = ℕ} 0 1 = cc e in omega arith)
 whole-inv (bad k) e f = absurd (let z : _≡_ {A = ℕ} 0 1 = cc e in omega arith)

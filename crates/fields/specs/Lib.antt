@@ -7,3 +7,5 @@ pub mod FieldLaws
 pub mod Laying
 pub mod LayingLaws
 pub mod WritingLaws
+pub mod Elements
+pub mod ElementLaws

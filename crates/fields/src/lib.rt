@@ -1,5 +1,6 @@
 // Data and vectors: read at a place of a slice as a span or a part, and every kind of field laid into an output.
 
+pub mod elements;
 pub mod lay;
 
 use numbers::Place;

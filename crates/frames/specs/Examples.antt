@@ -4,14 +4,18 @@ use mathlib.Core.Path.{_≡_, refl}
 use mathlib.Core.List.{List, [], _∷_}
 use Rattle.numbers.specs.Numbers.{fromLE, toLE}
 use Rattle.numbers.specs.Reading.{raw, readNum}
+use Rattle.numbers.specs.Places.{putAt, pastPut}
 use Rattle.numbers.specs.declared.Refusal.the-variants as R
+use Rattle.numbers.specs.declared.Place.the-variants.{At}
 use Rattle.strings.specs.Utf8.{char, chars, utf8, noZero}
 use Rattle.strings.specs.Strings.{readString, stringBytes}
+use Rattle.strings.specs.Spans.{showSpan, showString}
 use Rattle.fields.specs.Layouts.{readMany, readField, readFields, manyBytes, itemBytes, itemsBytes}
-use Rattle.fields.specs.Values.{val, span, part, places}
-use Rattle.messages.specs.Tables.{tableT, tableR}
+use Rattle.fields.specs.Values.{val, span, part, places, show, shows}
+use Rattle.messages.specs.Tables.{tableT, tableR, layoutT}
 use Rattle.messages.specs.Bodies.{accepted, refused}
 use Rattle.frames.specs.Frames.{readTypeTag, readHeader, headless, framed, readFrame}
+use Rattle.frames.specs.Writing.{frameBytes, frameOut, framePast}
 
 pub a-to-n :
     (readFrame tableT (21 ∷ 0 ∷ 0 ∷ 0 ∷ 100 ∷ 255 ∷ 255 ∷ 0 ∷ 32 ∷ 0 ∷ 0 ∷ 8 ∷ 0 ∷ 57 ∷ 80 ∷ 50 ∷ 48 ∷ 48 ∷ 48 ∷ 46 ∷ 76 ∷ []) ≡ framed 65535 (accepted 100 (val 8192 ∷ span 13 8 ∷ []) 21))
@@ -32,3 +36,11 @@ pub a-to-n :
     × (readFrame tableT (15 ∷ 0 ∷ 0 ∷ 0 ∷ 100 ∷ 255 ∷ 255 ∷ 0 ∷ 32 ∷ 0 ∷ 0 ∷ 2 ∷ 0 ∷ 0 ∷ 255 ∷ []) ≡ framed 65535 (refused R.NotUtf8))
 unfolding fromLE toLE raw readNum char chars utf8 noZero readString stringBytes readMany readField readFields manyBytes itemBytes itemsBytes places readTypeTag readHeader readFrame
 a-to-n = (refl, refl, refl, refl, refl, refl, refl, refl, refl, refl, refl, refl, refl, refl, refl, refl)
+
+-- what must hold of the writer, or one that does nothing would do: the bytes of A are what writing A's record gives
+pub a-written :
+    (frameOut 100 65535 (shows (layoutT 100) (57 ∷ 80 ∷ 50 ∷ 48 ∷ 48 ∷ 48 ∷ 46 ∷ 76 ∷ []) (val 8192 ∷ span 0 8 ∷ [])) (0 ∷ 0 ∷ 0 ∷ 0 ∷ 0 ∷ 0 ∷ 0 ∷ 0 ∷ 0 ∷ 0 ∷ 0 ∷ 0 ∷ 0 ∷ 0 ∷ 0 ∷ 0 ∷ 0 ∷ 0 ∷ 0 ∷ 0 ∷ 0 ∷ 9 ∷ [])
+    ≡ 21 ∷ 0 ∷ 0 ∷ 0 ∷ 100 ∷ 255 ∷ 255 ∷ 0 ∷ 32 ∷ 0 ∷ 0 ∷ 8 ∷ 0 ∷ 57 ∷ 80 ∷ 50 ∷ 48 ∷ 48 ∷ 48 ∷ 46 ∷ 76 ∷ 9 ∷ [])
+    × (framePast 100 65535 (shows (layoutT 100) (57 ∷ 80 ∷ 50 ∷ 48 ∷ 48 ∷ 48 ∷ 46 ∷ 76 ∷ []) (val 8192 ∷ span 0 8 ∷ [])) (0 ∷ 0 ∷ 0 ∷ 0 ∷ 0 ∷ 0 ∷ 0 ∷ 0 ∷ 0 ∷ 0 ∷ 0 ∷ 0 ∷ 0 ∷ 0 ∷ 0 ∷ 0 ∷ 0 ∷ 0 ∷ 0 ∷ 0 ∷ 0 ∷ 9 ∷ []) ≡ At 21)
+unfolding fromLE toLE char chars utf8 noZero stringBytes itemBytes itemsBytes showSpan showString show shows putAt pastPut frameBytes frameOut framePast
+a-written = (refl, refl)

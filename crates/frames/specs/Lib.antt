@@ -6,3 +6,7 @@ pub mod WritingLaws
 pub mod Examples
 pub mod Local
 pub mod One
+pub mod Tables
+pub mod TableLaws
+pub mod Qids
+pub mod QidLaws

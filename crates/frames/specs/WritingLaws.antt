@@ -3,8 +3,8 @@ use Prim.Native.Nat.{ℕ, _+_, _≤_, _<_}
 use native.Mathlib.Omega.{arith}
 use mathlib.Core.Path.{_≡_, refl, sym, ap, _∙_}
 use mathlib.Core.Bool.{Bool, true, false, cond}
-use mathlib.Core.List.{List, [], _++_, append-assoc}
-use lib.ListN.{length, take, drop, length-append, length-drop}
+use mathlib.Core.List.{List, [], _++_, append-assoc, append-nil}
+use lib.ListN.{length, take, drop, length-append, length-drop, take-append-drop}
 use lib.Seq.{length-take-le, drop-at}
 use lib.Dec.{leb, ltb}
 use borrow.Author.Tests.{le-leb, lt-leb, lt-ltb, le-ltb, ltb-true}
@@ -28,7 +28,7 @@ use Rattle.requests.specs.declared.Tbody.the-variants as M
 use Rattle.frames.specs.Views.{TbodyWritten}
 use Rattle.frames.specs.Writing.{headBytes, frameBytes, frameOut, framePast, FrameWritten, headOut, HeadPut}
 
-head-length : (n ty tag : ℕ) → length (headBytes n ty tag) ≡ 7
+pub head-length : (n ty tag : ℕ) → length (headBytes n ty tag) ≡ 7
 head-length n ty tag = simp (length-append, length-toLE)
 
 -- ---- the header
@@ -59,19 +59,25 @@ in-front o hd bs h l =
     let g : drop 7 (take 7 o ++ bs ++ d) ≡ bs ++ d = ap (drop 7) (append-assoc (take 7 o) bs d) ∙ drop-at (take 7 o) (bs ++ d) 7 (length-take-le 7 o (omega arith)) in
     ap (λ n. hd ++ drop n (over o 7 bs)) e ∙ ap (λ (x : List ℕ). hd ++ x) g ∙ sym (append-assoc hd bs d) ∙ ap (λ n. hd ++ bs ++ drop n o) f
 
-put-fits : (bs o : List ℕ) (a : ℕ) → a + length bs ≤ length o → putAt bs o (At a) ≡ over o a bs
+pub put-fits : (bs o : List ℕ) (a : ℕ) → a + length bs ≤ length o → putAt bs o (At a) ≡ over o a bs
 unfolding putAt
 put-fits bs o a h = rw (le-leb (a + length bs) (length o) h)
 
-put-full : (bs o : List ℕ) (a : ℕ) → length o < a + length bs → (putAt bs o (At a) ≡ o) × (pastPut bs o (At a) ≡ Refused R.NoRoom)
+pub put-full : (bs o : List ℕ) (a : ℕ) → length o < a + length bs → (putAt bs o (At a) ≡ o) × (pastPut bs o (At a) ≡ Refused R.NoRoom)
 unfolding putAt pastPut
 put-full bs o a h = let f = lt-leb (a + length bs) (length o) h in (rw f, rw f)
 
-past-fits : (bs o : List ℕ) (a : ℕ) → a + length bs ≤ length o → pastPut bs o (At a) ≡ At (a + length bs)
+pub past-fits : (bs o : List ℕ) (a : ℕ) → a + length bs ≤ length o → pastPut bs o (At a) ≡ At (a + length bs)
 unfolding pastPut
 past-fits bs o a h = rw (le-leb (a + length bs) (length o) h)
 
-frame-length : (ty tag : ℕ) (is : List Item) → length (frameBytes ty tag is) ≡ 7 + length (itemsBytes is)
+pub put-over : (o : List ℕ) (a : ℕ) (bs : List ℕ) → a + length bs ≤ length o → Put bs o (At a) (over o a bs) (At (a + length bs))
+put-over o a bs h = record { bytes = sym (put-fits bs o a h); next = sym (past-fits bs o a h) }
+
+pub over-none : (o : List ℕ) (a : ℕ) → a ≤ length o → o ≡ over o a []
+over-none o a h = sym (ap (λ n. take a o ++ [] ++ drop n o) (let e : a + 0 ≡ a = omega arith in e) ∙ ap (λ (x : List ℕ). x ++ drop a o) (append-nil (take a o)) ∙ take-append-drop a o)
+
+pub frame-length : (ty tag : ℕ) (is : List Item) → length (frameBytes ty tag is) ≡ 7 + length (itemsBytes is)
 unfolding frameBytes
 frame-length ty tag is = length-append (headBytes (7 + length (itemsBytes is)) ty tag) (itemsBytes is) ∙ ap (λ n. n + length (itemsBytes is)) (head-length (7 + length (itemsBytes is)) ty tag)
 

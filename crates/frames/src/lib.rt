@@ -1,5 +1,7 @@
 // One frame: the header, and both directions read and written.
 
+pub mod tables;
+
 use messages::ids::Tag;
 use numbers::Place;
 use numbers::Refusal;
