@@ -1,8 +1,6 @@
 // The limits of reading, and what a writer refuses though it has room: numbers by document 01, "Refusal numbers".
 
 use crate::bodies;
-use crate::tally;
-use crate::tally::Tally;
 use fields::Part;
 use messages::files::Rread;
 use messages::ids::Fid;
@@ -13,6 +11,7 @@ use numbers::Place;
 use replies::Rmessage;
 use requests::Tmessage;
 use strings::Span;
+use tally::Tally;
 
 fn refused(t: Tally, p: Place, want: u8, out: &[u8], text: &[u8]) -> Tally {
     let kept = [0xeeu8; 48];

@@ -5,7 +5,6 @@ mod bodies;
 mod limits;
 mod rows;
 mod tables;
-mod tally;
 mod values;
 mod walk;
 

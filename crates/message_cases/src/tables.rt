@@ -2,10 +2,9 @@
 // two bytes of a number: the high digit is the number's place in the body, the low digit counts its bytes down, so that `14 13 12 11` is
 // 0x11121314, the second.
 
-use crate::tally;
-use crate::tally::Tally;
 use crate::walk;
 use crate::walk::Asked;
+use tally::Tally;
 
 // An empty reply, of which the tables have ten, ends at its colon.
 fn sessions(all: Tally, asked: Asked, name: &[u8]) -> Tally {

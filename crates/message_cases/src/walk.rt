@@ -3,8 +3,7 @@
 use crate::bodies;
 use crate::rows;
 use crate::rows::Row;
-use crate::tally;
-use crate::tally::Tally;
+use tally::Tally;
 
 // What is asked of each row; or of each number, where the table has a character for each of the 256.
 pub enum Asked {
