@@ -25,7 +25,7 @@ abbrev pub Nots : Type 0 → List Row → ℕ → Type 0
 Nots N [] ty = N
 Nots N (row k l ∷ rs) ty = Nots (N × (ty ≡ k → ⊥)) rs ty
 
-no-row : (rs : List Row) (N : Type 0) (ty : ℕ) → Nots N rs ty → (lookup rs ty ≡ none) × N
+pub no-row : (rs : List Row) (N : Type 0) (ty : ℕ) → Nots N rs ty → (lookup rs ty ≡ none) × N
 no-row [] N ty h = (refl, h)
 no-row (row k l ∷ rs) N ty h =
     let r = no-row rs (N × (ty ≡ k → ⊥)) ty h in (rw (ne-eqb k ty (λ e. r .1 .1 (sym e)), lookup) (r .0), r .1 .0)

@@ -1,7 +1,8 @@
 //! Stands in for the derive macro `P9WireFormat`, which is not in the text given.
 //!
 //! It reads and writes the fields in declared order. It also implements our own `Show` and
-//! `Record`, because the seller's `Debug` prints data as a mere count.
+//! `Record`, because the seller's `Debug` prints data as a mere count; and `Draw` and `Flat`, to
+//! make records to try and to take them apart.
 
 use proc_macro::{Delimiter, TokenStream, TokenTree};
 
@@ -13,7 +14,7 @@ struct Record {
 #[proc_macro_derive(P9WireFormat)]
 pub fn p9_wire_format(input: TokenStream) -> TokenStream {
     let code = match record(input) {
-        Some(record) => wire_format(&record) + &show(&record),
+        Some(record) => wire_format(&record) + &show(&record) + &draw(&record) + &flat(&record),
         None => "compile_error!(\"this stand-in knows structs with named fields only\");".into(),
     };
     code.parse().expect("the derived text is Rust")
@@ -92,6 +93,33 @@ fn show(Record { name, fields }: &Record) -> String {
         }}
         impl crate::show::Record for {name} {{
             const NAME: &'static str = {name:?};
+        }}
+        "
+    )
+}
+
+/// In declared order too, so that a seed gives the same records for as long as the fields stay.
+fn draw(Record { name, fields }: &Record) -> String {
+    let draws: String = fields
+        .iter()
+        .map(|field| format!("{field}: crate::draw::Draw::draw(draws), "))
+        .collect();
+    format!(
+        "impl crate::draw::Draw for {name} {{
+            fn draw(draws: &mut crate::draw::Draws) -> Self {{ Self {{ {draws} }} }}
+        }}
+        "
+    )
+}
+
+fn flat(Record { name, fields }: &Record) -> String {
+    let flats: String = fields
+        .iter()
+        .map(|field| format!("crate::flat::Flat::flat(&self.{field}, values); "))
+        .collect();
+    format!(
+        "impl crate::flat::Flat for {name} {{
+            fn flat<'a>(&'a self, values: &mut Vec<crate::flat::Value<'a>>) {{ {flats} }}
         }}
         "
     )

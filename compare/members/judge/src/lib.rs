@@ -1,6 +1,7 @@
 //! Asks the seller's Rust for its answer to a frame, as a value that other programs can compare.
 
+pub mod cases;
 pub mod refusal;
 pub mod verdict;
 
-pub use verdict::{judge, quietly, Accepted, Direction, Verdict};
+pub use verdict::{judge, quietly, written, Accepted, Direction, Tagged, Verdict};

@@ -1,7 +1,9 @@
 //! `compare/oracle` builds and runs this; see its head for the usage.
 
+mod answers;
 mod facts;
 mod input;
+mod questions;
 
 use std::env;
 use std::io::{self, BufRead, BufWriter, Write};
@@ -9,7 +11,8 @@ use std::process::ExitCode;
 
 use judge::judge;
 
-const USAGE: &str = "usage: oracle [--debug] T|R HEX.. | lines | kinds | leaves | limit | wrap";
+const USAGE: &str = "usage: oracle [--debug] T|R HEX.. | lines | questions SEED | answers | \
+    kinds | leaves | limit | wrap";
 
 /// Why there is no answer, in one line; `None` where it has been said already.
 type Outcome = Result<(), Option<String>>;
@@ -32,7 +35,9 @@ fn main() -> ExitCode {
 fn answer(words: &[&str]) -> Outcome {
     match words {
         [] => Err(Some(USAGE.into())),
-        ["lines"] => lines(),
+        ["lines"] => lines(line),
+        ["questions", seed] => questions(seed),
+        ["answers"] => lines(listed),
         ["kinds"] => say(&facts::kinds()),
         ["leaves"] => say(&facts::leaves()),
         ["limit"] => say(&facts::limit()),
@@ -57,14 +62,48 @@ fn say(answers: &[String]) -> Outcome {
     Ok(())
 }
 
+/// The questions of crates/oracle_cases.
+fn questions(seed: &str) -> Outcome {
+    let seed = seed
+        .parse()
+        .map_err(|error| format!("the seed is a number: {error}"))?;
+    let list = questions::list(seed);
+    say(&list.lines)?;
+    let known = list.known;
+    eprintln!("oracle: left out {known} replies of size 0 to 3, see docs/DIFFERENCES.md");
+    Ok(())
+}
+
+fn line(text: &str) -> Result<String, String> {
+    let (direction, bytes) = input::line(text)?;
+    Ok(judge(direction, &bytes).to_string())
+}
+
+/// A question of crates/oracle_cases, answered in that program's words.
+fn listed(text: &str) -> Result<String, String> {
+    let counted = |count: &str| {
+        count
+            .parse()
+            .map_err(|error| format!("the count is a number: {error}"))
+    };
+    if let Some(count) = text.strip_prefix("S ") {
+        return Ok(answers::letters(counted(count)?));
+    }
+    if let Some(count) = text.strip_prefix("W ") {
+        return Ok(answers::names(counted(count)?));
+    }
+    let (direction, bytes) = input::line(text)?;
+    Ok(answers::answer(direction, &bytes))
+}
+
 /// Answer n belongs to line n, so a malformed line is answered as well.
-fn lines() -> Outcome {
+fn lines(answer: fn(&str) -> Result<String, String>) -> Outcome {
     let mut out = BufWriter::new(io::stdout().lock());
     let mut malformed = false;
     for (place, line) in io::stdin().lock().split(b'\n').enumerate() {
         let line = line.map_err(|error| format!("cannot read standard input: {error}"))?;
-        let answer = match input::line(&String::from_utf8_lossy(&line)) {
-            Ok((direction, bytes)) => judge(direction, &bytes).to_string(),
+        let answer = match answer(&String::from_utf8_lossy(&line)) {
+            Ok(answer) => answer,
             Err(why) => {
                 eprintln!("oracle: line {}: {why}", place + 1);
                 malformed = true;

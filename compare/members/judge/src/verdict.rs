@@ -20,8 +20,20 @@ pub enum Direction {
 #[derive(Debug)]
 pub enum Verdict {
     Accepted(Accepted),
-    Refused { tag: Option<u16>, error: io::Error },
-    Panicked { text: String },
+    Refused {
+        tagged: Option<Tagged>,
+        error: io::Error,
+    },
+    Panicked {
+        text: String,
+    },
+}
+
+/// A request whose body is refused is a frame all the same, and `encode` takes it.
+#[derive(Debug)]
+pub struct Tagged {
+    pub tag: u16,
+    pub written: io::Result<Vec<u8>>,
 }
 
 #[derive(Debug)]
@@ -45,26 +57,18 @@ pub fn judge(direction: Direction, bytes: &[u8]) -> Verdict {
 fn read_t(bytes: &[u8]) -> Verdict {
     let mut rest = bytes;
     match Tframe::decode(&mut rest) {
-        Err(error) => Verdict::Refused { tag: None, error },
-        Ok(Tframe {
-            tag,
-            msg: Err(error),
-        }) => Verdict::Refused {
-            tag: Some(tag),
-            error,
+        Err(error) => headless(error),
+        Ok(frame) => match &frame.msg {
+            Ok(msg) => accepted(bytes, rest, frame.tag, shown(msg), &frame),
+            Err(_) => tagged(frame),
         },
-        Ok(Tframe { tag, msg: Ok(msg) }) => {
-            let record = shown(&msg);
-            let frame = Tframe { tag, msg: Ok(msg) };
-            accepted(bytes, rest, tag, record, &frame)
-        }
     }
 }
 
 fn read_r(bytes: &[u8]) -> Verdict {
     let mut rest = bytes;
     match Rframe::decode(&mut rest) {
-        Err(error) => Verdict::Refused { tag: None, error },
+        Err(error) => headless(error),
         Ok(frame) => accepted(bytes, rest, frame.tag, shown(&frame.msg), &frame),
     }
 }
@@ -76,23 +80,43 @@ fn accepted(
     record: String,
     frame: &impl WireFormat,
 ) -> Verdict {
-    let mut out = Vec::new();
-    let written = frame.encode(&mut out).map(|()| out);
     Verdict::Accepted(Accepted {
         tag,
         used: bytes.len() - rest.len(),
         ty: bytes[4],
         record,
-        written,
+        written: written(frame),
     })
+}
+
+fn headless(error: io::Error) -> Verdict {
+    Verdict::Refused {
+        tagged: None,
+        error,
+    }
+}
+
+fn tagged(frame: Tframe) -> Verdict {
+    let (tag, written) = (frame.tag, written(&frame));
+    Verdict::Refused {
+        tagged: Some(Tagged { tag, written }),
+        error: frame.msg.expect_err("the message is a refusal"),
+    }
+}
+
+pub fn written(frame: &impl WireFormat) -> io::Result<Vec<u8>> {
+    let mut out = Vec::new();
+    frame.encode(&mut out).map(|()| out)
 }
 
 impl fmt::Display for Verdict {
     fn fmt(&self, f: &mut fmt::Formatter) -> fmt::Result {
         match self {
             Verdict::Accepted(accepted) => accepted.fmt(f),
-            Verdict::Refused { tag, error } => {
-                let tag = tag.map_or("-".into(), |tag| tag.to_string());
+            Verdict::Refused { tagged, error } => {
+                let tag = tagged
+                    .as_ref()
+                    .map_or("-".into(), |tagged| tagged.tag.to_string());
                 write!(f, "refused {} tag={tag} {}", digits(error), told_by(error))
             }
             Verdict::Panicked { text } => write!(f, "panicked text={text:?}"),

@@ -1,5 +1,10 @@
 //! The seller's frames, built from the seller's own text, for comparing against.
 
+#[macro_use]
+mod variants;
+
+pub mod draw;
+pub mod flat;
 pub mod show;
 
 /// The seller's text names this module by its path in the crate.

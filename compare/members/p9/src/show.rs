@@ -91,7 +91,6 @@ impl<T: Show> Show for Vec<T> {
     }
 }
 
-/// The seller's message enums don't derive, and some replies hold no record to take a name from.
 macro_rules! show_message {
     ($message:ident, full: $($full:ident)*, empty: $($empty:ident $name:literal)*) => {
         impl Show for $message {
@@ -105,17 +104,5 @@ macro_rules! show_message {
     };
 }
 
-show_message!(Tmessage,
-    full: Statfs Lopen Lcreate Symlink Mknod Rename Readlink GetAttr SetAttr XattrWalk XattrCreate
-        Readdir Fsync Lock GetLock Link Mkdir RenameAt UnlinkAt Version Auth Attach Flush Walk Read
-        Write Clunk Remove,
-    empty:
-);
-
-show_message!(Rmessage,
-    full: Lerror Statfs Lopen Lcreate Symlink Mknod Readlink GetAttr XattrWalk Readdir Lock GetLock
-        Mkdir Version Auth Attach Walk Read Write,
-    empty: Rename "Rrename" SetAttr "Rsetattr" XattrCreate "Rxattrcreate" Fsync "Rfsync"
-        Link "Rlink" RenameAt "Rrenameat" UnlinkAt "Runlinkat" Flush "Rflush" Clunk "Rclunk"
-        Remove "Rremove"
-);
+for_tmessage!(show_message);
+for_rmessage!(show_message);

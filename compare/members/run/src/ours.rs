@@ -1,0 +1,131 @@
+//! The proved library, over its C boundary.
+
+use judge::Direction;
+
+/// An answer of either direction. A request has 10 values and a reply 22; what is behind them is 0.
+#[derive(Clone, Debug, Default, PartialEq, Eq)]
+pub struct Flat {
+    pub refusal: u8,
+    pub ty: u8,
+    pub tag: u16,
+    pub tagged: bool,
+    pub used: usize,
+    pub values: [u64; 22],
+}
+
+#[repr(C)]
+struct FlatT {
+    refusal: u8,
+    ty: u8,
+    tag: u16,
+    tagged: bool,
+    used: usize,
+    values: [u64; 10],
+}
+
+#[repr(C)]
+struct FlatR {
+    refusal: u8,
+    ty: u8,
+    tag: u16,
+    used: usize,
+    values: [u64; 22],
+}
+
+#[repr(C)]
+#[derive(Clone, Copy, Debug, PartialEq, Eq)]
+pub struct Wrote {
+    pub refusal: u8,
+    pub len: usize,
+}
+
+extern "C" {
+    fn sheafsledge_read_tframe(bytes: *const u8, count: usize) -> FlatT;
+    fn sheafsledge_read_rframe(bytes: *const u8, count: usize) -> FlatR;
+    fn sheafsledge_write_tframe(
+        out: *mut u8,
+        room: usize,
+        lent: *const u8,
+        count: usize,
+        frame: FlatT,
+    ) -> Wrote;
+    fn sheafsledge_write_rframe(
+        out: *mut u8,
+        room: usize,
+        lent: *const u8,
+        count: usize,
+        frame: FlatR,
+    ) -> Wrote;
+}
+
+pub fn read(direction: Direction, bytes: &[u8]) -> Flat {
+    let (start, count) = (bytes.as_ptr(), bytes.len());
+    // SAFETY: the pointer and the count are a slice's, which the library reads and does not keep.
+    match direction {
+        Direction::T => unsafe { sheafsledge_read_tframe(start, count) }.into(),
+        Direction::R => unsafe { sheafsledge_read_rframe(start, count) }.into(),
+    }
+}
+
+pub fn write(direction: Direction, out: &mut [u8], lent: &[u8], frame: &Flat) -> Wrote {
+    let (to, room) = (out.as_mut_ptr(), out.len());
+    let (from, count) = (lent.as_ptr(), lent.len());
+    // SAFETY: as in reading; the output is borrowed alone, so it overlaps nothing.
+    match direction {
+        Direction::T => unsafe { sheafsledge_write_tframe(to, room, from, count, frame.into()) },
+        Direction::R => unsafe { sheafsledge_write_rframe(to, room, from, count, frame.into()) },
+    }
+}
+
+impl From<FlatT> for Flat {
+    fn from(frame: FlatT) -> Self {
+        let mut values = [0; 22];
+        values[..10].copy_from_slice(&frame.values);
+        Self {
+            refusal: frame.refusal,
+            ty: frame.ty,
+            tag: frame.tag,
+            tagged: frame.tagged,
+            used: frame.used,
+            values,
+        }
+    }
+}
+
+impl From<FlatR> for Flat {
+    fn from(frame: FlatR) -> Self {
+        Self {
+            refusal: frame.refusal,
+            ty: frame.ty,
+            tag: frame.tag,
+            tagged: false,
+            used: frame.used,
+            values: frame.values,
+        }
+    }
+}
+
+impl From<&Flat> for FlatT {
+    fn from(frame: &Flat) -> Self {
+        Self {
+            refusal: frame.refusal,
+            ty: frame.ty,
+            tag: frame.tag,
+            tagged: frame.tagged,
+            used: frame.used,
+            values: *frame.values.first_chunk().expect("10 of 22"),
+        }
+    }
+}
+
+impl From<&Flat> for FlatR {
+    fn from(frame: &Flat) -> Self {
+        Self {
+            refusal: frame.refusal,
+            ty: frame.ty,
+            tag: frame.tag,
+            used: frame.used,
+            values: frame.values,
+        }
+    }
+}

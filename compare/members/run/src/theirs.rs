@@ -1,0 +1,121 @@
+//! The seller's Rust, its answer put as the library puts its own.
+
+use std::io;
+
+use judge::refusal::number;
+use judge::{written, Direction};
+use p9::flat::Value;
+use p9::protocol::{Rframe, Tframe, WireFormat};
+
+use crate::ours::Flat;
+use crate::pieces::{in_a_frame, shown, values, Piece};
+
+/// The frame written again, or the number of the refusal.
+pub type Again = Result<Vec<u8>, u8>;
+
+#[derive(PartialEq, Eq)]
+pub struct Theirs {
+    pub flat: Flat,
+    /// Whether the record's strings, data and elements are what the spans show.
+    pub shown: bool,
+    /// `None` where there is no frame to write.
+    pub again: Option<Again>,
+}
+
+pub fn read(direction: Direction, bytes: &[u8]) -> Theirs {
+    let mut rest = bytes;
+    match direction {
+        Direction::T => match Tframe::decode(&mut rest) {
+            Err(error) => refused(&error),
+            Ok(frame) => match &frame.msg {
+                Err(error) => tagged(error, &frame),
+                Ok(msg) => {
+                    let theirs = accepted(bytes, rest, &listed(msg), &frame);
+                    with_tag(theirs, frame.tag, true)
+                }
+            },
+        },
+        Direction::R => match Rframe::decode(&mut rest) {
+            Err(error) => refused(&error),
+            Ok(frame) => {
+                let theirs = accepted(bytes, rest, &listed(&frame.msg), &frame);
+                with_tag(theirs, frame.tag, false)
+            }
+        },
+    }
+}
+
+/// The values of a frame that the seller wrote.
+pub fn with_values<A>(
+    direction: Direction,
+    mut frame: &[u8],
+    then: impl FnOnce(&[Value]) -> A,
+) -> A {
+    const SOUND: &str = "what the seller wrote the seller reads";
+    match direction {
+        Direction::T => {
+            let read = Tframe::decode(&mut frame).and_then(|frame| frame.msg);
+            then(&listed(&read.expect(SOUND)))
+        }
+        Direction::R => {
+            let read = Rframe::decode(&mut frame);
+            then(&listed(&read.expect(SOUND).msg))
+        }
+    }
+}
+
+fn listed(msg: &impl p9::flat::Flat) -> Vec<Value<'_>> {
+    let mut values = Vec::new();
+    msg.flat(&mut values);
+    values
+}
+
+/// A number that is none of the paper's equals none of ours.
+fn refusal(error: &io::Error) -> u8 {
+    number(error).unwrap_or(u8::MAX)
+}
+
+fn refused(error: &io::Error) -> Theirs {
+    Theirs {
+        flat: Flat {
+            refusal: refusal(error),
+            ..Flat::default()
+        },
+        shown: true,
+        again: None,
+    }
+}
+
+fn again(frame: &impl WireFormat) -> Again {
+    written(frame).map_err(|error| refusal(&error))
+}
+
+fn tagged(error: &io::Error, frame: &Tframe) -> Theirs {
+    let theirs = Theirs {
+        again: Some(again(frame)),
+        ..refused(error)
+    };
+    with_tag(theirs, frame.tag, true)
+}
+
+fn with_tag(mut theirs: Theirs, tag: u16, tagged: bool) -> Theirs {
+    theirs.flat.tag = tag;
+    theirs.flat.tagged = tagged;
+    theirs
+}
+
+fn accepted(bytes: &[u8], rest: &[u8], record: &[Value], frame: &impl WireFormat) -> Theirs {
+    let pieces: Vec<Piece> = record.iter().map(|value| Piece::from(*value)).collect();
+    let places = in_a_frame(&pieces);
+    let again = again(frame);
+    Theirs {
+        flat: Flat {
+            ty: again.as_ref().map_or(0, |frame| frame[4]),
+            used: bytes.len() - rest.len(),
+            values: values(&pieces, &places),
+            ..Flat::default()
+        },
+        shown: shown(&pieces, &places, bytes),
+        again: Some(again),
+    }
+}

@@ -1,0 +1,2 @@
+pub mod Flats
+pub mod WritingLaws

@@ -1,0 +1,69 @@
+-- A record's values one behind the other, and a layout's values taken from such a run of numbers.
+use Prim.Native.Nat.{ℕ, zero, suc, _+_, _^_, _%_, max}
+use mathlib.Core.Bool.{cond}
+use mathlib.Core.List.{List, [], _∷_, _++_}
+use mathlib.Core.Option.{Option, none, some}
+use lib.ListN.{getD}
+use lib.Dec.{ltb}
+use Rattle.fields.specs.Layouts.{num, str, dat, strs, quids, Layout}
+use Rattle.fields.specs.Values.{Value, val, span, part}
+use Rattle.messages.specs.Tables.{Row, row}
+use Rattle.messages.specs.Bodies.{Answer, accepted, refused}
+use Rattle.numbers.specs.declared.Refusal.the-variants as R
+
+-- ---- out of the values
+
+abbrev pub numbersOf : Value → List ℕ
+numbersOf (val n) = n ∷ []
+numbersOf (span x y) = x ∷ y ∷ []
+numbersOf (part c x y) = c ∷ x ∷ y ∷ []
+
+abbrev pub flatValues : List Value → List ℕ
+flatValues [] = []
+flatValues (v ∷ vs) = numbersOf v ++ flatValues vs
+
+-- the first n, with 0 behind them as far as there are fewer
+abbrev pub padded : ℕ → List ℕ → List ℕ
+padded zero ns = []
+padded (suc n) [] = 0 ∷ padded n []
+padded (suc n) (x ∷ ns) = x ∷ padded n ns
+
+abbrev pub flat : ℕ → List Value → List ℕ
+flat n vs = padded n (flatValues vs)
+
+-- ---- and back
+
+-- the lowest w bytes of a number of eight
+abbrev pub low : ℕ → ℕ → ℕ
+low w n = cond (ltb w 8) (n % 256 ^ w) n
+
+-- the values of a layout, of the numbers from the i-th on
+abbrev pub valuesFrom : ℕ → Layout → List ℕ → List Value
+valuesFrom i [] ns = []
+valuesFrom i (num w ∷ fs) ns = val (low w (getD ns i 0)) ∷ valuesFrom (i + 1) fs ns
+valuesFrom i (str ∷ fs) ns = span (getD ns i 0) (getD ns (i + 1) 0) ∷ valuesFrom (i + 2) fs ns
+valuesFrom i (dat ∷ fs) ns = span (getD ns i 0) (getD ns (i + 1) 0) ∷ valuesFrom (i + 2) fs ns
+valuesFrom i (strs ∷ fs) ns = part (low 2 (getD ns i 0)) (getD ns (i + 1) 0) (getD ns (i + 2) 0) ∷ valuesFrom (i + 3) fs ns
+valuesFrom i (quids ∷ fs) ns = part (low 2 (getD ns i 0)) (getD ns (i + 1) 0) (getD ns (i + 2) 0) ∷ valuesFrom (i + 3) fs ns
+
+abbrev pub fieldValues : Layout → List ℕ → List Value
+fieldValues l ns = valuesFrom 0 l ns
+
+-- the body of a type put together from numbers, by the layout of the type's row, if it has one
+abbrev pub bodyFrom : Option Layout → ℕ → List ℕ → ℕ → Answer
+bodyFrom none ty ns used = refused R.UnknownType
+bodyFrom (some l) ty ns used = accepted ty (fieldValues l ns) used
+
+-- ---- how many numbers there are
+
+abbrev pub numbersIn : Layout → ℕ
+numbersIn [] = 0
+numbersIn (num w ∷ fs) = 1 + numbersIn fs
+numbersIn (str ∷ fs) = 2 + numbersIn fs
+numbersIn (dat ∷ fs) = 2 + numbersIn fs
+numbersIn (strs ∷ fs) = 3 + numbersIn fs
+numbersIn (quids ∷ fs) = 3 + numbersIn fs
+
+abbrev pub widest : List Row → ℕ
+widest [] = 0
+widest (row k l ∷ rs) = max (numbersIn l) (widest rs)

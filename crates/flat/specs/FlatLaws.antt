@@ -1,0 +1,29 @@
+-- How many values a direction needs; what `low` keeps; and the two ways of a body put together: a row of the table, and a number that has none.
+use Prim.Native.Nat.{ℕ, _^_, _%_, _≤_, _<_}
+use native.Mathlib.Nat.{mod-eq-of-lt}
+use native.Mathlib.Omega.{arith}
+use mathlib.Core.Path.{_≡_, refl, sym, ap}
+use mathlib.Core.List.{List}
+use borrow.Author.Tests.{lt-ltb, le-ltb}
+use Rattle.numbers.specs.ReadingLaws.{or-else}
+use Rattle.numbers.specs.declared.Refusal.the-variants as R
+use Rattle.fields.specs.Values.{Value}
+use Rattle.messages.specs.Tables.{Row, lookup, tableT, tableR}
+use Rattle.messages.specs.Bodies.{accepted, refused}
+use Rattle.messages.specs.BodyLaws.{Nots, no-row}
+use Rattle.flat.specs.Flat.{low, bodyFrom, widest}
+
+-- 10 values hold any request and 22 any reply, and no fewer would
+pub enough : (widest tableT ≡ 10) × (widest tableR ≡ 22)
+enough = (refl, refl)
+
+-- of a number of eight bytes the lowest w are its rest by 256 ^ w
+pub low-is : (w n : ℕ) → w ≤ 8 → n < 256 ^ 8 → low w n ≡ n % 256 ^ w
+low-is w n h l =
+    or-else 8 w (λ g. let e : w ≡ 8 = omega arith in rw (le-ltb w 8 g, e) (sym (mod-eq-of-lt l))) (λ g. rw (lt-ltb w 8 g))
+
+pub known-from : {vs ws : List Value} {used : ℕ} (ty : ℕ) → vs ≡ ws → accepted ty vs used ≡ accepted ty ws used
+known-from {used = used} ty e = ap (λ vs. accepted ty vs used) e
+
+pub unknown-from : (rs : List Row) (ty : ℕ) (ns : List ℕ) (used : ℕ) → Nots (Unit {0}) rs ty → refused R.UnknownType ≡ bodyFrom (lookup rs ty) ty ns used
+unknown-from rs ty ns used h = rw (no-row rs (Unit {0}) ty h .0)

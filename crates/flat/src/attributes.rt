@@ -1,0 +1,260 @@
+// The records of attributes, laid flat and put together.
+
+use crate::U8;
+use crate::U32;
+use messages::attributes::Rgetattr;
+use messages::attributes::Rstatfs;
+use messages::attributes::Rxattrwalk;
+use messages::attributes::Tgetattr;
+use messages::attributes::Tsetattr;
+use messages::attributes::Tstatfs;
+use messages::attributes::Txattrcreate;
+use messages::attributes::Txattrwalk;
+use messages::ids::Fid;
+use messages::ids::Gid;
+use messages::qids::Qid;
+use strings::Span;
+ghost use mathlib.Core.Path.{_≡_};
+ghost use Rattle.messages.specs.Tables.{layoutT, layoutR};
+ghost use Rattle.messages.specs.Records.{tstatfs, rstatfs, tgetattr, rgetattr, tsetattr, txattrwalk, rxattrwalk, txattrcreate};
+ghost use Rattle.flat.specs.Flat.{flat, fieldValues};
+
+pub fn flat_tstatfs(m: Tstatfs) -> [u64; 10]
+    ensures { λ r. ⌜ r ≡ flat 10 (tstatfs m) ⌝ }
+{
+    let fid = m.fid;
+    let mut v = [0u64; 10];
+    v[0] = fid.0 as u64;
+    v
+}
+
+pub fn tstatfs_of(v: [u64; 10]) -> Tstatfs
+    ensures { λ r. ⌜ tstatfs r ≡ fieldValues (layoutT 8) v ⌝ }
+{
+    let fid = Fid((v[0] % U32) as u32);
+    Tstatfs { fid }
+}
+
+pub fn flat_rstatfs(m: Rstatfs) -> [u64; 22]
+    ensures { λ r. ⌜ r ≡ flat 22 (rstatfs m) ⌝ }
+{
+    let mut v = [0u64; 22];
+    v[0] = m.ty as u64;
+    v[1] = m.bsize as u64;
+    v[2] = m.blocks;
+    v[3] = m.bfree;
+    v[4] = m.bavail;
+    v[5] = m.files;
+    v[6] = m.ffree;
+    v[7] = m.fsid;
+    v[8] = m.namelen as u64;
+    v
+}
+
+pub fn rstatfs_of(v: [u64; 22]) -> Rstatfs
+    ensures { λ r. ⌜ rstatfs r ≡ fieldValues (layoutR 9) v ⌝ }
+{
+    Rstatfs {
+        ty: (v[0] % U32) as u32,
+        bsize: (v[1] % U32) as u32,
+        blocks: v[2],
+        bfree: v[3],
+        bavail: v[4],
+        files: v[5],
+        ffree: v[6],
+        fsid: v[7],
+        namelen: (v[8] % U32) as u32,
+    }
+}
+
+pub fn flat_tgetattr(m: Tgetattr) -> [u64; 10]
+    ensures { λ r. ⌜ r ≡ flat 10 (tgetattr m) ⌝ }
+{
+    let fid = m.fid;
+    let mut v = [0u64; 10];
+    v[0] = fid.0 as u64;
+    v[1] = m.request_mask;
+    v
+}
+
+pub fn tgetattr_of(v: [u64; 10]) -> Tgetattr
+    ensures { λ r. ⌜ tgetattr r ≡ fieldValues (layoutT 24) v ⌝ }
+{
+    let fid = Fid((v[0] % U32) as u32);
+    Tgetattr {
+        fid,
+        request_mask: v[1],
+    }
+}
+
+pub fn flat_rgetattr(m: Rgetattr) -> [u64; 22]
+    ensures { λ r. ⌜ r ≡ flat 22 (rgetattr m) ⌝ }
+{
+    let qid = m.qid;
+    let gid = m.gid;
+    let mut v = [0u64; 22];
+    v[0] = m.valid;
+    v[1] = qid.ty as u64;
+    v[2] = qid.version as u64;
+    v[3] = qid.path;
+    v[4] = m.mode as u64;
+    v[5] = m.uid as u64;
+    v[6] = gid.0 as u64;
+    v[7] = m.nlink;
+    v[8] = m.rdev;
+    v[9] = m.size;
+    v[10] = m.blksize;
+    v[11] = m.blocks;
+    v[12] = m.atime_sec;
+    v[13] = m.atime_nsec;
+    v[14] = m.mtime_sec;
+    v[15] = m.mtime_nsec;
+    v[16] = m.ctime_sec;
+    v[17] = m.ctime_nsec;
+    v[18] = m.btime_sec;
+    v[19] = m.btime_nsec;
+    v[20] = m.gen_;
+    v[21] = m.data_version;
+    v
+}
+
+pub fn rgetattr_of(v: [u64; 22]) -> Rgetattr
+    ensures { λ r. ⌜ rgetattr r ≡ fieldValues (layoutR 25) v ⌝ }
+{
+    let qid = Qid {
+        ty: (v[1] % U8) as u8,
+        version: (v[2] % U32) as u32,
+        path: v[3],
+    };
+    let gid = Gid((v[6] % U32) as u32);
+    Rgetattr {
+        valid: v[0],
+        qid,
+        mode: (v[4] % U32) as u32,
+        uid: (v[5] % U32) as u32,
+        gid,
+        nlink: v[7],
+        rdev: v[8],
+        size: v[9],
+        blksize: v[10],
+        blocks: v[11],
+        atime_sec: v[12],
+        atime_nsec: v[13],
+        mtime_sec: v[14],
+        mtime_nsec: v[15],
+        ctime_sec: v[16],
+        ctime_nsec: v[17],
+        btime_sec: v[18],
+        btime_nsec: v[19],
+        gen_: v[20],
+        data_version: v[21],
+    }
+}
+
+pub fn flat_tsetattr(m: Tsetattr) -> [u64; 10]
+    ensures { λ r. ⌜ r ≡ flat 10 (tsetattr m) ⌝ }
+{
+    let fid = m.fid;
+    let gid = m.gid;
+    let mut v = [0u64; 10];
+    v[0] = fid.0 as u64;
+    v[1] = m.valid as u64;
+    v[2] = m.mode as u64;
+    v[3] = m.uid as u64;
+    v[4] = gid.0 as u64;
+    v[5] = m.size;
+    v[6] = m.atime_sec;
+    v[7] = m.atime_nsec;
+    v[8] = m.mtime_sec;
+    v[9] = m.mtime_nsec;
+    v
+}
+
+pub fn tsetattr_of(v: [u64; 10]) -> Tsetattr
+    ensures { λ r. ⌜ tsetattr r ≡ fieldValues (layoutT 26) v ⌝ }
+{
+    let fid = Fid((v[0] % U32) as u32);
+    let gid = Gid((v[4] % U32) as u32);
+    Tsetattr {
+        fid,
+        valid: (v[1] % U32) as u32,
+        mode: (v[2] % U32) as u32,
+        uid: (v[3] % U32) as u32,
+        gid,
+        size: v[5],
+        atime_sec: v[6],
+        atime_nsec: v[7],
+        mtime_sec: v[8],
+        mtime_nsec: v[9],
+    }
+}
+
+pub fn flat_txattrwalk(m: Txattrwalk) -> [u64; 10]
+    ensures { λ r. ⌜ r ≡ flat 10 (txattrwalk m) ⌝ }
+{
+    let fid = m.fid;
+    let newfid = m.newfid;
+    let name = m.name;
+    let mut v = [0u64; 10];
+    v[0] = fid.0 as u64;
+    v[1] = newfid.0 as u64;
+    v[2] = name.start as u64;
+    v[3] = name.len as u64;
+    v
+}
+
+pub fn txattrwalk_of(v: [u64; 10]) -> Txattrwalk
+    ensures { λ r. ⌜ txattrwalk r ≡ fieldValues (layoutT 30) v ⌝ }
+{
+    let fid = Fid((v[0] % U32) as u32);
+    let newfid = Fid((v[1] % U32) as u32);
+    let name = Span {
+        start: v[2] as usize,
+        len: v[3] as usize,
+    };
+    Txattrwalk { fid, newfid, name }
+}
+
+pub fn flat_rxattrwalk(m: Rxattrwalk) -> [u64; 22]
+    ensures { λ r. ⌜ r ≡ flat 22 (rxattrwalk m) ⌝ }
+{
+    let mut v = [0u64; 22];
+    v[0] = m.size;
+    v
+}
+
+pub fn rxattrwalk_of(v: [u64; 22]) -> Rxattrwalk
+    ensures { λ r. ⌜ rxattrwalk r ≡ fieldValues (layoutR 31) v ⌝ }
+{
+    Rxattrwalk { size: v[0] }
+}
+
+pub fn flat_txattrcreate(m: Txattrcreate) -> [u64; 10]
+    ensures { λ r. ⌜ r ≡ flat 10 (txattrcreate m) ⌝ }
+{
+    let fid = m.fid;
+    let name = m.name;
+    let mut v = [0u64; 10];
+    v[0] = fid.0 as u64;
+    v[1] = name.start as u64;
+    v[2] = name.len as u64;
+    v[3] = m.attr_size;
+    v[4] = m.flags as u64;
+    v
+}
+
+pub fn txattrcreate_of(v: [u64; 10]) -> Txattrcreate
+    ensures { λ r. ⌜ txattrcreate r ≡ fieldValues (layoutT 32) v ⌝ }
+{
+    let fid = Fid((v[0] % U32) as u32);
+    let name = Span {
+        start: v[1] as usize,
+        len: v[2] as usize,
+    };
+    Txattrcreate {
+        fid,
+        name,
+        attr_size: v[3],
+        flags: (v[4] % U32) as u32,
+    }
+}

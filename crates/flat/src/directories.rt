@@ -1,0 +1,394 @@
+// The records of directories, laid flat and put together.
+
+use crate::U8;
+use crate::U32;
+use messages::directories::Rmkdir;
+use messages::directories::Rmknod;
+use messages::directories::Rreaddir;
+use messages::directories::Rreadlink;
+use messages::directories::Rsymlink;
+use messages::directories::Tlink;
+use messages::directories::Tmkdir;
+use messages::directories::Tmknod;
+use messages::directories::Treaddir;
+use messages::directories::Treadlink;
+use messages::directories::Trename;
+use messages::directories::Trenameat;
+use messages::directories::Tsymlink;
+use messages::directories::Tunlinkat;
+use messages::ids::Fid;
+use messages::ids::Gid;
+use messages::qids::Qid;
+use strings::Span;
+ghost use mathlib.Core.Path.{_≡_};
+ghost use Rattle.messages.specs.Tables.{layoutT, layoutR};
+ghost use Rattle.messages.specs.Records.{tsymlink, rsymlink, tmknod, rmknod, trename, treadlink, rreadlink, treaddir, rreaddir, tlink, tmkdir, rmkdir, trenameat, tunlinkat};
+ghost use Rattle.flat.specs.Flat.{flat, fieldValues};
+
+pub fn flat_tsymlink(m: Tsymlink) -> [u64; 10]
+    ensures { λ r. ⌜ r ≡ flat 10 (tsymlink m) ⌝ }
+{
+    let fid = m.fid;
+    let name = m.name;
+    let symtgt = m.symtgt;
+    let gid = m.gid;
+    let mut v = [0u64; 10];
+    v[0] = fid.0 as u64;
+    v[1] = name.start as u64;
+    v[2] = name.len as u64;
+    v[3] = symtgt.start as u64;
+    v[4] = symtgt.len as u64;
+    v[5] = gid.0 as u64;
+    v
+}
+
+pub fn tsymlink_of(v: [u64; 10]) -> Tsymlink
+    ensures { λ r. ⌜ tsymlink r ≡ fieldValues (layoutT 16) v ⌝ }
+{
+    let fid = Fid((v[0] % U32) as u32);
+    let name = Span {
+        start: v[1] as usize,
+        len: v[2] as usize,
+    };
+    let symtgt = Span {
+        start: v[3] as usize,
+        len: v[4] as usize,
+    };
+    let gid = Gid((v[5] % U32) as u32);
+    Tsymlink {
+        fid,
+        name,
+        symtgt,
+        gid,
+    }
+}
+
+pub fn flat_rsymlink(m: Rsymlink) -> [u64; 22]
+    ensures { λ r. ⌜ r ≡ flat 22 (rsymlink m) ⌝ }
+{
+    let qid = m.qid;
+    let mut v = [0u64; 22];
+    v[0] = qid.ty as u64;
+    v[1] = qid.version as u64;
+    v[2] = qid.path;
+    v
+}
+
+pub fn rsymlink_of(v: [u64; 22]) -> Rsymlink
+    ensures { λ r. ⌜ rsymlink r ≡ fieldValues (layoutR 17) v ⌝ }
+{
+    let qid = Qid {
+        ty: (v[0] % U8) as u8,
+        version: (v[1] % U32) as u32,
+        path: v[2],
+    };
+    Rsymlink { qid }
+}
+
+pub fn flat_tmknod(m: Tmknod) -> [u64; 10]
+    ensures { λ r. ⌜ r ≡ flat 10 (tmknod m) ⌝ }
+{
+    let dfid = m.dfid;
+    let name = m.name;
+    let gid = m.gid;
+    let mut v = [0u64; 10];
+    v[0] = dfid.0 as u64;
+    v[1] = name.start as u64;
+    v[2] = name.len as u64;
+    v[3] = m.mode as u64;
+    v[4] = m.major as u64;
+    v[5] = m.minor as u64;
+    v[6] = gid.0 as u64;
+    v
+}
+
+pub fn tmknod_of(v: [u64; 10]) -> Tmknod
+    ensures { λ r. ⌜ tmknod r ≡ fieldValues (layoutT 18) v ⌝ }
+{
+    let dfid = Fid((v[0] % U32) as u32);
+    let name = Span {
+        start: v[1] as usize,
+        len: v[2] as usize,
+    };
+    let gid = Gid((v[6] % U32) as u32);
+    Tmknod {
+        dfid,
+        name,
+        mode: (v[3] % U32) as u32,
+        major: (v[4] % U32) as u32,
+        minor: (v[5] % U32) as u32,
+        gid,
+    }
+}
+
+pub fn flat_rmknod(m: Rmknod) -> [u64; 22]
+    ensures { λ r. ⌜ r ≡ flat 22 (rmknod m) ⌝ }
+{
+    let qid = m.qid;
+    let mut v = [0u64; 22];
+    v[0] = qid.ty as u64;
+    v[1] = qid.version as u64;
+    v[2] = qid.path;
+    v
+}
+
+pub fn rmknod_of(v: [u64; 22]) -> Rmknod
+    ensures { λ r. ⌜ rmknod r ≡ fieldValues (layoutR 19) v ⌝ }
+{
+    let qid = Qid {
+        ty: (v[0] % U8) as u8,
+        version: (v[1] % U32) as u32,
+        path: v[2],
+    };
+    Rmknod { qid }
+}
+
+pub fn flat_trename(m: Trename) -> [u64; 10]
+    ensures { λ r. ⌜ r ≡ flat 10 (trename m) ⌝ }
+{
+    let fid = m.fid;
+    let dfid = m.dfid;
+    let name = m.name;
+    let mut v = [0u64; 10];
+    v[0] = fid.0 as u64;
+    v[1] = dfid.0 as u64;
+    v[2] = name.start as u64;
+    v[3] = name.len as u64;
+    v
+}
+
+pub fn trename_of(v: [u64; 10]) -> Trename
+    ensures { λ r. ⌜ trename r ≡ fieldValues (layoutT 20) v ⌝ }
+{
+    let fid = Fid((v[0] % U32) as u32);
+    let dfid = Fid((v[1] % U32) as u32);
+    let name = Span {
+        start: v[2] as usize,
+        len: v[3] as usize,
+    };
+    Trename { fid, dfid, name }
+}
+
+pub fn flat_treadlink(m: Treadlink) -> [u64; 10]
+    ensures { λ r. ⌜ r ≡ flat 10 (treadlink m) ⌝ }
+{
+    let fid = m.fid;
+    let mut v = [0u64; 10];
+    v[0] = fid.0 as u64;
+    v
+}
+
+pub fn treadlink_of(v: [u64; 10]) -> Treadlink
+    ensures { λ r. ⌜ treadlink r ≡ fieldValues (layoutT 22) v ⌝ }
+{
+    let fid = Fid((v[0] % U32) as u32);
+    Treadlink { fid }
+}
+
+pub fn flat_rreadlink(m: Rreadlink) -> [u64; 22]
+    ensures { λ r. ⌜ r ≡ flat 22 (rreadlink m) ⌝ }
+{
+    let target = m.target;
+    let mut v = [0u64; 22];
+    v[0] = target.start as u64;
+    v[1] = target.len as u64;
+    v
+}
+
+pub fn rreadlink_of(v: [u64; 22]) -> Rreadlink
+    ensures { λ r. ⌜ rreadlink r ≡ fieldValues (layoutR 23) v ⌝ }
+{
+    let target = Span {
+        start: v[0] as usize,
+        len: v[1] as usize,
+    };
+    Rreadlink { target }
+}
+
+pub fn flat_treaddir(m: Treaddir) -> [u64; 10]
+    ensures { λ r. ⌜ r ≡ flat 10 (treaddir m) ⌝ }
+{
+    let fid = m.fid;
+    let mut v = [0u64; 10];
+    v[0] = fid.0 as u64;
+    v[1] = m.offset;
+    v[2] = m.count as u64;
+    v
+}
+
+pub fn treaddir_of(v: [u64; 10]) -> Treaddir
+    ensures { λ r. ⌜ treaddir r ≡ fieldValues (layoutT 40) v ⌝ }
+{
+    let fid = Fid((v[0] % U32) as u32);
+    Treaddir {
+        fid,
+        offset: v[1],
+        count: (v[2] % U32) as u32,
+    }
+}
+
+pub fn flat_rreaddir(m: Rreaddir) -> [u64; 22]
+    ensures { λ r. ⌜ r ≡ flat 22 (rreaddir m) ⌝ }
+{
+    let data = m.data;
+    let mut v = [0u64; 22];
+    v[0] = data.start as u64;
+    v[1] = data.len as u64;
+    v
+}
+
+pub fn rreaddir_of(v: [u64; 22]) -> Rreaddir
+    ensures { λ r. ⌜ rreaddir r ≡ fieldValues (layoutR 41) v ⌝ }
+{
+    let data = Span {
+        start: v[0] as usize,
+        len: v[1] as usize,
+    };
+    Rreaddir { data }
+}
+
+pub fn flat_tlink(m: Tlink) -> [u64; 10]
+    ensures { λ r. ⌜ r ≡ flat 10 (tlink m) ⌝ }
+{
+    let dfid = m.dfid;
+    let fid = m.fid;
+    let name = m.name;
+    let mut v = [0u64; 10];
+    v[0] = dfid.0 as u64;
+    v[1] = fid.0 as u64;
+    v[2] = name.start as u64;
+    v[3] = name.len as u64;
+    v
+}
+
+pub fn tlink_of(v: [u64; 10]) -> Tlink
+    ensures { λ r. ⌜ tlink r ≡ fieldValues (layoutT 70) v ⌝ }
+{
+    let dfid = Fid((v[0] % U32) as u32);
+    let fid = Fid((v[1] % U32) as u32);
+    let name = Span {
+        start: v[2] as usize,
+        len: v[3] as usize,
+    };
+    Tlink { dfid, fid, name }
+}
+
+pub fn flat_tmkdir(m: Tmkdir) -> [u64; 10]
+    ensures { λ r. ⌜ r ≡ flat 10 (tmkdir m) ⌝ }
+{
+    let dfid = m.dfid;
+    let name = m.name;
+    let gid = m.gid;
+    let mut v = [0u64; 10];
+    v[0] = dfid.0 as u64;
+    v[1] = name.start as u64;
+    v[2] = name.len as u64;
+    v[3] = m.mode as u64;
+    v[4] = gid.0 as u64;
+    v
+}
+
+pub fn tmkdir_of(v: [u64; 10]) -> Tmkdir
+    ensures { λ r. ⌜ tmkdir r ≡ fieldValues (layoutT 72) v ⌝ }
+{
+    let dfid = Fid((v[0] % U32) as u32);
+    let name = Span {
+        start: v[1] as usize,
+        len: v[2] as usize,
+    };
+    let gid = Gid((v[4] % U32) as u32);
+    Tmkdir {
+        dfid,
+        name,
+        mode: (v[3] % U32) as u32,
+        gid,
+    }
+}
+
+pub fn flat_rmkdir(m: Rmkdir) -> [u64; 22]
+    ensures { λ r. ⌜ r ≡ flat 22 (rmkdir m) ⌝ }
+{
+    let qid = m.qid;
+    let mut v = [0u64; 22];
+    v[0] = qid.ty as u64;
+    v[1] = qid.version as u64;
+    v[2] = qid.path;
+    v
+}
+
+pub fn rmkdir_of(v: [u64; 22]) -> Rmkdir
+    ensures { λ r. ⌜ rmkdir r ≡ fieldValues (layoutR 73) v ⌝ }
+{
+    let qid = Qid {
+        ty: (v[0] % U8) as u8,
+        version: (v[1] % U32) as u32,
+        path: v[2],
+    };
+    Rmkdir { qid }
+}
+
+pub fn flat_trenameat(m: Trenameat) -> [u64; 10]
+    ensures { λ r. ⌜ r ≡ flat 10 (trenameat m) ⌝ }
+{
+    let olddirfid = m.olddirfid;
+    let oldname = m.oldname;
+    let newdirfid = m.newdirfid;
+    let newname = m.newname;
+    let mut v = [0u64; 10];
+    v[0] = olddirfid.0 as u64;
+    v[1] = oldname.start as u64;
+    v[2] = oldname.len as u64;
+    v[3] = newdirfid.0 as u64;
+    v[4] = newname.start as u64;
+    v[5] = newname.len as u64;
+    v
+}
+
+pub fn trenameat_of(v: [u64; 10]) -> Trenameat
+    ensures { λ r. ⌜ trenameat r ≡ fieldValues (layoutT 74) v ⌝ }
+{
+    let olddirfid = Fid((v[0] % U32) as u32);
+    let oldname = Span {
+        start: v[1] as usize,
+        len: v[2] as usize,
+    };
+    let newdirfid = Fid((v[3] % U32) as u32);
+    let newname = Span {
+        start: v[4] as usize,
+        len: v[5] as usize,
+    };
+    Trenameat {
+        olddirfid,
+        oldname,
+        newdirfid,
+        newname,
+    }
+}
+
+pub fn flat_tunlinkat(m: Tunlinkat) -> [u64; 10]
+    ensures { λ r. ⌜ r ≡ flat 10 (tunlinkat m) ⌝ }
+{
+    let dirfd = m.dirfd;
+    let name = m.name;
+    let mut v = [0u64; 10];
+    v[0] = dirfd.0 as u64;
+    v[1] = name.start as u64;
+    v[2] = name.len as u64;
+    v[3] = m.flags as u64;
+    v
+}
+
+pub fn tunlinkat_of(v: [u64; 10]) -> Tunlinkat
+    ensures { λ r. ⌜ tunlinkat r ≡ fieldValues (layoutT 76) v ⌝ }
+{
+    let dirfd = Fid((v[0] % U32) as u32);
+    let name = Span {
+        start: v[1] as usize,
+        len: v[2] as usize,
+    };
+    Tunlinkat {
+        dirfd,
+        name,
+        flags: (v[3] % U32) as u32,
+    }
+}

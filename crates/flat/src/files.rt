@@ -1,0 +1,250 @@
+// The records of files, laid flat and put together.
+
+use crate::U8;
+use crate::U32;
+use messages::files::Rlcreate;
+use messages::files::Rlopen;
+use messages::files::Rread;
+use messages::files::Rwrite;
+use messages::files::Tfsync;
+use messages::files::Tlcreate;
+use messages::files::Tlopen;
+use messages::files::Tread;
+use messages::files::Tremove;
+use messages::files::Twrite;
+use messages::ids::Fid;
+use messages::ids::Gid;
+use messages::qids::Qid;
+use strings::Span;
+ghost use mathlib.Core.Path.{_≡_};
+ghost use Rattle.messages.specs.Tables.{layoutT, layoutR};
+ghost use Rattle.messages.specs.Records.{tlopen, rlopen, tlcreate, rlcreate, tread, rread, twrite, rwrite, tfsync, tremove};
+ghost use Rattle.flat.specs.Flat.{flat, fieldValues};
+
+pub fn flat_tlopen(m: Tlopen) -> [u64; 10]
+    ensures { λ r. ⌜ r ≡ flat 10 (tlopen m) ⌝ }
+{
+    let fid = m.fid;
+    let mut v = [0u64; 10];
+    v[0] = fid.0 as u64;
+    v[1] = m.flags as u64;
+    v
+}
+
+pub fn tlopen_of(v: [u64; 10]) -> Tlopen
+    ensures { λ r. ⌜ tlopen r ≡ fieldValues (layoutT 12) v ⌝ }
+{
+    let fid = Fid((v[0] % U32) as u32);
+    Tlopen {
+        fid,
+        flags: (v[1] % U32) as u32,
+    }
+}
+
+pub fn flat_rlopen(m: Rlopen) -> [u64; 22]
+    ensures { λ r. ⌜ r ≡ flat 22 (rlopen m) ⌝ }
+{
+    let qid = m.qid;
+    let mut v = [0u64; 22];
+    v[0] = qid.ty as u64;
+    v[1] = qid.version as u64;
+    v[2] = qid.path;
+    v[3] = m.iounit as u64;
+    v
+}
+
+pub fn rlopen_of(v: [u64; 22]) -> Rlopen
+    ensures { λ r. ⌜ rlopen r ≡ fieldValues (layoutR 13) v ⌝ }
+{
+    let qid = Qid {
+        ty: (v[0] % U8) as u8,
+        version: (v[1] % U32) as u32,
+        path: v[2],
+    };
+    Rlopen {
+        qid,
+        iounit: (v[3] % U32) as u32,
+    }
+}
+
+pub fn flat_tlcreate(m: Tlcreate) -> [u64; 10]
+    ensures { λ r. ⌜ r ≡ flat 10 (tlcreate m) ⌝ }
+{
+    let fid = m.fid;
+    let name = m.name;
+    let gid = m.gid;
+    let mut v = [0u64; 10];
+    v[0] = fid.0 as u64;
+    v[1] = name.start as u64;
+    v[2] = name.len as u64;
+    v[3] = m.flags as u64;
+    v[4] = m.mode as u64;
+    v[5] = gid.0 as u64;
+    v
+}
+
+pub fn tlcreate_of(v: [u64; 10]) -> Tlcreate
+    ensures { λ r. ⌜ tlcreate r ≡ fieldValues (layoutT 14) v ⌝ }
+{
+    let fid = Fid((v[0] % U32) as u32);
+    let name = Span {
+        start: v[1] as usize,
+        len: v[2] as usize,
+    };
+    let gid = Gid((v[5] % U32) as u32);
+    Tlcreate {
+        fid,
+        name,
+        flags: (v[3] % U32) as u32,
+        mode: (v[4] % U32) as u32,
+        gid,
+    }
+}
+
+pub fn flat_rlcreate(m: Rlcreate) -> [u64; 22]
+    ensures { λ r. ⌜ r ≡ flat 22 (rlcreate m) ⌝ }
+{
+    let qid = m.qid;
+    let mut v = [0u64; 22];
+    v[0] = qid.ty as u64;
+    v[1] = qid.version as u64;
+    v[2] = qid.path;
+    v[3] = m.iounit as u64;
+    v
+}
+
+pub fn rlcreate_of(v: [u64; 22]) -> Rlcreate
+    ensures { λ r. ⌜ rlcreate r ≡ fieldValues (layoutR 15) v ⌝ }
+{
+    let qid = Qid {
+        ty: (v[0] % U8) as u8,
+        version: (v[1] % U32) as u32,
+        path: v[2],
+    };
+    Rlcreate {
+        qid,
+        iounit: (v[3] % U32) as u32,
+    }
+}
+
+pub fn flat_tread(m: Tread) -> [u64; 10]
+    ensures { λ r. ⌜ r ≡ flat 10 (tread m) ⌝ }
+{
+    let fid = m.fid;
+    let mut v = [0u64; 10];
+    v[0] = fid.0 as u64;
+    v[1] = m.offset;
+    v[2] = m.count as u64;
+    v
+}
+
+pub fn tread_of(v: [u64; 10]) -> Tread
+    ensures { λ r. ⌜ tread r ≡ fieldValues (layoutT 116) v ⌝ }
+{
+    let fid = Fid((v[0] % U32) as u32);
+    Tread {
+        fid,
+        offset: v[1],
+        count: (v[2] % U32) as u32,
+    }
+}
+
+pub fn flat_rread(m: Rread) -> [u64; 22]
+    ensures { λ r. ⌜ r ≡ flat 22 (rread m) ⌝ }
+{
+    let data = m.data;
+    let mut v = [0u64; 22];
+    v[0] = data.start as u64;
+    v[1] = data.len as u64;
+    v
+}
+
+pub fn rread_of(v: [u64; 22]) -> Rread
+    ensures { λ r. ⌜ rread r ≡ fieldValues (layoutR 117) v ⌝ }
+{
+    let data = Span {
+        start: v[0] as usize,
+        len: v[1] as usize,
+    };
+    Rread { data }
+}
+
+pub fn flat_twrite(m: Twrite) -> [u64; 10]
+    ensures { λ r. ⌜ r ≡ flat 10 (twrite m) ⌝ }
+{
+    let fid = m.fid;
+    let data = m.data;
+    let mut v = [0u64; 10];
+    v[0] = fid.0 as u64;
+    v[1] = m.offset;
+    v[2] = data.start as u64;
+    v[3] = data.len as u64;
+    v
+}
+
+pub fn twrite_of(v: [u64; 10]) -> Twrite
+    ensures { λ r. ⌜ twrite r ≡ fieldValues (layoutT 118) v ⌝ }
+{
+    let fid = Fid((v[0] % U32) as u32);
+    let data = Span {
+        start: v[2] as usize,
+        len: v[3] as usize,
+    };
+    Twrite {
+        fid,
+        offset: v[1],
+        data,
+    }
+}
+
+pub fn flat_rwrite(m: Rwrite) -> [u64; 22]
+    ensures { λ r. ⌜ r ≡ flat 22 (rwrite m) ⌝ }
+{
+    let mut v = [0u64; 22];
+    v[0] = m.count as u64;
+    v
+}
+
+pub fn rwrite_of(v: [u64; 22]) -> Rwrite
+    ensures { λ r. ⌜ rwrite r ≡ fieldValues (layoutR 119) v ⌝ }
+{
+    Rwrite {
+        count: (v[0] % U32) as u32,
+    }
+}
+
+pub fn flat_tfsync(m: Tfsync) -> [u64; 10]
+    ensures { λ r. ⌜ r ≡ flat 10 (tfsync m) ⌝ }
+{
+    let fid = m.fid;
+    let mut v = [0u64; 10];
+    v[0] = fid.0 as u64;
+    v[1] = m.datasync as u64;
+    v
+}
+
+pub fn tfsync_of(v: [u64; 10]) -> Tfsync
+    ensures { λ r. ⌜ tfsync r ≡ fieldValues (layoutT 50) v ⌝ }
+{
+    let fid = Fid((v[0] % U32) as u32);
+    Tfsync {
+        fid,
+        datasync: (v[1] % U32) as u32,
+    }
+}
+
+pub fn flat_tremove(m: Tremove) -> [u64; 10]
+    ensures { λ r. ⌜ r ≡ flat 10 (tremove m) ⌝ }
+{
+    let fid = m.fid;
+    let mut v = [0u64; 10];
+    v[0] = fid.0 as u64;
+    v
+}
+
+pub fn tremove_of(v: [u64; 10]) -> Tremove
+    ensures { λ r. ⌜ tremove r ≡ fieldValues (layoutT 122) v ⌝ }
+{
+    let fid = Fid((v[0] % U32) as u32);
+    Tremove { fid }
+}

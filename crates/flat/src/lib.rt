@@ -1,0 +1,17 @@
+// The 47 records that hold something, laid flat for another language: a record's values one behind the other in an array of u64, and
+// back. A number is one value, a span its start and length, a part its count, start and length. 10 values hold any request and 22 any
+// reply; those that are left are 0. Back, a field takes the lowest bytes of its value, as Rust's `as` does.
+
+pub mod attributes;
+pub mod directories;
+pub mod files;
+pub mod locks;
+pub mod sessions;
+pub mod walking;
+
+// How many numbers there are of a width.
+pub const U8: u64 = 256;
+
+pub const U16: u64 = 65536;
+
+pub const U32: u64 = 4294967296;

@@ -1,0 +1,130 @@
+// The records of locks, laid flat and put together.
+
+use crate::U8;
+use crate::U32;
+use messages::ids::Fid;
+use messages::locks::Rgetlock;
+use messages::locks::Rlock;
+use messages::locks::Tgetlock;
+use messages::locks::Tlock;
+use strings::Span;
+ghost use mathlib.Core.Path.{_≡_};
+ghost use Rattle.messages.specs.Tables.{layoutT, layoutR};
+ghost use Rattle.messages.specs.Records.{tlock, rlock, tgetlock, rgetlock};
+ghost use Rattle.flat.specs.Flat.{flat, fieldValues};
+
+pub fn flat_tlock(m: Tlock) -> [u64; 10]
+    ensures { λ r. ⌜ r ≡ flat 10 (tlock m) ⌝ }
+{
+    let fid = m.fid;
+    let client_id = m.client_id;
+    let mut v = [0u64; 10];
+    v[0] = fid.0 as u64;
+    v[1] = m.type_ as u64;
+    v[2] = m.flags as u64;
+    v[3] = m.start;
+    v[4] = m.length;
+    v[5] = m.proc_id as u64;
+    v[6] = client_id.start as u64;
+    v[7] = client_id.len as u64;
+    v
+}
+
+pub fn tlock_of(v: [u64; 10]) -> Tlock
+    ensures { λ r. ⌜ tlock r ≡ fieldValues (layoutT 52) v ⌝ }
+{
+    let fid = Fid((v[0] % U32) as u32);
+    let client_id = Span {
+        start: v[6] as usize,
+        len: v[7] as usize,
+    };
+    Tlock {
+        fid,
+        type_: (v[1] % U8) as u8,
+        flags: (v[2] % U32) as u32,
+        start: v[3],
+        length: v[4],
+        proc_id: (v[5] % U32) as u32,
+        client_id,
+    }
+}
+
+pub fn flat_rlock(m: Rlock) -> [u64; 22]
+    ensures { λ r. ⌜ r ≡ flat 22 (rlock m) ⌝ }
+{
+    let mut v = [0u64; 22];
+    v[0] = m.status as u64;
+    v
+}
+
+pub fn rlock_of(v: [u64; 22]) -> Rlock
+    ensures { λ r. ⌜ rlock r ≡ fieldValues (layoutR 53) v ⌝ }
+{
+    Rlock {
+        status: (v[0] % U8) as u8,
+    }
+}
+
+pub fn flat_tgetlock(m: Tgetlock) -> [u64; 10]
+    ensures { λ r. ⌜ r ≡ flat 10 (tgetlock m) ⌝ }
+{
+    let fid = m.fid;
+    let client_id = m.client_id;
+    let mut v = [0u64; 10];
+    v[0] = fid.0 as u64;
+    v[1] = m.type_ as u64;
+    v[2] = m.start;
+    v[3] = m.length;
+    v[4] = m.proc_id as u64;
+    v[5] = client_id.start as u64;
+    v[6] = client_id.len as u64;
+    v
+}
+
+pub fn tgetlock_of(v: [u64; 10]) -> Tgetlock
+    ensures { λ r. ⌜ tgetlock r ≡ fieldValues (layoutT 54) v ⌝ }
+{
+    let fid = Fid((v[0] % U32) as u32);
+    let client_id = Span {
+        start: v[5] as usize,
+        len: v[6] as usize,
+    };
+    Tgetlock {
+        fid,
+        type_: (v[1] % U8) as u8,
+        start: v[2],
+        length: v[3],
+        proc_id: (v[4] % U32) as u32,
+        client_id,
+    }
+}
+
+pub fn flat_rgetlock(m: Rgetlock) -> [u64; 22]
+    ensures { λ r. ⌜ r ≡ flat 22 (rgetlock m) ⌝ }
+{
+    let client_id = m.client_id;
+    let mut v = [0u64; 22];
+    v[0] = m.type_ as u64;
+    v[1] = m.start;
+    v[2] = m.length;
+    v[3] = m.proc_id as u64;
+    v[4] = client_id.start as u64;
+    v[5] = client_id.len as u64;
+    v
+}
+
+pub fn rgetlock_of(v: [u64; 22]) -> Rgetlock
+    ensures { λ r. ⌜ rgetlock r ≡ fieldValues (layoutR 55) v ⌝ }
+{
+    let client_id = Span {
+        start: v[4] as usize,
+        len: v[5] as usize,
+    };
+    Rgetlock {
+        type_: (v[0] % U8) as u8,
+        start: v[1],
+        length: v[2],
+        proc_id: (v[3] % U32) as u32,
+        client_id,
+    }
+}

@@ -1,0 +1,238 @@
+// The records that open and close a session, laid flat and put together.
+
+use crate::U8;
+use crate::U16;
+use crate::U32;
+use messages::ids::Fid;
+use messages::ids::Tag;
+use messages::qids::Qid;
+use messages::sessions::Rattach;
+use messages::sessions::Rauth;
+use messages::sessions::Rlerror;
+use messages::sessions::Rversion;
+use messages::sessions::Tattach;
+use messages::sessions::Tauth;
+use messages::sessions::Tclunk;
+use messages::sessions::Tflush;
+use messages::sessions::Tversion;
+use strings::Span;
+ghost use mathlib.Core.Path.{_≡_};
+ghost use Rattle.messages.specs.Tables.{layoutT, layoutR};
+ghost use Rattle.messages.specs.Records.{tversion, rversion, tauth, rauth, tattach, rattach, tflush, tclunk, rlerror};
+ghost use Rattle.flat.specs.Flat.{flat, fieldValues};
+
+pub fn flat_tversion(m: Tversion) -> [u64; 10]
+    ensures { λ r. ⌜ r ≡ flat 10 (tversion m) ⌝ }
+{
+    let version = m.version;
+    let mut v = [0u64; 10];
+    v[0] = m.msize as u64;
+    v[1] = version.start as u64;
+    v[2] = version.len as u64;
+    v
+}
+
+pub fn tversion_of(v: [u64; 10]) -> Tversion
+    ensures { λ r. ⌜ tversion r ≡ fieldValues (layoutT 100) v ⌝ }
+{
+    let version = Span {
+        start: v[1] as usize,
+        len: v[2] as usize,
+    };
+    Tversion {
+        msize: (v[0] % U32) as u32,
+        version,
+    }
+}
+
+pub fn flat_rversion(m: Rversion) -> [u64; 22]
+    ensures { λ r. ⌜ r ≡ flat 22 (rversion m) ⌝ }
+{
+    let version = m.version;
+    let mut v = [0u64; 22];
+    v[0] = m.msize as u64;
+    v[1] = version.start as u64;
+    v[2] = version.len as u64;
+    v
+}
+
+pub fn rversion_of(v: [u64; 22]) -> Rversion
+    ensures { λ r. ⌜ rversion r ≡ fieldValues (layoutR 101) v ⌝ }
+{
+    let version = Span {
+        start: v[1] as usize,
+        len: v[2] as usize,
+    };
+    Rversion {
+        msize: (v[0] % U32) as u32,
+        version,
+    }
+}
+
+pub fn flat_tauth(m: Tauth) -> [u64; 10]
+    ensures { λ r. ⌜ r ≡ flat 10 (tauth m) ⌝ }
+{
+    let afid = m.afid;
+    let uname = m.uname;
+    let aname = m.aname;
+    let mut v = [0u64; 10];
+    v[0] = afid.0 as u64;
+    v[1] = uname.start as u64;
+    v[2] = uname.len as u64;
+    v[3] = aname.start as u64;
+    v[4] = aname.len as u64;
+    v[5] = m.n_uname as u64;
+    v
+}
+
+pub fn tauth_of(v: [u64; 10]) -> Tauth
+    ensures { λ r. ⌜ tauth r ≡ fieldValues (layoutT 102) v ⌝ }
+{
+    let afid = Fid((v[0] % U32) as u32);
+    let uname = Span {
+        start: v[1] as usize,
+        len: v[2] as usize,
+    };
+    let aname = Span {
+        start: v[3] as usize,
+        len: v[4] as usize,
+    };
+    Tauth {
+        afid,
+        uname,
+        aname,
+        n_uname: (v[5] % U32) as u32,
+    }
+}
+
+pub fn flat_rauth(m: Rauth) -> [u64; 22]
+    ensures { λ r. ⌜ r ≡ flat 22 (rauth m) ⌝ }
+{
+    let aqid = m.aqid;
+    let mut v = [0u64; 22];
+    v[0] = aqid.ty as u64;
+    v[1] = aqid.version as u64;
+    v[2] = aqid.path;
+    v
+}
+
+pub fn rauth_of(v: [u64; 22]) -> Rauth
+    ensures { λ r. ⌜ rauth r ≡ fieldValues (layoutR 103) v ⌝ }
+{
+    let aqid = Qid {
+        ty: (v[0] % U8) as u8,
+        version: (v[1] % U32) as u32,
+        path: v[2],
+    };
+    Rauth { aqid }
+}
+
+pub fn flat_tattach(m: Tattach) -> [u64; 10]
+    ensures { λ r. ⌜ r ≡ flat 10 (tattach m) ⌝ }
+{
+    let fid = m.fid;
+    let afid = m.afid;
+    let uname = m.uname;
+    let aname = m.aname;
+    let mut v = [0u64; 10];
+    v[0] = fid.0 as u64;
+    v[1] = afid.0 as u64;
+    v[2] = uname.start as u64;
+    v[3] = uname.len as u64;
+    v[4] = aname.start as u64;
+    v[5] = aname.len as u64;
+    v[6] = m.n_uname as u64;
+    v
+}
+
+pub fn tattach_of(v: [u64; 10]) -> Tattach
+    ensures { λ r. ⌜ tattach r ≡ fieldValues (layoutT 104) v ⌝ }
+{
+    let fid = Fid((v[0] % U32) as u32);
+    let afid = Fid((v[1] % U32) as u32);
+    let uname = Span {
+        start: v[2] as usize,
+        len: v[3] as usize,
+    };
+    let aname = Span {
+        start: v[4] as usize,
+        len: v[5] as usize,
+    };
+    Tattach {
+        fid,
+        afid,
+        uname,
+        aname,
+        n_uname: (v[6] % U32) as u32,
+    }
+}
+
+pub fn flat_rattach(m: Rattach) -> [u64; 22]
+    ensures { λ r. ⌜ r ≡ flat 22 (rattach m) ⌝ }
+{
+    let qid = m.qid;
+    let mut v = [0u64; 22];
+    v[0] = qid.ty as u64;
+    v[1] = qid.version as u64;
+    v[2] = qid.path;
+    v
+}
+
+pub fn rattach_of(v: [u64; 22]) -> Rattach
+    ensures { λ r. ⌜ rattach r ≡ fieldValues (layoutR 105) v ⌝ }
+{
+    let qid = Qid {
+        ty: (v[0] % U8) as u8,
+        version: (v[1] % U32) as u32,
+        path: v[2],
+    };
+    Rattach { qid }
+}
+
+pub fn flat_tflush(m: Tflush) -> [u64; 10]
+    ensures { λ r. ⌜ r ≡ flat 10 (tflush m) ⌝ }
+{
+    let oldtag = m.oldtag;
+    let mut v = [0u64; 10];
+    v[0] = oldtag.0 as u64;
+    v
+}
+
+pub fn tflush_of(v: [u64; 10]) -> Tflush
+    ensures { λ r. ⌜ tflush r ≡ fieldValues (layoutT 108) v ⌝ }
+{
+    let oldtag = Tag((v[0] % U16) as u16);
+    Tflush { oldtag }
+}
+
+pub fn flat_tclunk(m: Tclunk) -> [u64; 10]
+    ensures { λ r. ⌜ r ≡ flat 10 (tclunk m) ⌝ }
+{
+    let fid = m.fid;
+    let mut v = [0u64; 10];
+    v[0] = fid.0 as u64;
+    v
+}
+
+pub fn tclunk_of(v: [u64; 10]) -> Tclunk
+    ensures { λ r. ⌜ tclunk r ≡ fieldValues (layoutT 120) v ⌝ }
+{
+    let fid = Fid((v[0] % U32) as u32);
+    Tclunk { fid }
+}
+
+pub fn flat_rlerror(m: Rlerror) -> [u64; 22]
+    ensures { λ r. ⌜ r ≡ flat 22 (rlerror m) ⌝ }
+{
+    let mut v = [0u64; 22];
+    v[0] = m.ecode as u64;
+    v
+}
+
+pub fn rlerror_of(v: [u64; 22]) -> Rlerror
+    ensures { λ r. ⌜ rlerror r ≡ fieldValues (layoutR 7) v ⌝ }
+{
+    Rlerror {
+        ecode: (v[0] % U32) as u32,
+    }
+}

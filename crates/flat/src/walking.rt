@@ -1,0 +1,75 @@
+// The records of walking, laid flat and put together.
+
+use crate::U16;
+use crate::U32;
+use fields::Part;
+use messages::ids::Fid;
+use messages::walking::Rwalk;
+use messages::walking::Twalk;
+use strings::Span;
+ghost use mathlib.Core.Path.{_≡_};
+ghost use Rattle.messages.specs.Tables.{layoutT, layoutR};
+ghost use Rattle.messages.specs.Records.{twalk, rwalk};
+ghost use Rattle.flat.specs.Flat.{flat, fieldValues};
+
+pub fn flat_twalk(m: Twalk) -> [u64; 10]
+    ensures { λ r. ⌜ r ≡ flat 10 (twalk m) ⌝ }
+{
+    let fid = m.fid;
+    let newfid = m.newfid;
+    let wnames = m.wnames;
+    let elements = wnames.elements;
+    let mut v = [0u64; 10];
+    v[0] = fid.0 as u64;
+    v[1] = newfid.0 as u64;
+    v[2] = wnames.count as u64;
+    v[3] = elements.start as u64;
+    v[4] = elements.len as u64;
+    v
+}
+
+pub fn twalk_of(v: [u64; 10]) -> Twalk
+    ensures { λ r. ⌜ twalk r ≡ fieldValues (layoutT 110) v ⌝ }
+{
+    let fid = Fid((v[0] % U32) as u32);
+    let newfid = Fid((v[1] % U32) as u32);
+    let elements = Span {
+        start: v[3] as usize,
+        len: v[4] as usize,
+    };
+    let wnames = Part {
+        count: (v[2] % U16) as u16,
+        elements,
+    };
+    Twalk {
+        fid,
+        newfid,
+        wnames,
+    }
+}
+
+pub fn flat_rwalk(m: Rwalk) -> [u64; 22]
+    ensures { λ r. ⌜ r ≡ flat 22 (rwalk m) ⌝ }
+{
+    let wqids = m.wqids;
+    let elements = wqids.elements;
+    let mut v = [0u64; 22];
+    v[0] = wqids.count as u64;
+    v[1] = elements.start as u64;
+    v[2] = elements.len as u64;
+    v
+}
+
+pub fn rwalk_of(v: [u64; 22]) -> Rwalk
+    ensures { λ r. ⌜ rwalk r ≡ fieldValues (layoutR 111) v ⌝ }
+{
+    let elements = Span {
+        start: v[1] as usize,
+        len: v[2] as usize,
+    };
+    let wqids = Part {
+        count: (v[0] % U16) as u16,
+        elements,
+    };
+    Rwalk { wqids }
+}

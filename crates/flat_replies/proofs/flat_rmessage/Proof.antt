@@ -1,0 +1,290 @@
+-- Each arm is the record that its case holds.
+use borrow.Author.Needs.{needs}
+use Rattle.replies.specs.Views.{valuesR}
+use Rattle.flat_replies.proofs.flat_rmessage.Statement.{statement}
+use Rattle.flat_replies.proofs.flat_rmessage.Tie as tie
+
+enum-known-m : tie.Need-enum-known-m
+enum-known-m c = search needs
+
+returns : tie.Need-returns
+unfolding valuesR
+returns c = rw (c .before .before .m .given .1) (c .flat-rversion .ensures)
+
+enum-told : tie.Need-enum-told
+enum-told c = search needs
+
+returns-2 : tie.Need-returns-2
+unfolding valuesR
+returns-2 c = rw (c .enum-told .given .1)
+
+enum-known-m-2 : tie.Need-enum-known-m-2
+enum-known-m-2 c = search needs
+
+returns-3 : tie.Need-returns-3
+unfolding valuesR
+returns-3 c = rw (c .before .before .m2 .given .1) (c .flat-rwalk .ensures)
+
+enum-known-m-3 : tie.Need-enum-known-m-3
+enum-known-m-3 c = search needs
+
+returns-4 : tie.Need-returns-4
+unfolding valuesR
+returns-4 c = rw (c .before .before .m3 .given .1) (c .flat-rread .ensures)
+
+enum-known-m-4 : tie.Need-enum-known-m-4
+enum-known-m-4 c = search needs
+
+returns-5 : tie.Need-returns-5
+unfolding valuesR
+returns-5 c = rw (c .before .before .m4 .given .1) (c .flat-rwrite .ensures)
+
+enum-told-2 : tie.Need-enum-told-2
+enum-told-2 c = search needs
+
+returns-6 : tie.Need-returns-6
+unfolding valuesR
+returns-6 c = rw (c .enum-told2 .given .1)
+
+enum-told-3 : tie.Need-enum-told-3
+enum-told-3 c = search needs
+
+returns-7 : tie.Need-returns-7
+unfolding valuesR
+returns-7 c = rw (c .enum-told3 .given .1)
+
+enum-known-m-5 : tie.Need-enum-known-m-5
+enum-known-m-5 c = search needs
+
+returns-8 : tie.Need-returns-8
+unfolding valuesR
+returns-8 c = rw (c .before .before .m5 .given .1) (c .flat-rattach .ensures)
+
+enum-known-m-6 : tie.Need-enum-known-m-6
+enum-known-m-6 c = search needs
+
+returns-9 : tie.Need-returns-9
+unfolding valuesR
+returns-9 c = rw (c .before .before .m6 .given .1) (c .flat-rauth .ensures)
+
+enum-known-m-7 : tie.Need-enum-known-m-7
+enum-known-m-7 c = search needs
+
+returns-10 : tie.Need-returns-10
+unfolding valuesR
+returns-10 c = rw (c .before .before .m7 .given .1) (c .flat-rstatfs .ensures)
+
+enum-known-m-8 : tie.Need-enum-known-m-8
+enum-known-m-8 c = search needs
+
+returns-11 : tie.Need-returns-11
+unfolding valuesR
+returns-11 c = rw (c .before .before .m8 .given .1) (c .flat-rlopen .ensures)
+
+enum-known-m-9 : tie.Need-enum-known-m-9
+enum-known-m-9 c = search needs
+
+returns-12 : tie.Need-returns-12
+unfolding valuesR
+returns-12 c = rw (c .before .before .m9 .given .1) (c .flat-rlcreate .ensures)
+
+enum-known-m-10 : tie.Need-enum-known-m-10
+enum-known-m-10 c = search needs
+
+returns-13 : tie.Need-returns-13
+unfolding valuesR
+returns-13 c = rw (c .before .before .m10 .given .1) (c .flat-rsymlink .ensures)
+
+enum-known-m-11 : tie.Need-enum-known-m-11
+enum-known-m-11 c = search needs
+
+returns-14 : tie.Need-returns-14
+unfolding valuesR
+returns-14 c = rw (c .before .before .m11 .given .1) (c .flat-rmknod .ensures)
+
+enum-told-4 : tie.Need-enum-told-4
+enum-told-4 c = search needs
+
+returns-15 : tie.Need-returns-15
+unfolding valuesR
+returns-15 c = rw (c .enum-told4 .given .1)
+
+enum-known-m-12 : tie.Need-enum-known-m-12
+enum-known-m-12 c = search needs
+
+returns-16 : tie.Need-returns-16
+unfolding valuesR
+returns-16 c = rw (c .before .before .m12 .given .1) (c .flat-rreadlink .ensures)
+
+enum-known-m-13 : tie.Need-enum-known-m-13
+enum-known-m-13 c = search needs
+
+returns-17 : tie.Need-returns-17
+unfolding valuesR
+returns-17 c = rw (c .before .before .m13 .given .1) (c .flat-rgetattr .ensures)
+
+enum-told-5 : tie.Need-enum-told-5
+enum-told-5 c = search needs
+
+returns-18 : tie.Need-returns-18
+unfolding valuesR
+returns-18 c = rw (c .enum-told5 .given .1)
+
+enum-known-m-14 : tie.Need-enum-known-m-14
+enum-known-m-14 c = search needs
+
+returns-19 : tie.Need-returns-19
+unfolding valuesR
+returns-19 c = rw (c .before .before .m14 .given .1) (c .flat-rxattrwalk .ensures)
+
+enum-told-6 : tie.Need-enum-told-6
+enum-told-6 c = search needs
+
+returns-20 : tie.Need-returns-20
+unfolding valuesR
+returns-20 c = rw (c .enum-told6 .given .1)
+
+enum-known-m-15 : tie.Need-enum-known-m-15
+enum-known-m-15 c = search needs
+
+returns-21 : tie.Need-returns-21
+unfolding valuesR
+returns-21 c = rw (c .before .before .m15 .given .1) (c .flat-rreaddir .ensures)
+
+enum-told-7 : tie.Need-enum-told-7
+enum-told-7 c = search needs
+
+returns-22 : tie.Need-returns-22
+unfolding valuesR
+returns-22 c = rw (c .enum-told7 .given .1)
+
+enum-known-m-16 : tie.Need-enum-known-m-16
+enum-known-m-16 c = search needs
+
+returns-23 : tie.Need-returns-23
+unfolding valuesR
+returns-23 c = rw (c .before .before .m16 .given .1) (c .flat-rlock .ensures)
+
+enum-known-m-17 : tie.Need-enum-known-m-17
+enum-known-m-17 c = search needs
+
+returns-24 : tie.Need-returns-24
+unfolding valuesR
+returns-24 c = rw (c .before .before .m17 .given .1) (c .flat-rgetlock .ensures)
+
+enum-told-8 : tie.Need-enum-told-8
+enum-told-8 c = search needs
+
+returns-25 : tie.Need-returns-25
+unfolding valuesR
+returns-25 c = rw (c .enum-told8 .given .1)
+
+enum-known-m-18 : tie.Need-enum-known-m-18
+enum-known-m-18 c = search needs
+
+returns-26 : tie.Need-returns-26
+unfolding valuesR
+returns-26 c = rw (c .before .before .m18 .given .1) (c .flat-rmkdir .ensures)
+
+enum-told-9 : tie.Need-enum-told-9
+enum-told-9 c = search needs
+
+returns-27 : tie.Need-returns-27
+unfolding valuesR
+returns-27 c = rw (c .enum-told9 .given .1)
+
+enum-told-10 : tie.Need-enum-told-10
+enum-told-10 c = search needs
+
+returns-28 : tie.Need-returns-28
+unfolding valuesR
+returns-28 c = rw (c .enum-told10 .given .1)
+
+enum-known-m-19 : tie.Need-enum-known-m-19
+enum-known-m-19 c = search needs
+
+returns-29 : tie.Need-returns-29
+unfolding valuesR
+returns-29 c = rw (c .before .before .m19 .given .1) (c .flat-rlerror .ensures)
+
+pub flat-rmessage-spec : {M : Type 1} → statement M
+flat-rmessage-spec =
+    tie.close
+    (tie.spec
+    enum-known-m
+    (λ _ _. tt)
+    enum-told
+    enum-known-m-2
+    (λ _ _. tt)
+    enum-known-m-3
+    (λ _ _. tt)
+    enum-known-m-4
+    (λ _ _. tt)
+    enum-told-2
+    enum-told-3
+    enum-known-m-5
+    (λ _ _. tt)
+    enum-known-m-6
+    (λ _ _. tt)
+    enum-known-m-7
+    (λ _ _. tt)
+    enum-known-m-8
+    (λ _ _. tt)
+    enum-known-m-9
+    (λ _ _. tt)
+    enum-known-m-10
+    (λ _ _. tt)
+    enum-known-m-11
+    (λ _ _. tt)
+    enum-told-4
+    enum-known-m-12
+    (λ _ _. tt)
+    enum-known-m-13
+    (λ _ _. tt)
+    enum-told-5
+    enum-known-m-14
+    (λ _ _. tt)
+    enum-told-6
+    enum-known-m-15
+    (λ _ _. tt)
+    enum-told-7
+    enum-known-m-16
+    (λ _ _. tt)
+    enum-known-m-17
+    (λ _ _. tt)
+    enum-told-8
+    enum-known-m-18
+    (λ _ _. tt)
+    enum-told-9
+    enum-told-10
+    enum-known-m-19
+    (λ _ _. tt)
+    returns
+    returns-2
+    returns-3
+    returns-4
+    returns-5
+    returns-6
+    returns-7
+    returns-8
+    returns-9
+    returns-10
+    returns-11
+    returns-12
+    returns-13
+    returns-14
+    returns-15
+    returns-16
+    returns-17
+    returns-18
+    returns-19
+    returns-20
+    returns-21
+    returns-22
+    returns-23
+    returns-24
+    returns-25
+    returns-26
+    returns-27
+    returns-28
+    returns-29)

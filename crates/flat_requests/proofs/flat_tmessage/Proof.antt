@@ -1,0 +1,290 @@
+-- Each arm is the record that its case holds.
+use borrow.Author.Needs.{needs}
+use Rattle.requests.specs.Views.{valuesT}
+use Rattle.flat_requests.proofs.flat_tmessage.Statement.{statement}
+use Rattle.flat_requests.proofs.flat_tmessage.Tie as tie
+
+enum-known-m : tie.Need-enum-known-m
+enum-known-m c = search needs
+
+returns : tie.Need-returns
+unfolding valuesT
+returns c = rw (c .before .before .m .given .1) (c .flat-tversion .ensures)
+
+enum-known-m-2 : tie.Need-enum-known-m-2
+enum-known-m-2 c = search needs
+
+returns-2 : tie.Need-returns-2
+unfolding valuesT
+returns-2 c = rw (c .before .before .m2 .given .1) (c .flat-tflush .ensures)
+
+enum-known-m-3 : tie.Need-enum-known-m-3
+enum-known-m-3 c = search needs
+
+returns-3 : tie.Need-returns-3
+unfolding valuesT
+returns-3 c = rw (c .before .before .m3 .given .1) (c .flat-twalk .ensures)
+
+enum-known-m-4 : tie.Need-enum-known-m-4
+enum-known-m-4 c = search needs
+
+returns-4 : tie.Need-returns-4
+unfolding valuesT
+returns-4 c = rw (c .before .before .m4 .given .1) (c .flat-tread .ensures)
+
+enum-known-m-5 : tie.Need-enum-known-m-5
+enum-known-m-5 c = search needs
+
+returns-5 : tie.Need-returns-5
+unfolding valuesT
+returns-5 c = rw (c .before .before .m5 .given .1) (c .flat-twrite .ensures)
+
+enum-known-m-6 : tie.Need-enum-known-m-6
+enum-known-m-6 c = search needs
+
+returns-6 : tie.Need-returns-6
+unfolding valuesT
+returns-6 c = rw (c .before .before .m6 .given .1) (c .flat-tclunk .ensures)
+
+enum-known-m-7 : tie.Need-enum-known-m-7
+enum-known-m-7 c = search needs
+
+returns-7 : tie.Need-returns-7
+unfolding valuesT
+returns-7 c = rw (c .before .before .m7 .given .1) (c .flat-tremove .ensures)
+
+enum-known-m-8 : tie.Need-enum-known-m-8
+enum-known-m-8 c = search needs
+
+returns-8 : tie.Need-returns-8
+unfolding valuesT
+returns-8 c = rw (c .before .before .m8 .given .1) (c .flat-tattach .ensures)
+
+enum-known-m-9 : tie.Need-enum-known-m-9
+enum-known-m-9 c = search needs
+
+returns-9 : tie.Need-returns-9
+unfolding valuesT
+returns-9 c = rw (c .before .before .m9 .given .1) (c .flat-tauth .ensures)
+
+enum-known-m-10 : tie.Need-enum-known-m-10
+enum-known-m-10 c = search needs
+
+returns-10 : tie.Need-returns-10
+unfolding valuesT
+returns-10 c = rw (c .before .before .m10 .given .1) (c .flat-tstatfs .ensures)
+
+enum-known-m-11 : tie.Need-enum-known-m-11
+enum-known-m-11 c = search needs
+
+returns-11 : tie.Need-returns-11
+unfolding valuesT
+returns-11 c = rw (c .before .before .m11 .given .1) (c .flat-tlopen .ensures)
+
+enum-known-m-12 : tie.Need-enum-known-m-12
+enum-known-m-12 c = search needs
+
+returns-12 : tie.Need-returns-12
+unfolding valuesT
+returns-12 c = rw (c .before .before .m12 .given .1) (c .flat-tlcreate .ensures)
+
+enum-known-m-13 : tie.Need-enum-known-m-13
+enum-known-m-13 c = search needs
+
+returns-13 : tie.Need-returns-13
+unfolding valuesT
+returns-13 c = rw (c .before .before .m13 .given .1) (c .flat-tsymlink .ensures)
+
+enum-known-m-14 : tie.Need-enum-known-m-14
+enum-known-m-14 c = search needs
+
+returns-14 : tie.Need-returns-14
+unfolding valuesT
+returns-14 c = rw (c .before .before .m14 .given .1) (c .flat-tmknod .ensures)
+
+enum-known-m-15 : tie.Need-enum-known-m-15
+enum-known-m-15 c = search needs
+
+returns-15 : tie.Need-returns-15
+unfolding valuesT
+returns-15 c = rw (c .before .before .m15 .given .1) (c .flat-trename .ensures)
+
+enum-known-m-16 : tie.Need-enum-known-m-16
+enum-known-m-16 c = search needs
+
+returns-16 : tie.Need-returns-16
+unfolding valuesT
+returns-16 c = rw (c .before .before .m16 .given .1) (c .flat-treadlink .ensures)
+
+enum-known-m-17 : tie.Need-enum-known-m-17
+enum-known-m-17 c = search needs
+
+returns-17 : tie.Need-returns-17
+unfolding valuesT
+returns-17 c = rw (c .before .before .m17 .given .1) (c .flat-tgetattr .ensures)
+
+enum-known-m-18 : tie.Need-enum-known-m-18
+enum-known-m-18 c = search needs
+
+returns-18 : tie.Need-returns-18
+unfolding valuesT
+returns-18 c = rw (c .before .before .m18 .given .1) (c .flat-tsetattr .ensures)
+
+enum-known-m-19 : tie.Need-enum-known-m-19
+enum-known-m-19 c = search needs
+
+returns-19 : tie.Need-returns-19
+unfolding valuesT
+returns-19 c = rw (c .before .before .m19 .given .1) (c .flat-txattrwalk .ensures)
+
+enum-known-m-20 : tie.Need-enum-known-m-20
+enum-known-m-20 c = search needs
+
+returns-20 : tie.Need-returns-20
+unfolding valuesT
+returns-20 c = rw (c .before .before .m20 .given .1) (c .flat-txattrcreate .ensures)
+
+enum-known-m-21 : tie.Need-enum-known-m-21
+enum-known-m-21 c = search needs
+
+returns-21 : tie.Need-returns-21
+unfolding valuesT
+returns-21 c = rw (c .before .before .m21 .given .1) (c .flat-treaddir .ensures)
+
+enum-known-m-22 : tie.Need-enum-known-m-22
+enum-known-m-22 c = search needs
+
+returns-22 : tie.Need-returns-22
+unfolding valuesT
+returns-22 c = rw (c .before .before .m22 .given .1) (c .flat-tfsync .ensures)
+
+enum-known-m-23 : tie.Need-enum-known-m-23
+enum-known-m-23 c = search needs
+
+returns-23 : tie.Need-returns-23
+unfolding valuesT
+returns-23 c = rw (c .before .before .m23 .given .1) (c .flat-tlock .ensures)
+
+enum-known-m-24 : tie.Need-enum-known-m-24
+enum-known-m-24 c = search needs
+
+returns-24 : tie.Need-returns-24
+unfolding valuesT
+returns-24 c = rw (c .before .before .m24 .given .1) (c .flat-tgetlock .ensures)
+
+enum-known-m-25 : tie.Need-enum-known-m-25
+enum-known-m-25 c = search needs
+
+returns-25 : tie.Need-returns-25
+unfolding valuesT
+returns-25 c = rw (c .before .before .m25 .given .1) (c .flat-tlink .ensures)
+
+enum-known-m-26 : tie.Need-enum-known-m-26
+enum-known-m-26 c = search needs
+
+returns-26 : tie.Need-returns-26
+unfolding valuesT
+returns-26 c = rw (c .before .before .m26 .given .1) (c .flat-tmkdir .ensures)
+
+enum-known-m-27 : tie.Need-enum-known-m-27
+enum-known-m-27 c = search needs
+
+returns-27 : tie.Need-returns-27
+unfolding valuesT
+returns-27 c = rw (c .before .before .m27 .given .1) (c .flat-trenameat .ensures)
+
+enum-known-m-28 : tie.Need-enum-known-m-28
+enum-known-m-28 c = search needs
+
+returns-28 : tie.Need-returns-28
+unfolding valuesT
+returns-28 c = rw (c .before .before .m28 .given .1) (c .flat-tunlinkat .ensures)
+
+pub flat-tmessage-spec : {M : Type 1} → statement M
+flat-tmessage-spec =
+    tie.close
+    (tie.spec
+    enum-known-m
+    (λ _ _. tt)
+    enum-known-m-2
+    (λ _ _. tt)
+    enum-known-m-3
+    (λ _ _. tt)
+    enum-known-m-4
+    (λ _ _. tt)
+    enum-known-m-5
+    (λ _ _. tt)
+    enum-known-m-6
+    (λ _ _. tt)
+    enum-known-m-7
+    (λ _ _. tt)
+    enum-known-m-8
+    (λ _ _. tt)
+    enum-known-m-9
+    (λ _ _. tt)
+    enum-known-m-10
+    (λ _ _. tt)
+    enum-known-m-11
+    (λ _ _. tt)
+    enum-known-m-12
+    (λ _ _. tt)
+    enum-known-m-13
+    (λ _ _. tt)
+    enum-known-m-14
+    (λ _ _. tt)
+    enum-known-m-15
+    (λ _ _. tt)
+    enum-known-m-16
+    (λ _ _. tt)
+    enum-known-m-17
+    (λ _ _. tt)
+    enum-known-m-18
+    (λ _ _. tt)
+    enum-known-m-19
+    (λ _ _. tt)
+    enum-known-m-20
+    (λ _ _. tt)
+    enum-known-m-21
+    (λ _ _. tt)
+    enum-known-m-22
+    (λ _ _. tt)
+    enum-known-m-23
+    (λ _ _. tt)
+    enum-known-m-24
+    (λ _ _. tt)
+    enum-known-m-25
+    (λ _ _. tt)
+    enum-known-m-26
+    (λ _ _. tt)
+    enum-known-m-27
+    (λ _ _. tt)
+    enum-known-m-28
+    (λ _ _. tt)
+    returns
+    returns-2
+    returns-3
+    returns-4
+    returns-5
+    returns-6
+    returns-7
+    returns-8
+    returns-9
+    returns-10
+    returns-11
+    returns-12
+    returns-13
+    returns-14
+    returns-15
+    returns-16
+    returns-17
+    returns-18
+    returns-19
+    returns-20
+    returns-21
+    returns-22
+    returns-23
+    returns-24
+    returns-25
+    returns-26
+    returns-27
+    returns-28)

@@ -1,0 +1,4 @@
+pub mod Text
+pub mod TextLaws
+pub mod AnswerLaws
+pub mod ListLaws

@@ -1,0 +1,131 @@
+// The lister's text: a stretch of frames, a line for each, made in an output that the caller lends.
+
+use numbers::Place;
+use replies::Rbody;
+use requests::Tbody;
+use stretch::Body;
+use stretch::Listed;
+use stretch::Step;
+use strings::Span;
+ghost use mathlib.Core.Path.{_≡_};
+ghost use Rattle.numbers.specs.Places.{Put};
+ghost use Rattle.stretch.specs.Views.{viewBody};
+ghost use Rattle.listing.specs.Text.{numberIn, DecimalPut, FieldPut, TailPut, LinePut, LastPut, LinesPut, Reported};
+
+fn put_text(out: &mut [u8], p: Place, text: &[u8]) -> Place
+    ensures { λ r. ⌜ Put (now (text .entry)) (now (out .entry)) p (now (out .exit)) r ⌝ }
+{
+    let all = Span {
+        start: 0,
+        len: text.len(),
+    };
+    strings::put_bytes(out, p, text, all)
+}
+
+fn put_decimal(out: &mut [u8], p: Place, n: u64) -> Place
+    ensures { λ r. ⌜ DecimalPut n (now (out .entry)) p (now (out .exit)) r ⌝ }
+{
+    let mut text = [0u8; 20];
+    let len = io::decimal(n, &mut text);
+    put_text(out, p, &text[..len])
+}
+
+// A decimal field and what stands behind it.
+fn put_field(out: &mut [u8], p: Place, n: u64, behind: &[u8]) -> Place
+    ensures { λ r. ⌜ FieldPut n (now (behind .entry)) (now (out .entry)) p (now (out .exit)) r ⌝ }
+{
+    let q = put_decimal(out, p, n);
+    put_text(out, q, behind)
+}
+
+// 0, or the number of the refusal.
+fn answer_of(body: Body) -> u8
+    ensures { λ r. ⌜ r ≡ numberIn (viewBody body) ⌝ }
+{
+    match body {
+        Body::Request(b) => match b {
+            Tbody::Message(_, _) => 0,
+            Tbody::Refused(k) => numbers::number(k),
+        },
+        Body::Reply(b) => match b {
+            Rbody::Message(_, _) => 0,
+            Rbody::Refused(k) => numbers::number(k),
+        },
+    }
+}
+
+// The last field of a line, by the answer before it.
+fn put_tail(out: &mut [u8], p: Place, answer: u8, tail: usize) -> Place
+    ensures { λ r. ⌜ TailPut answer tail (now (out .entry)) p (now (out .exit)) r ⌝ }
+{
+    if answer == 0 {
+        return put_field(out, p, tail as u64, b"\n");
+    }
+    put_text(out, p, b"-\n")
+}
+
+// Position, size, type, tag, answer and tail.
+fn put_line(out: &mut [u8], p: Place, l: Listed) -> Place
+    ensures { λ r. ⌜ LinePut l (now (out .entry)) p (now (out .exit)) r ⌝ }
+{
+    let tag = l.tag;
+    let body = l.body;
+    let answer = answer_of(body);
+    let a = put_field(out, p, l.at as u64, b" ");
+    let b = put_field(out, a, l.size as u64, b" ");
+    let c = put_field(out, b, l.ty as u64, b" ");
+    let d = put_field(out, c, tag.0 as u64, b" ");
+    let e = put_field(out, d, answer as u64, b" ");
+    put_tail(out, e, answer, l.tail)
+}
+
+// The last line: a word and two figures.
+fn put_last(out: &mut [u8], p: Place, word: &[u8], position: usize, n: u64) -> Place
+    ensures { λ r. ⌜ LastPut (now (word .entry)) position n (now (out .entry)) p (now (out .exit)) r ⌝ }
+{
+    let a = put_text(out, p, word);
+    let b = put_field(out, a, position as u64, b" ");
+    put_field(out, b, n, b"\n")
+}
+
+// A line for each frame, and the last line.
+fn put_lines(out: &mut [u8], from: Place, bytes: &[u8]) -> Place
+    ensures { λ r. ⌜ LinesPut (now (bytes .entry)) (now (out .entry)) from (now (out .exit)) r ⌝ }
+{
+    let mut p = from;
+    let mut at = 0;
+    let mut n: u64 = 0;
+    loop {
+        let step = stretch::frame_at(bytes, at);
+        match step {
+            Step::Frame(l) => {
+                p = put_line(out, p, l);
+                at = l.next;
+                n += 1;
+            }
+            Step::End(q) => {
+                return put_last(out, p, b"end ", q, n);
+            }
+            Step::Refused(k, q) => {
+                return put_last(out, p, b"stop ", q, wide(numbers::number(k)));
+            }
+        }
+    }
+}
+
+fn wide(x: u8) -> u64
+    ensures { λ r. ⌜ r ≡ x ⌝ }
+{
+    x as u64
+}
+
+// What the lister writes of its input, at the front of an output: the place behind it, or 11 where the output is too short.
+pub fn report(out: &mut [u8], input: &[u8]) -> Place
+    ensures { λ r. ⌜ Reported (now (input .entry)) (now (out .entry)) (now (out .exit)) r ⌝ }
+{
+    if 65536 < input.len() {
+        return put_text(out, Place::At(0), b"input too long\n");
+    }
+    let p = put_text(out, Place::At(0), b"at size type tag answer tail\n");
+    put_lines(out, p, input)
+}

@@ -1,0 +1,176 @@
+-- What each way of asking at a position comes to, over plain variables.
+use Prim.Native.Nat.{ℕ, _+_, _-_, _%_, _≤_, _<_}
+use native.Mathlib.Omega.{arith}
+use mathlib.Core.Path.{_≡_, refl, sym, ap, ap₂, _∙_}
+use mathlib.Core.Bool.{Bool, true, false, cond}
+use mathlib.Core.List.{List, []}
+use lib.ListN.{length, take, drop, length-drop}
+use lib.Seq.{length-take-le, take-length, take-all, take-take}
+use lib.Dec.{ltb, eqb}
+use borrow.Author.Tests.{lt-ltb, le-ltb, eq-eqb, ne-eqb}
+use Rattle.numbers.specs.Numbers.{Bytes, fromLE, bytes-take, bytes-drop}
+use Rattle.numbers.specs.Reading.{Result, ok, bad, readNum}
+use Rattle.numbers.specs.ReadingLaws.{or-else}
+use Rattle.numbers.specs.Places.{Within, readAt, numberIn, numAt, NumRead}
+use Rattle.numbers.specs.PlaceLaws.{inside, outside, num-holds, held-num, short-num, num-refused}
+use Rattle.numbers.specs.declared.Refusal.{Refusal}
+use Rattle.numbers.specs.declared.Refusal.the-variants as R
+use Rattle.numbers.specs.declared.Place.{Place}
+use Rattle.numbers.specs.declared.Place.the-variants.{At, Refused}
+use Rattle.messages.specs.Tables.{Row, tableT, tableR}
+use Rattle.messages.specs.Bodies.{Answer, accepted, refused, readBody}
+use Rattle.frames.specs.Frames.{readTypeTag, readHeader, framed, readFrame}
+use Rattle.frames.specs.FrameLaws.{frame-is}
+use Rattle.frames.specs.Views.{Headed}
+use Rattle.frames.specs.Local.{sizeIn}
+use Rattle.stretch.specs.Stretch.{typeIn, tagIn, tableFor, answerIn, answerOf, tailIn, frame, end, stop, frameOf, front, frameAt}
+use Rattle.stretch.specs.Views.{viewBody, BodyOf, Leaves, ListedAs, viewStep, Asked}
+use Rattle.requests.specs.Views.{viewT}
+use Rattle.requests.specs.declared.Tmessage.{Tmessage}
+use Rattle.requests.specs.declared.Tbody.{Tbody}
+use Rattle.requests.specs.declared.Tbody.the-variants as T
+use Rattle.replies.specs.Views.{viewR}
+use Rattle.replies.specs.declared.Rmessage.{Rmessage}
+use Rattle.replies.specs.declared.Rbody.{Rbody}
+use Rattle.replies.specs.declared.Rbody.the-variants as Q
+use Rattle.stretch.specs.declared.Body.{Body}
+use Rattle.stretch.specs.declared.Body.the-variants as B
+use Rattle.stretch.specs.declared.Listed.{Listed}
+use Rattle.stretch.specs.declared.Step.the-variants as S
+
+-- ---- numbers that are held
+
+number-is : (w a : ℕ) (s : List ℕ) → a + w ≤ length s → numAt w s (At a) ≡ fromLE (take w (drop a s))
+unfolding numAt
+number-is w a s h = rw (held-num w a s h)
+
+size-short : {s : List ℕ} {p x : ℕ} {q : Place} {k : Refusal} → NumRead 4 s (At p) x q → q ≡ Refused k → length s < p + 4
+size-short {s} {p} r e =
+    or-else (p + 4) (length s) (λ h. absurd (let f = sym (held-num 4 p s h) ∙ num-refused r e .reads in let z : _≡_ {A = ℕ} 0 1 = cc f in omega arith)) (λ h. h)
+
+size-held : {s : List ℕ} {p x e : ℕ} {q : Place} → NumRead 4 s (At p) x q → q ≡ At e → (p + 4 ≤ length s) × (sizeIn (drop p s) ≡ x)
+size-held {s} {p} {x} {e} r h =
+    or-else (p + 4) (length s) (λ l. (l, sym (r .value ∙ number-is 4 p s l)))
+    (λ l. absurd (let j = num-holds (omega arith) r h in let d = j .place in let f : p ≡ j .at = cc d in let g = j .fits in omega arith))
+
+-- ---- the ways that end it
+
+module _ (ts rs : List Row) (s : List ℕ) (p : ℕ) where
+  pub at-past : length s < p → stop R.StretchCut p ≡ frameAt ts rs s p
+  unfolding frameAt
+  at-past h = rw (lt-ltb (length s) p h)
+
+  pub at-end : length s ≡ p → end p ≡ frameAt ts rs s p
+  unfolding frameAt
+  at-end e = rw (le-ltb (length s) p (omega arith), eq-eqb (length s) p e)
+
+  inside-it : p < length s → front ts rs p (drop p s) ≡ frameAt ts rs s p
+  unfolding frameAt
+  inside-it h = rw (le-ltb (length s) p (omega arith), ne-eqb (length s) p (λ e. omega arith))
+
+  pub at-cut : {x : ℕ} {q : Place} {k : Refusal} → p < length s → NumRead 4 s (At p) x q → q ≡ Refused k → stop R.StretchCut p ≡ frameAt ts rs s p
+  unfolding front
+  at-cut h r e =
+      let l = size-short r e in
+      let d = length-drop p s in
+      rw (lt-ltb (length (drop p s)) 4 (omega arith)) at (inside-it h)
+
+  pub at-small : {x e : ℕ} {q : Place} → NumRead 4 s (At p) x q → q ≡ At e → x < 7 → stop R.StretchSize p ≡ frameAt ts rs s p
+  unfolding front
+  at-small {x} r e l =
+      let z = size-held r e in
+      let a = z .0 in
+      let d = length-drop p s in
+      rw (le-ltb (length (drop p s)) 4 (omega arith), z .1, lt-ltb x 7 l) at (inside-it (omega arith))
+
+  pub at-long : {x e : ℕ} {q : Place} {t : Bool} → NumRead 4 s (At p) x q → q ≡ At e → 7 ≤ x → Within p x (length s) t → t ≡ false → stop R.StretchCut p ≡ frameAt ts rs s p
+  unfolding front
+  at-long {x} r e l w f =
+      let z = size-held r e in
+      let a = z .0 in
+      let b = outside w f in
+      let d = length-drop p s in
+      rw (le-ltb (length (drop p s)) 4 (omega arith), z .1, le-ltb x 7 l, lt-ltb (length (drop p s)) x (omega arith)) at (inside-it (omega arith))
+
+  at-whole : {x e : ℕ} {q : Place} → NumRead 4 s (At p) x q → q ≡ At e → 7 ≤ x → p + x ≤ length s → frameOf ts rs p (take x (drop p s)) ≡ frameAt ts rs s p
+  unfolding front
+  at-whole {x} r e l w =
+      let z = size-held r e in
+      let a = z .0 in
+      let d = length-drop p s in
+      rw (le-ltb (length (drop p s)) 4 (omega arith), z .1, le-ltb x 7 l, le-ltb (length (drop p s)) x (omega arith)) at (inside-it (omega arith))
+
+-- ---- a whole frame
+
+pub whole-header : (f : List ℕ) → 7 ≤ length f → sizeIn f ≡ length f → Headed f (length f) (typeIn f) (tagIn f)
+unfolding readHeader readTypeTag
+whole-header f h e = record {
+  seven = h;
+  held = omega arith;
+  reads =
+      rw (held-num 4 0 f (omega arith), e, le-ltb (length f) 4 (omega arith), take-all (length f - 4) (drop 4 f) (simp length-drop (omega arith)), take-length f)
+      (rw (held-num 1 4 f (omega arith), held-num 2 5 f (omega arith)));
+}
+
+pub answer-is : (ts rs : List Row) (f : List ℕ) → Bytes f → 7 ≤ length f → sizeIn f ≡ length f → readBody (tableFor ts rs (typeIn f)) (typeIn f) f (At 7) ≡ answerOf ts rs f
+unfolding answerOf
+answer-is ts rs f b h e = ap answerIn (rw (take-length f) at (frame-is (tableFor ts rs (typeIn f)) b (whole-header f h e)))
+
+frame-same : {a a' b b' c c' d d' t t' n n' : ℕ} {x x' : Answer} → a ≡ a' → b ≡ b' → c ≡ c' → d ≡ d' → x ≡ x' → t ≡ t' → n ≡ n' → frame a b c d x t n ≡ frame a' b' c' d' x' t' n'
+frame-same e1 e2 e3 e4 e5 e6 e7 = rw (e1, e2, e3, e4, e5, e6, e7)
+
+pub at-frame : {s : List ℕ} {p x e : ℕ} {q : Place} {t : Bool} (l : Listed) → Bytes s → NumRead 4 s (At p) x q → q ≡ At e → 7 ≤ x → Within p x (length s) t → t ≡ true
+    → ListedAs (take (p + x - p) (drop p s)) p (p + x) l → Asked s p (S.Frame l)
+unfolding viewStep
+at-frame {s} {p} {x} l b r e h w g m =
+    let n : p + x - p ≡ x = omega arith in
+    let i = inside w g in
+    let f : List ℕ = take x (drop p s) in
+    let k : ListedAs f p (p + x) l = rw n at m in
+    let d = length-drop p s in
+    let z : length f ≡ x = length-take-le x (drop p s) (omega arith) in
+    let v : sizeIn f ≡ length f = ap fromLE (take-take 4 x (drop p s) (omega arith)) ∙ size-held r e .1 ∙ sym z in
+    let ety : l .ty ≡ typeIn f = k .ty ∙ number-is 1 4 f (omega arith) in
+    let etag : l .tag .0 ≡ tagIn f = k .tag ∙ number-is 2 5 f (omega arith) in
+    let ea : viewBody (l .body) ≡ answerOf tableT tableR f = (rw ety at (k .body)) ∙ answer-is tableT tableR f (bytes-take x (drop p s) (bytes-drop p s b)) (omega arith) v in
+    record {
+      is = frame-same (k .at) (k .size) ety etag ea (k .tail ∙ ap (tailIn (length f)) ea) (k .next ∙ (let y = z in omega arith)) ∙ at-whole tableT tableR s p r e h i;
+      way = k .way;
+    }
+
+-- ---- bodies
+
+pub request-body : {f : List ℕ} {ty : ℕ} (b : Tbody) → ty % 2 ≡ 0 → viewT b ≡ readBody tableT ty f (At 7) → BodyOf f ty (B.Request b)
+unfolding viewBody
+request-body {ty = ty} b e h = record { is = rw (eq-eqb (ty % 2) 0 e) h; way = e }
+
+pub reply-body : {f : List ℕ} {ty : ℕ} (b : Rbody) → (ty % 2 ≡ 0 → ⊥) → viewR b ≡ readBody tableR ty f (At 7) → BodyOf f ty (B.Reply b)
+unfolding viewBody
+reply-body {ty = ty} b e h = record { is = rw (ne-eqb (ty % 2) 0 e) h; way = e }
+
+module _ {size : ℕ} {c : Body} where
+  pub leaves-request : {b : Tbody} {m : Tmessage} {n : ℕ} → c ≡ B.Request b → b ≡ T.Message m n → Leaves size (viewBody c) n
+  unfolding viewBody viewT
+  leaves-request e f = record { is = rw (e, f) }
+
+  pub leaves-no-request : {b : Tbody} {k : Refusal} → c ≡ B.Request b → b ≡ T.Refused k → Leaves size (viewBody c) size
+  unfolding viewBody viewT
+  leaves-no-request e f = record { is = rw (e, f) (omega arith) }
+
+  pub leaves-reply : {b : Rbody} {m : Rmessage} {n : ℕ} → c ≡ B.Reply b → b ≡ Q.Message m n → Leaves size (viewBody c) n
+  unfolding viewBody viewR
+  leaves-reply e f = record { is = rw (e, f) }
+
+  pub leaves-no-reply : {b : Rbody} {k : Refusal} → c ≡ B.Reply b → b ≡ Q.Refused k → Leaves size (viewBody c) size
+  unfolding viewBody viewR
+  leaves-no-reply e f = record { is = rw (e, f) (omega arith) }
+
+-- ---- what is answered where there is no frame
+
+pub asked-end : {s : List ℕ} {p : ℕ} → end p ≡ frameAt tableT tableR s p → Asked s p (S.End p)
+unfolding viewStep
+asked-end e = record { is = e; way = tt }
+
+pub asked-stop : {s : List ℕ} {p : ℕ} {k : Refusal} → stop k p ≡ frameAt tableT tableR s p → Asked s p (S.Refused k p)
+unfolding viewStep
+asked-stop e = record { is = e; way = tt }

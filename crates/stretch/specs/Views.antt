@@ -1,0 +1,61 @@
+-- What the answers of the stretch's functions say.
+use Prim.Native.Nat.{ℕ, _-_, _%_}
+use mathlib.Core.Path.{_≡_}
+use mathlib.Core.List.{List}
+use lib.ListN.{length}
+use Rattle.numbers.specs.Places.{numAt}
+use Rattle.numbers.specs.declared.Place.the-variants.{At}
+use Rattle.messages.specs.Tables.{tableT, tableR}
+use Rattle.messages.specs.Bodies.{Answer, readBody}
+use Rattle.requests.specs.Views.{viewT}
+use Rattle.replies.specs.Views.{viewR}
+use Rattle.stretch.specs.Stretch.{tableFor, tailIn, Step, frame, end, stop, frameAt}
+use Rattle.stretch.specs.declared.Body.{Body}
+use Rattle.stretch.specs.declared.Body.the-variants as B
+use Rattle.stretch.specs.declared.Listed.{Listed}
+use Rattle.stretch.specs.declared.Step.{Step as Answered}
+use Rattle.stretch.specs.declared.Step.the-variants as S
+
+unfoldable pub viewBody : Body → Answer
+viewBody (B.Request b) = viewT b
+viewBody (B.Reply b) = viewR b
+
+-- an even type is a request's, an odd one a reply's
+abbrev pub Way : ℕ → Body → Type 0
+Way ty (B.Request b) = ty % 2 ≡ 0
+Way ty (B.Reply b) = ty % 2 ≡ 0 → ⊥
+
+-- a frame's body, by its type
+pub record BodyOf (f : List ℕ) (ty : ℕ) (b : Body) : Type 0 where
+  pub is : viewBody b ≡ readBody (tableFor tableT tableR ty) ty f (At 7)
+  pub way : Way ty b
+
+-- where the fields end, so far that what is left of the size is the tail
+pub record Leaves (size : ℕ) (a : Answer) (used : ℕ) : Type 0 where
+  pub is : size - used ≡ tailIn size a
+
+-- a frame of exactly the bytes f that stands at a position
+pub record ListedAs (f : List ℕ) (p e : ℕ) (l : Listed) : Type 0 where
+  pub at : l .at ≡ p
+  pub size : l .size ≡ length f
+  pub ty : l .ty ≡ numAt 1 f (At 4)
+  pub tag : l .tag .0 ≡ numAt 2 f (At 5)
+  pub body : viewBody (l .body) ≡ readBody (tableFor tableT tableR (l .ty)) (l .ty) f (At 7)
+  pub way : Way (l .ty) (l .body)
+  pub tail : l .tail ≡ tailIn (length f) (viewBody (l .body))
+  pub next : l .next ≡ e
+
+unfoldable pub viewStep : Answered → Step
+viewStep (S.Frame l) = frame (l .at) (l .size) (l .ty) (l .tag .0) (viewBody (l .body)) (l .tail) (l .next)
+viewStep (S.End p) = end p
+viewStep (S.Refused k p) = stop k p
+
+abbrev pub StepWay : Answered → Type 0
+StepWay (S.Frame l) = Way (l .ty) (l .body)
+StepWay (S.End p) = Unit {0}
+StepWay (S.Refused k p) = Unit {0}
+
+-- what is answered at a position of a stretch
+pub record Asked (s : List ℕ) (p : ℕ) (r : Answered) : Type 0 where
+  pub is : viewStep r ≡ frameAt tableT tableR s p
+  pub way : StepWay r

@@ -1,0 +1,173 @@
+// A stretch: frames back to back. One frame at a position, and which reply answers which request.
+
+use messages::ids::Tag;
+use numbers::Place;
+use numbers::Refusal;
+use replies::Rbody;
+use requests::Tbody;
+ghost use mathlib.Core.Path.{_≡_};
+ghost use Prim.Native.Nat.{_-_};
+ghost use Rattle.messages.specs.Tables.{tableT};
+ghost use Rattle.stretch.specs.Views.{BodyOf, Leaves, viewBody, ListedAs, Asked};
+ghost use Rattle.stretch.specs.Pairs.{knows, pairs};
+
+// What a frame's body comes to: that of a request if the type is even, else that of a reply.
+pub enum Body {
+    Request(Tbody),
+    Reply(Rbody),
+}
+
+// A frame as it is listed. Spans count from its first byte. The tail is 0 where the body is refused.
+pub struct Listed {
+    pub at: usize,
+    pub size: usize,
+    pub ty: u8,
+    pub tag: Tag,
+    pub body: Body,
+    pub tail: usize,
+    pub next: usize,
+}
+
+// What is at a position: a frame; the end, where exactly nothing is left; or a refusal, with the position.
+pub enum Step {
+    Frame(Listed),
+    End(usize),
+    Refused(Refusal, usize),
+}
+
+fn read_body(frame: &[u8], ty: u8) -> Body
+    ensures { λ r. ⌜ BodyOf (now (frame .entry)) ty r ⌝ }
+{
+    if ty % 2 == 0 {
+        return Body::Request(requests::read_tmessage(frame, ty, Place::At(7)));
+    }
+    Body::Reply(replies::read_rmessage(frame, ty, Place::At(7)))
+}
+
+// Where the fields of an accepted frame end; its end where the body is refused, so that there is no tail.
+fn used_of(size: usize, body: Body) -> usize
+    ensures { λ r. ⌜ Leaves size (viewBody body) r ⌝ }
+{
+    match body {
+        Body::Request(b) => match b {
+            Tbody::Message(_, used) => used,
+            Tbody::Refused(_) => size,
+        },
+        Body::Reply(b) => match b {
+            Rbody::Message(_, used) => used,
+            Rbody::Refused(_) => size,
+        },
+    }
+}
+
+fn less(a: usize, b: usize) -> usize
+    ensures { λ r. ⌜ r ≡ a - b ⌝ }
+{
+    if a < b {
+        return 0;
+    }
+    a - b
+}
+
+// A frame of exactly these bytes: its type, its tag, and what the reader of its direction says of its body.
+fn whole_frame(frame: &[u8], at: usize, next: usize) -> Listed
+    ensures { λ r. ⌜ ListedAs (now (frame .entry)) at next r ⌝ }
+{
+    let ty = numbers::read_u8(frame, Place::At(4));
+    let tag = numbers::read_u16(frame, Place::At(5));
+    let body = read_body(frame, ty.value);
+    let tail = less(frame.len(), used_of(frame.len(), body));
+    let tag = Tag(tag.value);
+    Listed {
+        at,
+        size: frame.len(),
+        ty: ty.value,
+        tag,
+        body,
+        tail,
+        next,
+    }
+}
+
+// One frame and the next position; or the end; or 12, 13 with the position.
+pub fn frame_at(bytes: &[u8], position: usize) -> Step
+    ensures { λ r. ⌜ Asked (now (bytes .entry)) position r ⌝ }
+{
+    if bytes.len() < position {
+        return Step::Refused(Refusal::StretchCut, position);
+    }
+    if bytes.len() == position {
+        return Step::End(position);
+    }
+    let size = numbers::read_u32(bytes, Place::At(position));
+    let a = size.next;
+    let Place::At(_) = a else {
+        return Step::Refused(Refusal::StretchCut, position);
+    };
+    if size.value < 7 {
+        return Step::Refused(Refusal::StretchSize, position);
+    }
+    let len = size.value as usize;
+    if numbers::within(position, len, bytes.len()) {
+        let next = position + len;
+        return Step::Frame(whole_frame(&bytes[position..next], position, next));
+    }
+    Step::Refused(Refusal::StretchCut, position)
+}
+
+// What a pair is told by.
+pub struct Mark {
+    pub ty: u8,
+    pub tag: Tag,
+}
+
+fn known_request(ty: u8) -> bool
+    ensures { λ r. ⌜ r ≡ knows tableT ty ⌝ }
+{
+    match ty {
+        8
+        | 12
+        | 14
+        | 16
+        | 18
+        | 20
+        | 22
+        | 24
+        | 26
+        | 30
+        | 32
+        | 40
+        | 50
+        | 52
+        | 54
+        | 70
+        | 72
+        | 74
+        | 76
+        | 100
+        | 102
+        | 104
+        | 108
+        | 110
+        | 116
+        | 118
+        | 120
+        | 122 => true,
+        _ => false,
+    }
+}
+
+// Whether a reply answers a request.
+pub fn answers(request: Mark, reply: Mark) -> bool
+    ensures { λ r. ⌜ r ≡ pairs tableT (request .ty) (request .tag .0) (reply .ty) (reply .tag .0) ⌝ }
+{
+    let asked = request.tag;
+    let given = reply.tag;
+    if asked.0 != given.0 {
+        return false;
+    }
+    if known_request(request.ty) {
+        return (reply.ty as u16) == (request.ty as u16) + 1;
+    }
+    false
+}
