@@ -2,3 +2,5 @@ pub mod Text
 pub mod TextLaws
 pub mod AnswerLaws
 pub mod ListLaws
+pub mod Inputs
+pub mod Examples

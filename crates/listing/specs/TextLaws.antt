@@ -13,13 +13,15 @@ use Rattle.io.specs.Digits.{digits, Fewest}
 use Rattle.numbers.specs.Reading.{ok}
 use Rattle.numbers.specs.ReadingLaws.{or-else}
 use Rattle.numbers.specs.Places.{over, putAt, pastPut, Put}
-use Rattle.numbers.specs.PlaceLaws.{put-then, length-put, one-answer}
+use Rattle.numbers.specs.PlaceLaws.{put-then, length-over, length-put, one-answer}
 use Rattle.numbers.specs.declared.Refusal.{Refusal}
 use Rattle.numbers.specs.declared.Place.{Place}
 use Rattle.numbers.specs.declared.Place.the-variants.{At, Refused}
 use Rattle.strings.specs.Spans.{bytesIn, showSpan, checkAt, SpanPut}
 use Rattle.strings.specs.SpanLaws.{shown-in, passing}
-use Rattle.listing.specs.Text.{figures, decimal, putAll, pastAll, PutAll, joined, space, newline, numberIn, DecimalPut, FieldPut, TailPut, LinePut, LastPut, Reported}
+use Rattle.messages.specs.Tables.{tableT, tableR}
+use Rattle.frames.specs.WritingLaws.{put-fits, past-fits, put-over, over-none}
+use Rattle.listing.specs.Text.{figures, decimal, putAll, pastAll, PutAll, joined, space, newline, numberIn, DecimalPut, FieldPut, TailPut, LinePut, LastPut, report, Reported}
 use Rattle.stretch.specs.Views.{viewBody}
 use Rattle.stretch.specs.declared.Listed.{Listed}
 
@@ -102,6 +104,32 @@ length-all (b ∷ bs) o p = length-all bs (putAt b o p) (pastPut b o p) ∙ leng
 
 pub all-length : {bs : List (List ℕ)} {o o' : List ℕ} {p q : Place} → PutAll bs o p o' q → length o' ≡ length o
 all-length {bs} {o} {p = p} a = ap length (a .bytes) ∙ length-all bs o p
+
+-- ---- where there is room, the pieces are the text
+
+pub record Whole (bs : List (List ℕ)) (o : List ℕ) (a : ℕ) : Type 0 where
+  pub bytes : putAll bs o (At a) ≡ over o a (joined bs)
+  pub next : pastAll bs o (At a) ≡ At (a + length (joined bs))
+
+pub all-fits : (bs : List (List ℕ)) (o : List ℕ) (a : ℕ) → a + length (joined bs) ≤ length o → Whole bs o a
+unfolding putAll pastAll joined
+all-fits [] o a h = let z : a + 0 ≡ a = omega arith in record { bytes = over-none o a (omega arith); next = ap At (sym z) }
+all-fits (b ∷ bs) o a h =
+    let l = length-append b (joined bs) in
+    let m = length-over o a b (omega arith) in
+    let i = all-fits bs (over o a b) (a + length b) (omega arith) in
+    let t = put-then (put-over o a b (omega arith)) (put-over (over o a b) (a + length b) (joined bs) (omega arith)) refl h in
+    record {
+      bytes = rw (put-fits b o a (omega arith), past-fits b o a (omega arith)) (i .bytes ∙ t .bytes ∙ put-fits (b ++ joined bs) o a h);
+      next = rw (put-fits b o a (omega arith), past-fits b o a (omega arith)) (i .next ∙ ap At (omega arith));
+    }
+
+-- what the lister promises, where the output is long enough: its whole text at the front, and its length
+pub report-whole : {s o o' : List ℕ} {q : Place} → Reported s o o' q → length (joined (report tableT tableR s)) ≤ length o
+    → (o' ≡ over o 0 (joined (report tableT tableR s))) × (q ≡ At (length (joined (report tableT tableR s))))
+report-whole {s} {o} r h =
+    let w = all-fits (report tableT tableR s) o 0 (omega arith) in
+    (r .is .bytes ∙ w .bytes, r .is .next ∙ w .next ∙ ap At (omega arith))
 
 -- ---- one answer
 

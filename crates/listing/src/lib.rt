@@ -1,5 +1,7 @@
 // The lister's text: a stretch of frames, a line for each, made in an output that the caller lends.
 
+pub mod input;
+
 use numbers::Place;
 use replies::Rbody;
 use requests::Tbody;

@@ -5,3 +5,4 @@ pub mod StepLaws
 pub mod PairLaws
 pub mod ListingLaws
 pub mod One
+pub mod Examples

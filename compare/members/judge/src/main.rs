@@ -3,16 +3,17 @@
 mod answers;
 mod facts;
 mod input;
+mod listing;
 mod questions;
 
 use std::env;
-use std::io::{self, BufRead, BufWriter, Write};
+use std::io::{self, BufRead, BufWriter, Read, Write};
 use std::process::ExitCode;
 
 use judge::judge;
 
 const USAGE: &str = "usage: oracle [--debug] T|R HEX.. | lines | questions SEED | answers | \
-    kinds | leaves | limit | wrap";
+    listing | kinds | leaves | limit | wrap";
 
 /// Why there is no answer, in one line; `None` where it has been said already.
 type Outcome = Result<(), Option<String>>;
@@ -38,6 +39,7 @@ fn answer(words: &[&str]) -> Outcome {
         ["lines"] => lines(line),
         ["questions", seed] => questions(seed),
         ["answers"] => lines(listed),
+        ["listing"] => stretch(),
         ["kinds"] => say(&facts::kinds()),
         ["leaves"] => say(&facts::leaves()),
         ["limit"] => say(&facts::limit()),
@@ -72,6 +74,15 @@ fn questions(seed: &str) -> Outcome {
     let known = list.known;
     eprintln!("oracle: left out {known} replies of size 0 to 3, see docs/DIFFERENCES.md");
     Ok(())
+}
+
+fn stretch() -> Outcome {
+    let mut bytes = Vec::new();
+    io::stdin()
+        .lock()
+        .read_to_end(&mut bytes)
+        .map_err(|error| format!("cannot read standard input: {error}"))?;
+    say(&listing::list(&bytes))
 }
 
 fn line(text: &str) -> Result<String, String> {
