@@ -26,7 +26,7 @@ use Rattle.frames.specs.Qids.{noQid, qidBytes, putQid, placed, toFollow,
 
 -- ---- the qids, one behind the other
 
-abbrev qidsBytes : List Qid → List ℕ
+abbrev pub qidsBytes : List Qid → List ℕ
 qidsBytes t = itemsBytes (qidItems t)
 
 qid-length : (x : Qid) → length (qidBytes x) ≡ 13
@@ -43,7 +43,7 @@ qids-none : qidsBytes [] ≡ []
 unfolding qidItems itemsBytes
 qids-none = refl
 
-qids-length : (t : List Qid) → length (qidsBytes t) ≡ 13 * length t
+pub qids-length : (t : List Qid) → length (qidsBytes t) ≡ 13 * length t
 qids-length [] = rw qids-none (omega arith)
 qids-length (x ∷ t) =
     let h = qids-length t in

@@ -77,6 +77,19 @@ fn stopped(all: Tally) -> Tally {
     tally::group(all, b"stretches that stop ", x)
 }
 
+// A Twrite of one byte with its copy behind the last field, inside its size: one request, and 24 bytes of tail.
+fn accident(all: Tally) -> Tally {
+    let repeated =
+        b"\x30\x00\x00\x00\x76\x01\x00\x02\x00\x00\x00\x00\x00\x00\x00\x00\x00\x00\x00\x01\x00\x00\x00\x31\x18\x00\x00\x00\x76\x01\x00\x02\x00\x00\x00\x00\x00\x00\x00\x00\x00\x00\x00\x01\x00\x00\x00\x31";
+    let t = lists(
+        tally::nothing(),
+        repeated,
+        b"at size type tag answer tail\n0 48 118 1 0 24\nend 48 1\n",
+        b"the repeated Twrite",
+    );
+    tally::group(all, b"the accident ", t)
+}
+
 // One frame as long as the input may be, and one byte more.
 fn longest(all: Tally) -> Tally {
     let mut s = [0u8; 65537];
@@ -138,5 +151,5 @@ fn no_room(all: Tally) -> Tally {
 }
 
 pub fn groups(all: Tally) -> Tally {
-    no_room(most_lines(longest(stopped(whole(all)))))
+    no_room(most_lines(longest(accident(stopped(whole(all))))))
 }

@@ -14,7 +14,8 @@ use Rattle.numbers.specs.declared.Place.{Place}
 use Rattle.numbers.specs.declared.Place.the-variants.{At}
 use Rattle.messages.specs.Tables.{tableT, tableR}
 use Rattle.stretch.specs.Stretch.{entry, ends, stops, frameAt, listing}
-use Rattle.stretch.specs.ListingLaws.{goesOn, listed, list-step, Moved, moves-on}
+use Rattle.stretch.specs.ListingLaws.{goesOn, listed, Moved, moves-on}
+use Rattle.stretch.specs.Functions.{answered}
 use Rattle.stretch.specs.Views.{viewBody, viewStep, Asked}
 use Rattle.stretch.specs.declared.Listed.{Listed}
 use Rattle.stretch.specs.declared.Step.{Step}
@@ -25,10 +26,6 @@ use Rattle.listing.specs.TextLaws.{all-none, all-put, all-then}
 -- the lines before position `at` are put, n of them: whatever puts those from there on has put the whole
 pub record Upto (s o : List ℕ) (p₀ : Place) (at n : ℕ) (o1 : List ℕ) (p : Place) : Type 0 where
   pub on : (o2 : List ℕ) (e : Place) → PutAll (linesFrom n (listed tableT tableR s at)) o1 p o2 e → LinesPut s o p₀ o2 e
-
--- what is listed from a position on, by what is answered there
-answered : {s : List ℕ} {at : ℕ} (r : Step) → at ≤ length s → Asked s at r → listed tableT tableR s at ≡ goesOn (viewStep r) (listed tableT tableR s)
-answered {s} {at} r h a = list-step tableT tableR s at h ∙ ap (λ x. goesOn x (listed tableT tableR s)) (sym (a .is))
 
 pub moved : {s : List ℕ} {at : ℕ} {r : Step} (l : Listed) → Asked s at r → r ≡ S.Frame l → Moved tableT tableR s at (l .size) (l .next)
 unfolding viewStep
@@ -43,20 +40,20 @@ module _ {s o : List ℕ} {p₀ : Place} where
       → Upto s o p₀ (l .next) (n + 1) o2 q
   unfolding viewStep linesFrom
   upto-next {at} {n} {r} l h a e u f =
-      let g = answered r h a ∙ ap (λ x. goesOn (viewStep x) (listed tableT tableR s)) e in
+      let g = answered s at r h a ∙ ap (λ x. goesOn (viewStep x) (listed tableT tableR s)) e in
       let m : n + 1 ≡ suc n = omega arith in
       record { on = λ o3 t w. u .on o3 t (rw g (all-then (f .is) (rw m at w))) }
 
   pub upto-end : {at n q : ℕ} {r : Step} {o1 o2 : List ℕ} {p t : Place} → at ≤ length s → Asked s at r → r ≡ S.End q → Upto s o p₀ at n o1 p → LastPut endWord q n o1 p o2 t → LinesPut s o p₀ o2 t
   unfolding viewStep linesFrom
   upto-end {at} {n} {q} {r} {o1} {o2} {p} {t} h a e u f =
-      let g = answered r h a ∙ ap (λ x. goesOn (viewStep x) (listed tableT tableR s)) e in u .on o2 t (rw g (f .is))
+      let g = answered s at r h a ∙ ap (λ x. goesOn (viewStep x) (listed tableT tableR s)) e in u .on o2 t (rw g (f .is))
 
   pub upto-stop : {at n q x : ℕ} {k : Refusal} {r : Step} {o1 o2 : List ℕ} {p t : Place} → at ≤ length s → Asked s at r → r ≡ S.Refused k q → x ≡ numberOf k → Upto s o p₀ at n o1 p
       → LastPut stopWord q x o1 p o2 t → LinesPut s o p₀ o2 t
   unfolding viewStep linesFrom
   upto-stop {at} {n} {q} {x} {k} {r} {o1} {o2} {p} {t} h a e z u f =
-      let g = answered r h a ∙ ap (λ x. goesOn (viewStep x) (listed tableT tableR s)) e in u .on o2 t (rw g (rw z at (f .is)))
+      let g = answered s at r h a ∙ ap (λ x. goesOn (viewStep x) (listed tableT tableR s)) e in u .on o2 t (rw g (rw z at (f .is)))
 
 -- ---- the report
 
