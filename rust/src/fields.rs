@@ -1,0 +1,143 @@
+//! Between a record's fields and the flat values that cross to the library.
+
+use crate::walks::{Names, Qids};
+use crate::Qid;
+
+/// What was read: the values in the layout's order, and the frame that spans point into.
+pub struct Taken<'a, 'v> {
+    pub values: std::slice::Iter<'v, u64>,
+    pub frame: &'a [u8],
+}
+
+impl<'a> Taken<'a, '_> {
+    /// An accepted frame has all its values; 0 stands for none.
+    fn next(&mut self) -> u64 {
+        self.values.next().copied().unwrap_or(0)
+    }
+
+    /// The library is proved to give spans that lie in the frame; one that didn't would show nothing.
+    fn span(&mut self) -> &'a [u8] {
+        let (start, len) = (self.next() as usize, self.next() as usize);
+        self.frame
+            .get(start..)
+            .and_then(|rest| rest.get(..len))
+            .unwrap_or_default()
+    }
+}
+
+/// What is to be written: the values, and the bytes that their spans point into, at most two slices
+/// which stand one behind the other.
+#[derive(Default)]
+pub struct Put<'a> {
+    pub values: [u64; 22],
+    filled: usize,
+    pub lent: [&'a [u8]; 2],
+    slices: usize,
+}
+
+impl<'a> Put<'a> {
+    fn value(&mut self, value: u64) {
+        self.values[self.filled] = value;
+        self.filled += 1;
+    }
+
+    fn span(&mut self, bytes: &'a [u8]) {
+        let before: usize = self.lent[..self.slices]
+            .iter()
+            .map(|slice| slice.len())
+            .sum();
+        self.value(before as u64);
+        self.value(bytes.len() as u64);
+        self.lent[self.slices] = bytes;
+        self.slices += 1;
+    }
+}
+
+pub const LONGEST_STRING: usize = 65_535;
+
+pub trait Field<'a>: Sized {
+    fn take(taken: &mut Taken<'a, '_>) -> Self;
+    fn put(&self, put: &mut Put<'a>);
+}
+
+macro_rules! numbers {
+    ($($number:ty)*) => {
+        $(impl<'a> Field<'a> for $number {
+            fn take(taken: &mut Taken<'a, '_>) -> Self {
+                taken.next() as $number
+            }
+
+            fn put(&self, put: &mut Put<'a>) {
+                put.value(u64::from(*self));
+            }
+        })*
+    };
+}
+
+numbers!(u8 u16 u32 u64);
+
+impl<'a> Field<'a> for &'a str {
+    fn take(taken: &mut Taken<'a, '_>) -> Self {
+        let bytes = taken.span();
+        // SAFETY: the library accepts a frame only if its strings are UTF-8 by RFC 3629
+        // (`readString`, `utf8` in the definitions).
+        unsafe { std::str::from_utf8_unchecked(bytes) }
+    }
+
+    fn put(&self, put: &mut Put<'a>) {
+        // One byte more than a string may have is refused with 7, as any more would be.
+        let bytes = self.as_bytes();
+        put.span(&bytes[..bytes.len().min(LONGEST_STRING + 1)]);
+    }
+}
+
+impl<'a> Field<'a> for &'a [u8] {
+    fn take(taken: &mut Taken<'a, '_>) -> Self {
+        taken.span()
+    }
+
+    fn put(&self, put: &mut Put<'a>) {
+        put.span(self);
+    }
+}
+
+impl<'a> Field<'a> for Names<'a> {
+    fn take(taken: &mut Taken<'a, '_>) -> Self {
+        let count = taken.next() as u16;
+        // The part was accepted, so its names are UTF-8 and fill it.
+        Names::accepted(count, taken.span())
+    }
+
+    fn put(&self, put: &mut Put<'a>) {
+        put.value(u64::from(self.count()));
+        put.span(self.part());
+    }
+}
+
+impl<'a> Field<'a> for Qids<'a> {
+    fn take(taken: &mut Taken<'a, '_>) -> Self {
+        let count = taken.next() as u16;
+        Qids::accepted(count, taken.span())
+    }
+
+    fn put(&self, put: &mut Put<'a>) {
+        put.value(u64::from(self.count()));
+        put.span(self.part());
+    }
+}
+
+impl<'a> Field<'a> for Qid {
+    fn take(taken: &mut Taken<'a, '_>) -> Self {
+        Qid {
+            ty: taken.next() as u8,
+            version: taken.next() as u32,
+            path: taken.next(),
+        }
+    }
+
+    fn put(&self, put: &mut Put<'a>) {
+        put.value(u64::from(self.ty));
+        put.value(u64::from(self.version));
+        put.value(self.path);
+    }
+}

@@ -1,0 +1,41 @@
+//! 9P2000.L frames for a server in Rust, read and written by a proved library.
+//!
+//! The types bear the names of p9 0.3.2's protocol module. What is read borrows from the bytes,
+//! nothing is allocated, and a refusal has its number. Where a frame ends is what its size says:
+//! bytes behind the last field are a tail, and never another request; [`stream`] cuts a stream
+//! into frames by that.
+//!
+//! ```
+//! use sheafsledge::{Names, Rframe, Rmessage, Tframe, Tmessage, Twalk};
+//!
+//! let mut buffer = [0; 64];
+//! let wnames = Names::gather(&["dcim", "0001.jpg"], &mut buffer)?;
+//! let msg = Ok(Tmessage::Walk(Twalk { fid: 1, newfid: 2, wnames }));
+//! let mut out = [0; 64];
+//! let len = Tframe { tag: 3, msg }.encode(&mut out)?;
+//!
+//! let read = Tframe::decode(&out[..len])?;
+//! assert_eq!(read.used, len);
+//! let Ok(Tmessage::Walk(walk)) = read.frame.msg else { panic!() };
+//! assert_eq!(walk.wnames.iter().last(), Some("0001.jpg"));
+//!
+//! let reply = Rframe { tag: 3, msg: Rmessage::Flush };
+//! assert_eq!(reply.encode(&mut out)?, 7);
+//! # Ok::<(), sheafsledge::Refusal>(())
+//! ```
+//!
+//! `unsafe` stands in three places, each with the promise that it rests on: the calls of the
+//! library (`ffi`), and twice where bytes that the library accepted as UTF-8 become a `&str`.
+
+mod ffi;
+mod fields;
+mod frames;
+mod records;
+mod refusal;
+pub mod stream;
+mod walks;
+
+pub use frames::{Decoded, Rframe, Tframe};
+pub use records::*;
+pub use refusal::Refusal;
+pub use walks::{Names, Qids};

@@ -1,0 +1,74 @@
+//! Why a frame is refused: the numbers of the requirements.
+
+use std::fmt;
+use std::io::{Error, ErrorKind};
+
+macro_rules! refusals {
+    ($($number:literal $name:ident $kind:ident $text:literal)*) => {
+        /// Why a frame was not read or not written.
+        #[derive(Clone, Copy, Debug, PartialEq, Eq, Hash)]
+        pub enum Refusal {
+            $(#[doc = $text] $name = $number,)*
+        }
+
+        impl Refusal {
+            pub(crate) fn of(number: u8) -> Option<Self> {
+                match number {
+                    $($number => Some(Self::$name),)*
+                    _ => None,
+                }
+            }
+
+            /// The kind of `std::io::Error` that p9 has for it, or the nearest where p9 has none.
+            pub fn kind(self) -> ErrorKind {
+                match self {
+                    $(Self::$name => ErrorKind::$kind,)*
+                }
+            }
+        }
+
+        impl fmt::Display for Refusal {
+            fn fmt(&self, f: &mut fmt::Formatter) -> fmt::Result {
+                let text = match self {
+                    $(Self::$name => $text,)*
+                };
+                write!(f, "{text} (refusal {})", self.number())
+            }
+        }
+    };
+}
+
+refusals! {
+    1 Short UnexpectedEof "the bytes end inside a field or the header"
+    2 SizeBelowFour InvalidData "the frame's size is less than 4"
+    3 UnknownType InvalidData "the message type is unknown"
+    4 DataTooLong InvalidData "the data's count is above 33,554,432"
+    5 NotUtf8 InvalidInput "a string is not UTF-8"
+    6 ZeroByte InvalidInput "a string has a zero byte"
+    7 StringTooLong InvalidInput "a string is longer than 65,535 bytes"
+    8 TableTooLong InvalidInput "a vector has more than 65,535 elements"
+    9 SpanOutside InvalidInput "a field lies outside the bytes that it is taken from"
+    10 FrameTooLong InvalidInput "the frame is longer than 4,294,967,295 bytes"
+    11 NoRoom WriteZero "the output is shorter than the frame"
+    12 StretchCut UnexpectedEof "the stretch of frames is cut"
+    13 StretchSize InvalidData "a frame's size is less than 7"
+    14 PartMalformed InvalidInput "the elements of a vector do not fill it"
+    15 NoSuchElement InvalidInput "a vector has no element of that number"
+    16 HoldsRefusal InvalidData "the frame holds a refusal, and no message to write"
+}
+
+impl Refusal {
+    /// The number of the requirements.
+    pub fn number(self) -> u8 {
+        self as u8
+    }
+}
+
+impl std::error::Error for Refusal {}
+
+/// So that a server written against p9 keeps its error handling.
+impl From<Refusal> for Error {
+    fn from(refusal: Refusal) -> Self {
+        Error::new(refusal.kind(), refusal)
+    }
+}

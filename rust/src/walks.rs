@@ -1,0 +1,106 @@
+//! The elements of walks: names and qids, as they stand on the wire.
+
+use crate::{Qid, Refusal};
+
+/// The names of a Twalk: a part of a frame that was read, or of a buffer that they were gathered in.
+///
+/// ```
+/// use sheafsledge::Names;
+/// let mut buffer = [0; 64];
+/// let names = Names::gather(&["a", "bc"], &mut buffer)?;
+/// assert_eq!(names.iter().collect::<Vec<_>>(), ["a", "bc"]);
+/// # Ok::<(), sheafsledge::Refusal>(())
+/// ```
+#[derive(Clone, Copy, Debug, PartialEq, Eq)]
+pub struct Names<'a> {
+    count: u16,
+    // Only whole strings, each behind its count; the constructors see to it.
+    part: &'a [u8],
+}
+
+impl<'a> Names<'a> {
+    pub(crate) fn accepted(count: u16, part: &'a [u8]) -> Self {
+        Self { count, part }
+    }
+
+    /// Puts names into a lent buffer, as a Twalk holds them: refused with 8, 7 or 11.
+    pub fn gather(names: &[&str], buffer: &'a mut [u8]) -> Result<Self, Refusal> {
+        let count = u16::try_from(names.len()).map_err(|_| Refusal::TableTooLong)?;
+        let mut end = 0;
+        for name in names {
+            let len = u16::try_from(name.len()).map_err(|_| Refusal::StringTooLong)?;
+            let next = end + 2 + name.len();
+            let place = buffer.get_mut(end..next).ok_or(Refusal::NoRoom)?;
+            place[..2].copy_from_slice(&len.to_le_bytes());
+            place[2..].copy_from_slice(name.as_bytes());
+            end = next;
+        }
+        let part = &buffer[..end];
+        Ok(Self { count, part })
+    }
+
+    pub fn count(&self) -> u16 {
+        self.count
+    }
+
+    pub(crate) fn part(&self) -> &'a [u8] {
+        self.part
+    }
+
+    pub fn iter(&self) -> impl Iterator<Item = &'a str> {
+        let mut rest = self.part;
+        std::iter::from_fn(move || {
+            let (len, behind) = rest.split_first_chunk()?;
+            let (name, behind) = behind.split_at_checked(u16::from_le_bytes(*len).into())?;
+            rest = behind;
+            // SAFETY: every name of an accepted part is UTF-8 (`readMany` in the definitions);
+            // gathered names were `&str`.
+            Some(unsafe { std::str::from_utf8_unchecked(name) })
+        })
+    }
+}
+
+/// The qids of an Rwalk, 13 bytes each on the wire.
+#[derive(Clone, Copy, Debug, PartialEq, Eq)]
+pub struct Qids<'a> {
+    count: u16,
+    part: &'a [u8],
+}
+
+impl<'a> Qids<'a> {
+    pub(crate) fn accepted(count: u16, part: &'a [u8]) -> Self {
+        Self { count, part }
+    }
+
+    /// Puts qids into a lent buffer, as an Rwalk holds them: refused with 8 or 11.
+    pub fn gather(qids: &[Qid], buffer: &'a mut [u8]) -> Result<Self, Refusal> {
+        let count = u16::try_from(qids.len()).map_err(|_| Refusal::TableTooLong)?;
+        let part = buffer.get_mut(..13 * qids.len()).ok_or(Refusal::NoRoom)?;
+        for (place, qid) in part.chunks_exact_mut(13).zip(qids) {
+            place[0] = qid.ty;
+            place[1..5].copy_from_slice(&qid.version.to_le_bytes());
+            place[5..].copy_from_slice(&qid.path.to_le_bytes());
+        }
+        Ok(Self { count, part })
+    }
+
+    pub fn count(&self) -> u16 {
+        self.count
+    }
+
+    pub(crate) fn part(&self) -> &'a [u8] {
+        self.part
+    }
+
+    pub fn iter(&self) -> impl Iterator<Item = Qid> + 'a {
+        self.part.chunks_exact(13).map(|qid| {
+            let version = qid[1..5].try_into().map(u32::from_le_bytes);
+            let path = qid[5..].try_into().map(u64::from_le_bytes);
+            Qid {
+                ty: qid[0],
+                version: version.unwrap_or(0),
+                path: path.unwrap_or(0),
+            }
+        })
+    }
+}

@@ -1,0 +1,113 @@
+//! The paper's frames, and the refusals of both directions.
+
+use sheafsledge::*;
+
+const A: &[u8] = b"\x15\0\0\0\x64\xff\xff\0\x20\0\0\x08\09P2000.L";
+const E: &[u8] = b"\x18\0\0\0\x6e\x03\0\x01\0\0\0\x02\0\0\0\x02\0\x01\0a\x02\0bc";
+
+fn again(bytes: &[u8]) -> Vec<u8> {
+    let read = Tframe::decode(bytes).expect("a header");
+    let mut out = [0xee; 64];
+    let len = read.frame.encode(&mut out).expect("a message");
+    assert!(out[len..].iter().all(|byte| *byte == 0xee));
+    out[..len].to_vec()
+}
+
+#[test]
+fn a_request_is_read_and_written() {
+    let read = Tframe::decode(A).unwrap();
+    let version = "9P2000.L";
+    let msg = Tmessage::Version(Tversion {
+        msize: 8192,
+        version,
+    });
+    assert_eq!(
+        (read.frame.tag, read.frame.msg, read.used),
+        (65535, Ok(msg), 21)
+    );
+    assert_eq!(again(A), A);
+}
+
+#[test]
+fn a_walk_has_its_names() {
+    let Ok(Tmessage::Walk(walk)) = Tframe::decode(E).unwrap().frame.msg else {
+        panic!("a Twalk");
+    };
+    assert_eq!(walk.wnames.iter().collect::<Vec<_>>(), ["a", "bc"]);
+    assert_eq!(again(E), E);
+}
+
+#[test]
+fn a_tail_is_no_request() {
+    let k = b"\x0b\0\0\0\x6c\x01\0\x02\0\xaa\xbb";
+    assert_eq!(Tframe::decode(k).unwrap().used, 9);
+    assert_eq!(again(k), b"\x09\0\0\0\x6c\x01\0\x02\0");
+}
+
+#[test]
+fn refusals_have_their_numbers() {
+    let number = |bytes| Tframe::decode(bytes).map_err(Refusal::number);
+    assert_eq!(number(b"\x03\0\0\0"), Err(2));
+    assert_eq!(number(b"\x04\0\0\0"), Err(1));
+    let j = Tframe::decode(b"\x07\0\0\0\x6a\x05\0").unwrap().frame;
+    assert_eq!((j.tag, j.msg), (5, Err(Refusal::UnknownType)));
+    assert_eq!(j.encode(&mut [0; 64]), Err(Refusal::HoldsRefusal));
+    let error = std::io::Error::from(Refusal::Short);
+    assert_eq!(error.kind(), std::io::ErrorKind::UnexpectedEof);
+}
+
+#[test]
+fn replies_are_read_and_written() {
+    let qid = Qid {
+        ty: 128,
+        version: 7,
+        path: u64::MAX,
+    };
+    let mut buffer = [0; 26];
+    let wqids = Qids::gather(&[qid, Qid::default()], &mut buffer).unwrap();
+    let frame = Rframe {
+        tag: 3,
+        msg: Rmessage::Walk(Rwalk { wqids }),
+    };
+    let mut out = [0; 64];
+    let len = frame.encode(&mut out).unwrap();
+    assert_eq!(len, 35);
+    let read = Rframe::decode(&out[..len]).unwrap();
+    assert_eq!((read.frame, read.used), (frame, len));
+    let Rmessage::Walk(walk) = read.frame.msg else {
+        panic!("an Rwalk")
+    };
+    assert_eq!(walk.wqids.iter().collect::<Vec<_>>(), [qid, Qid::default()]);
+}
+
+fn symlink(name: &str, symtgt: &str, room: usize) -> Result<usize, Refusal> {
+    let link = Tsymlink {
+        fid: 1,
+        name,
+        symtgt,
+        gid: 2,
+    };
+    let frame = Tframe {
+        tag: 1,
+        msg: Ok(Tmessage::Symlink(link)),
+    };
+    let mut out = vec![0xee; room];
+    let wrote = frame.encode(&mut out);
+    match wrote {
+        Ok(len) => assert_eq!(Tframe::decode(&out[..len]).unwrap().frame, frame),
+        Err(_) => assert!(out.iter().all(|byte| *byte == 0xee)),
+    }
+    wrote
+}
+
+#[test]
+fn two_strings_are_written_whatever_their_length() {
+    let long = "a".repeat(65_535);
+    let over = "a".repeat(70_000);
+    assert_eq!(symlink("ab", "c", 64), Ok(22));
+    assert_eq!(symlink("", "", 19), Ok(19));
+    assert_eq!(symlink(&long, &long, 200_000), Ok(131_089));
+    assert_eq!(symlink(&over, &long, 200_000), Err(Refusal::StringTooLong));
+    assert_eq!(symlink("a\0", &over, 200_000), Err(Refusal::ZeroByte));
+    assert_eq!(symlink("ab", "c", 21), Err(Refusal::NoRoom));
+}
