@@ -2,6 +2,7 @@
 
 pub mod cases;
 pub mod refusal;
+pub mod stretch;
 pub mod verdict;
 
 pub use verdict::{judge, quietly, written, Accepted, Direction, Tagged, Verdict};

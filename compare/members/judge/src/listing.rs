@@ -2,6 +2,7 @@
 //! frame to frame is the paper's, and none of it is the lister's own code.
 
 use judge::refusal::digits;
+use judge::stretch::whole;
 use judge::{judge, Direction, Verdict};
 
 pub fn list(stretch: &[u8]) -> Vec<String> {
@@ -24,15 +25,6 @@ pub fn list(stretch: &[u8]) -> Vec<String> {
                 return lines;
             }
         }
-    }
-}
-
-/// The frame at the front by its declared size, or 12, 13.
-fn whole(left: &[u8]) -> Result<&[u8], u8> {
-    let size = left.first_chunk().ok_or(12)?;
-    match u32::from_le_bytes(*size) as usize {
-        0..=6 => Err(13),
-        size => left.get(..size).ok_or(12),
     }
 }
 

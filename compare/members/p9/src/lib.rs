@@ -20,3 +20,16 @@ pub mod protocol {
     pub use messages::*;
     pub use wire_format::{Data, P9String, WireFormat};
 }
+
+/// A field that the seller's text never reads is no matter of ours.
+#[cfg(feature = "server")]
+#[allow(dead_code)]
+pub mod server {
+    include!(concat!(env!("OUT_DIR"), "/server/mod.rs"));
+}
+
+#[cfg(feature = "server")]
+include!(concat!(env!("OUT_DIR"), "/syscall.rs"));
+
+#[cfg(feature = "server")]
+pub(crate) use syscall;

@@ -2,10 +2,10 @@
 
 use judge::cases::{sized, wraps};
 use judge::Direction;
+use ours::{Flat, Wrote};
 use p9::draw::Draws;
 use p9::show::hex;
 
-use crate::ours::{self, Flat, Wrote};
 use crate::pieces::{lent, values, Piece};
 use crate::theirs::{self, Again, Theirs};
 

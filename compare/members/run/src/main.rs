@@ -3,7 +3,6 @@
 mod compare;
 mod kinds;
 mod limits;
-mod ours;
 mod pieces;
 mod theirs;
 

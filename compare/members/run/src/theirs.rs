@@ -4,10 +4,10 @@ use std::io;
 
 use judge::refusal::number;
 use judge::{written, Direction};
+use ours::Flat;
 use p9::flat::Value;
 use p9::protocol::{Rframe, Tframe, WireFormat};
 
-use crate::ours::Flat;
 use crate::pieces::{in_a_frame, shown, values, Piece};
 
 /// The frame written again, or the number of the refusal.

@@ -1,0 +1,54 @@
+//! The seller's server on a stream of requests, in a folder of its own.
+
+use std::path::PathBuf;
+use std::{env, fs, io, process};
+
+use p9::server::Server;
+
+use crate::frames::cut;
+use crate::requests::FILE;
+
+/// What came of a stream.
+#[derive(Debug, PartialEq, Eq)]
+pub struct Served {
+    pub file: Vec<u8>,
+    /// The type and the tag of each answer.
+    pub answers: Vec<(u8, u16)>,
+}
+
+/// The seller's server reads from the stream itself, for as long as there are bytes. The crate
+/// has no loop of its own: this one stands for its user's.
+pub fn served(mut stream: &[u8]) -> io::Result<Served> {
+    let folder = Folder::new()?;
+    let mut server = Server::new(folder.0.clone(), Default::default(), Default::default())?;
+    let mut answers = Vec::new();
+    while !stream.is_empty() {
+        server.handle_message(&mut stream, &mut answers)?;
+    }
+    let mark = |answer: &[u8]| (answer[4], u16::from_le_bytes([answer[5], answer[6]]));
+    Ok(Served {
+        file: fs::read(folder.0.join(FILE))?,
+        answers: cut(&answers)?.into_iter().map(mark).collect(),
+    })
+}
+
+/// A new folder with an empty file, there until it is dropped.
+struct Folder(PathBuf);
+
+impl Folder {
+    fn new() -> io::Result<Self> {
+        let folder = env::temp_dir().join(format!("sheafsledge-accident-{}", process::id()));
+        fs::create_dir(&folder)?;
+        let folder = Self(folder);
+        fs::write(folder.0.join(FILE), [])?;
+        Ok(folder)
+    }
+}
+
+impl Drop for Folder {
+    fn drop(&mut self) {
+        if let Err(error) = fs::remove_dir_all(&self.0) {
+            eprintln!("accident: {} stays: {error}", self.0.display());
+        }
+    }
+}
