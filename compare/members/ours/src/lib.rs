@@ -13,8 +13,10 @@ pub struct Flat {
     pub values: [u64; 22],
 }
 
+/// A request as it crosses the boundary.
 #[repr(C)]
-struct FlatT {
+#[derive(Clone, Copy)]
+pub struct FlatT {
     refusal: u8,
     ty: u8,
     tag: u16,
@@ -23,8 +25,10 @@ struct FlatT {
     values: [u64; 10],
 }
 
+/// A reply as it crosses the boundary.
 #[repr(C)]
-struct FlatR {
+#[derive(Clone, Copy)]
+pub struct FlatR {
     refusal: u8,
     ty: u8,
     tag: u16,
@@ -58,22 +62,55 @@ extern "C" {
     ) -> Wrote;
 }
 
+/// A direction's own answer. Both functions are the library's and no more, so that nothing else is
+/// in their time.
+pub trait Crossing: Copy {
+    fn read(bytes: &[u8]) -> Self;
+    fn write(self, out: &mut [u8], lent: &[u8]) -> Wrote;
+}
+
+impl Crossing for FlatT {
+    #[inline]
+    fn read(bytes: &[u8]) -> Self {
+        // SAFETY: the pointer and the count are a slice's, which the library reads and does not
+        // keep.
+        unsafe { sheafsledge_read_tframe(bytes.as_ptr(), bytes.len()) }
+    }
+
+    #[inline]
+    fn write(self, out: &mut [u8], lent: &[u8]) -> Wrote {
+        let (to, room) = (out.as_mut_ptr(), out.len());
+        // SAFETY: as in reading; the output is borrowed alone, so it overlaps nothing.
+        unsafe { sheafsledge_write_tframe(to, room, lent.as_ptr(), lent.len(), self) }
+    }
+}
+
+impl Crossing for FlatR {
+    #[inline]
+    fn read(bytes: &[u8]) -> Self {
+        // SAFETY: as for a request.
+        unsafe { sheafsledge_read_rframe(bytes.as_ptr(), bytes.len()) }
+    }
+
+    #[inline]
+    fn write(self, out: &mut [u8], lent: &[u8]) -> Wrote {
+        let (to, room) = (out.as_mut_ptr(), out.len());
+        // SAFETY: as for a request.
+        unsafe { sheafsledge_write_rframe(to, room, lent.as_ptr(), lent.len(), self) }
+    }
+}
+
 pub fn read(direction: Direction, bytes: &[u8]) -> Flat {
-    let (start, count) = (bytes.as_ptr(), bytes.len());
-    // SAFETY: the pointer and the count are a slice's, which the library reads and does not keep.
     match direction {
-        Direction::T => unsafe { sheafsledge_read_tframe(start, count) }.into(),
-        Direction::R => unsafe { sheafsledge_read_rframe(start, count) }.into(),
+        Direction::T => FlatT::read(bytes).into(),
+        Direction::R => FlatR::read(bytes).into(),
     }
 }
 
 pub fn write(direction: Direction, out: &mut [u8], lent: &[u8], frame: &Flat) -> Wrote {
-    let (to, room) = (out.as_mut_ptr(), out.len());
-    let (from, count) = (lent.as_ptr(), lent.len());
-    // SAFETY: as in reading; the output is borrowed alone, so it overlaps nothing.
     match direction {
-        Direction::T => unsafe { sheafsledge_write_tframe(to, room, from, count, frame.into()) },
-        Direction::R => unsafe { sheafsledge_write_rframe(to, room, from, count, frame.into()) },
+        Direction::T => FlatT::from(frame).write(out, lent),
+        Direction::R => FlatR::from(frame).write(out, lent),
     }
 }
 

@@ -1,0 +1,121 @@
+//! `bench/run` builds and runs this; see its head for what is measured.
+
+mod clock;
+mod frames;
+
+use std::hint::black_box;
+use std::process::ExitCode;
+
+use ours::{Crossing, FlatR, FlatT, Wrote};
+use p9::protocol::{Rframe, Tframe, WireFormat};
+
+use clock::{least, Output, Place};
+
+/// Where the data starts in a reply that holds nothing else: behind header and count.
+const DATA: usize = 11;
+
+fn main() -> ExitCode {
+    println!("name what ours theirs ratio");
+    let (requests, replies) = (frames::requests(), frames::replies());
+    let mut requests = requests.iter();
+    let mut replies = replies.iter();
+    let done = requests.all(|(name, frame)| rows::<FlatT, Tframe>(name, frame))
+        && replies.all(|(name, frame)| rows::<FlatR, Rframe>(name, frame));
+    if !done {
+        return ExitCode::FAILURE;
+    }
+    copy("8KiB", &frames::rreaddir());
+    copy("64KiB", &frames::rread());
+    ExitCode::SUCCESS
+}
+
+/// The two rows of a frame. There are none, and the answer is `false`, unless both libraries read
+/// it and write it again.
+fn rows<Ours: Crossing, Theirs: WireFormat>(name: &str, frame: &[u8]) -> bool {
+    let flat = Ours::read(frame);
+    let mut out = vec![0; frame.len()];
+    let wrote = flat.write(&mut out, frame);
+    let whole = Wrote {
+        refusal: 0,
+        len: frame.len(),
+    };
+    if wrote != whole || out != frame {
+        eprintln!("bench: the proved library does not read {name} and write it again");
+        return false;
+    }
+    let record = Theirs::decode(&mut &*frame);
+    let again = record.as_ref().ok().map(judge::written);
+    match (record, again) {
+        (Ok(record), Some(Ok(again))) if again == frame => {
+            read::<Ours, Theirs>(name, frame);
+            write(name, frame, flat, &record);
+            true
+        }
+        _ => {
+            eprintln!("bench: the seller's crate does not read {name} and write it again");
+            false
+        }
+    }
+}
+
+fn read<Ours: Crossing, Theirs: WireFormat>(name: &str, frame: &[u8]) {
+    let mut ours = |turns, _: Place| {
+        for _ in 0..turns {
+            black_box(&Ours::read(black_box(frame)));
+        }
+    };
+    let mut theirs = |turns, _: Place| {
+        for _ in 0..turns {
+            // And dropped, which whoever reads one has to do.
+            black_box(&Theirs::decode(&mut black_box(frame)));
+        }
+    };
+    let [ours, theirs] = least([&mut ours, &mut theirs]);
+    row(name, "read", ours, theirs);
+}
+
+fn write(name: &str, frame: &[u8], flat: impl Crossing, record: &impl WireFormat) {
+    let mut output = Output::new(frame.len());
+    let mut ours = |turns, place| {
+        let out = output.at(place);
+        for _ in 0..turns {
+            let (to, lent) = (black_box(&mut *out), black_box(frame));
+            // Nothing stands between the record and the call, or it would be copied twice.
+            black_box(&black_box(&flat).write(to, lent));
+        }
+    };
+    let mut output = Output::new(frame.len());
+    let mut into_slice = |turns, place| {
+        let out = output.at(place);
+        for _ in 0..turns {
+            let mut to = black_box(&mut *out);
+            black_box(&black_box(record).encode(&mut to));
+        }
+    };
+    let mut grown = Vec::with_capacity(frame.len());
+    let mut into_vec = |turns, _: Place| {
+        for _ in 0..turns {
+            grown.clear();
+            black_box(&black_box(record).encode(black_box(&mut grown)));
+        }
+    };
+    let [ours, slice, vec] = least([&mut ours, &mut into_slice, &mut into_vec]);
+    row(name, "write", ours, slice.min(vec));
+}
+
+/// A reply's data, from and to where its writer copies them.
+fn copy(name: &str, frame: &[u8]) {
+    let mut output = Output::new(frame.len());
+    let mut plain = |turns, place| {
+        let out = &mut output.at(place)[DATA..];
+        for _ in 0..turns {
+            black_box(&mut *out).copy_from_slice(black_box(&frame[DATA..]));
+        }
+    };
+    let [plain] = least([&mut plain]);
+    println!("{name} copy {plain:.1} - -");
+}
+
+fn row(name: &str, what: &str, ours: f64, theirs: f64) {
+    println!("{name} {what} {ours:.1} {theirs:.1} {:.2}", theirs / ours);
+}
