@@ -50,13 +50,13 @@ fn twrite() -> Vec<u8> {
     }))
 }
 
-pub fn rread() -> Vec<u8> {
+fn rread() -> Vec<u8> {
     let data = Data(draws().bytes(LONG));
     r(Rmessage::Read(Rread { data }))
 }
 
 /// 256 entries of 32 bytes: 24 and a name.
-pub fn rreaddir() -> Vec<u8> {
+fn rreaddir() -> Vec<u8> {
     let draws = &mut draws();
     let entry = |place: usize| {
         bytes(&Dirent {

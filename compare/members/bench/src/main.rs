@@ -11,8 +11,8 @@ use p9::protocol::{Rframe, Tframe, WireFormat};
 
 use clock::{least, Output, Place};
 
-/// Where the data starts in a reply that holds nothing else: behind header and count.
-const DATA: usize = 11;
+/// From so many bytes on, copying them is most of a writer's work.
+const LONG: usize = 8192;
 
 fn main() -> ExitCode {
     println!("name what ours theirs ratio");
@@ -21,15 +21,13 @@ fn main() -> ExitCode {
     let mut replies = replies.iter();
     let done = requests.all(|(name, frame)| rows::<FlatT, Tframe>(name, frame))
         && replies.all(|(name, frame)| rows::<FlatR, Rframe>(name, frame));
-    if !done {
-        return ExitCode::FAILURE;
+    match done {
+        true => ExitCode::SUCCESS,
+        false => ExitCode::FAILURE,
     }
-    copy("8KiB", &frames::rreaddir());
-    copy("64KiB", &frames::rread());
-    ExitCode::SUCCESS
 }
 
-/// The two rows of a frame. There are none, and the answer is `false`, unless both libraries read
+/// The rows of a frame. There are none, and the answer is `false`, unless both libraries read
 /// it and write it again.
 fn rows<Ours: Crossing, Theirs: WireFormat>(name: &str, frame: &[u8]) -> bool {
     let flat = Ours::read(frame);
@@ -99,21 +97,18 @@ fn write(name: &str, frame: &[u8], flat: impl Crossing, record: &impl WireFormat
             black_box(&black_box(record).encode(black_box(&mut grown)));
         }
     };
-    let [ours, slice, vec] = least([&mut ours, &mut into_slice, &mut into_vec]);
-    row(name, "write", ours, slice.min(vec));
-}
-
-/// A reply's data, from and to where its writer copies them.
-fn copy(name: &str, frame: &[u8]) {
     let mut output = Output::new(frame.len());
-    let mut plain = |turns, place| {
-        let out = &mut output.at(place)[DATA..];
+    let mut copy = |turns, place| {
+        let out = output.at(place);
         for _ in 0..turns {
-            black_box(&mut *out).copy_from_slice(black_box(&frame[DATA..]));
+            black_box(&mut *out).copy_from_slice(black_box(frame));
         }
     };
-    let [plain] = least([&mut plain]);
-    println!("{name} copy {plain:.1} - -");
+    let [ours, slice, vec, copy] = least([&mut ours, &mut into_slice, &mut into_vec, &mut copy]);
+    row(name, "write", ours, slice.min(vec));
+    if frame.len() > LONG {
+        println!("{name} copy {copy:.1} - -");
+    }
 }
 
 fn row(name: &str, what: &str, ours: f64, theirs: f64) {
