@@ -1,10 +1,13 @@
-//! Our frames: a stream is cut at the declared sizes, and each frame is read by the proved library.
+//! Our frames, as a server in Rust has them: the stream is cut at the declared sizes, and each
+//! request is read and written again, without its tail.
 
 use std::io;
 
-use judge::cases::sized;
-use judge::stretch::whole;
-use judge::Direction;
+use sheafsledge::stream::{next_frame, Next};
+use sheafsledge::{Refusal, Tframe};
+
+/// The msize that the session begins with.
+const ROOM: usize = 8192;
 
 /// The bytes behind the last field of a frame, and the frame's tag.
 #[derive(Clone, Debug, PartialEq, Eq)]
@@ -13,19 +16,18 @@ pub struct Tail {
     pub bytes: Vec<u8>,
 }
 
-/// The requests of the stream without their tails, each size lowered to match, and the tails.
-pub fn stripped(stream: &[u8]) -> io::Result<(Vec<u8>, Vec<Tail>)> {
+/// The requests of the stream without their tails, and the tails.
+pub fn stripped(mut stream: &[u8]) -> io::Result<(Vec<u8>, Vec<Tail>)> {
     let (mut requests, mut tails) = (Vec::new(), Vec::new());
-    for frame in cut(stream)? {
-        let read = ours::read(Direction::T, frame);
-        if read.refusal != 0 {
-            return Err(refused("a request", read.refusal));
-        }
-        let (fields, tail) = frame.split_at(read.used);
-        requests.extend(sized(fields.to_vec(), read.used as u32));
+    let mut room = [0; ROOM];
+    while let Next::Frame(frame) = next_frame(&mut stream, &mut room)? {
+        let read = Tframe::decode(frame)?;
+        read.frame.msg?;
+        requests.extend(written(&read.frame)?);
+        let tail = &frame[read.used..];
         if !tail.is_empty() {
             tails.push(Tail {
-                tag: read.tag,
+                tag: read.frame.tag,
                 bytes: tail.to_vec(),
             });
         }
@@ -33,16 +35,9 @@ pub fn stripped(stream: &[u8]) -> io::Result<(Vec<u8>, Vec<Tail>)> {
     Ok((requests, tails))
 }
 
-pub fn cut(mut stream: &[u8]) -> io::Result<Vec<&[u8]>> {
-    let mut frames = Vec::new();
-    while !stream.is_empty() {
-        let frame = whole(stream).map_err(|refusal| refused("the stream", refusal))?;
-        frames.push(frame);
-        stream = &stream[frame.len()..];
-    }
-    Ok(frames)
-}
-
-fn refused(what: &str, refusal: u8) -> io::Error {
-    io::Error::other(format!("{what} is refused with {refusal}"))
+fn written(request: &Tframe) -> Result<Vec<u8>, Refusal> {
+    let mut room = vec![0; ROOM];
+    let len = request.encode(&mut room)?;
+    room.truncate(len);
+    Ok(room)
 }

@@ -3,9 +3,9 @@
 use std::path::PathBuf;
 use std::{env, fs, io, process};
 
+use judge::stretch::whole;
 use p9::server::Server;
 
-use crate::frames::cut;
 use crate::requests::FILE;
 
 /// What came of a stream.
@@ -25,11 +25,22 @@ pub fn served(mut stream: &[u8]) -> io::Result<Served> {
     while !stream.is_empty() {
         server.handle_message(&mut stream, &mut answers)?;
     }
-    let mark = |answer: &[u8]| (answer[4], u16::from_le_bytes([answer[5], answer[6]]));
     Ok(Served {
         file: fs::read(folder.0.join(FILE))?,
-        answers: cut(&answers)?.into_iter().map(mark).collect(),
+        answers: marks(&answers)?,
     })
+}
+
+/// The type and the tag of each frame, by plain Rust: neither codec judges the seller's answers.
+fn marks(mut answers: &[u8]) -> io::Result<Vec<(u8, u16)>> {
+    let mut marks = Vec::new();
+    while !answers.is_empty() {
+        let refused = |refusal| io::Error::other(format!("an answer is refused with {refusal}"));
+        let answer = whole(answers).map_err(refused)?;
+        marks.push((answer[4], u16::from_le_bytes([answer[5], answer[6]])));
+        answers = &answers[answer.len()..];
+    }
+    Ok(marks)
 }
 
 /// A new folder with an empty file, there until it is dropped.
