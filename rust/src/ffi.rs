@@ -1,50 +1,11 @@
 //! The proved library over its C boundary; all calls of it are here.
 
+use crate::boundary::{
+    sheafsledge_read_rframe, sheafsledge_read_tframe, sheafsledge_write_rframe,
+    sheafsledge_write_tframe, Wrote,
+};
+pub use crate::boundary::{FlatR, FlatT};
 use crate::Refusal;
-
-#[repr(C)]
-pub struct FlatT {
-    pub refusal: u8,
-    pub ty: u8,
-    pub tag: u16,
-    pub tagged: bool,
-    pub used: usize,
-    pub values: [u64; 10],
-}
-
-#[repr(C)]
-pub struct FlatR {
-    pub refusal: u8,
-    pub ty: u8,
-    pub tag: u16,
-    pub used: usize,
-    pub values: [u64; 22],
-}
-
-#[repr(C)]
-pub struct Wrote {
-    refusal: u8,
-    len: usize,
-}
-
-extern "C" {
-    fn sheafsledge_read_tframe(bytes: *const u8, count: usize) -> FlatT;
-    fn sheafsledge_read_rframe(bytes: *const u8, count: usize) -> FlatR;
-    fn sheafsledge_write_tframe(
-        out: *mut u8,
-        room: usize,
-        lent: *const u8,
-        count: usize,
-        frame: FlatT,
-    ) -> Wrote;
-    fn sheafsledge_write_rframe(
-        out: *mut u8,
-        room: usize,
-        lent: *const u8,
-        count: usize,
-        frame: FlatR,
-    ) -> Wrote;
-}
 
 pub fn read_t(bytes: &[u8]) -> FlatT {
     // SAFETY: pointer and count are a slice's. The library is proved to touch nothing else, and

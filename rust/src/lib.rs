@@ -27,6 +27,7 @@
 //! `unsafe` stands in three places, each with the promise that it rests on: the calls of the
 //! library (`ffi`), and twice where bytes that the library accepted as UTF-8 become a `&str`.
 
+mod boundary;
 mod ffi;
 mod fields;
 mod frames;

@@ -1,6 +1,15 @@
 //! The proved library, over its C boundary.
 
+#[path = "../../../../rust/src/boundary.rs"]
+mod boundary;
+
+use boundary::{
+    sheafsledge_read_rframe, sheafsledge_read_tframe, sheafsledge_write_rframe,
+    sheafsledge_write_tframe,
+};
 use judge::Direction;
+
+pub use boundary::{FlatR, FlatT, Wrote};
 
 /// An answer of either direction. A request has 10 values and a reply 22; what is behind them is 0.
 #[derive(Clone, Debug, Default, PartialEq, Eq)]
@@ -11,55 +20,6 @@ pub struct Flat {
     pub tagged: bool,
     pub used: usize,
     pub values: [u64; 22],
-}
-
-/// A request as it crosses the boundary.
-#[repr(C)]
-#[derive(Clone, Copy)]
-pub struct FlatT {
-    refusal: u8,
-    ty: u8,
-    tag: u16,
-    tagged: bool,
-    used: usize,
-    values: [u64; 10],
-}
-
-/// A reply as it crosses the boundary.
-#[repr(C)]
-#[derive(Clone, Copy)]
-pub struct FlatR {
-    refusal: u8,
-    ty: u8,
-    tag: u16,
-    used: usize,
-    values: [u64; 22],
-}
-
-#[repr(C)]
-#[derive(Clone, Copy, Debug, PartialEq, Eq)]
-pub struct Wrote {
-    pub refusal: u8,
-    pub len: usize,
-}
-
-extern "C" {
-    fn sheafsledge_read_tframe(bytes: *const u8, count: usize) -> FlatT;
-    fn sheafsledge_read_rframe(bytes: *const u8, count: usize) -> FlatR;
-    fn sheafsledge_write_tframe(
-        out: *mut u8,
-        room: usize,
-        lent: *const u8,
-        count: usize,
-        frame: FlatT,
-    ) -> Wrote;
-    fn sheafsledge_write_rframe(
-        out: *mut u8,
-        room: usize,
-        lent: *const u8,
-        count: usize,
-        frame: FlatR,
-    ) -> Wrote;
 }
 
 /// A direction's own answer. Both functions are the library's and no more, so that nothing else is
