@@ -8,6 +8,8 @@ ghost use Rattle.fields.specs.Fields.{Fields};
 ghost use Rattle.fields.specs.Laying.{Laid};
 ghost use Rattle.messages.specs.Records.{qid};
 
+// The layout is C's, so that Rust can lend a table of them.
+#[repr(C)]
 pub struct Qid {
     pub ty: u8,
     pub version: u32,
