@@ -1,2 +1,5 @@
 pub mod Flats
 pub mod WritingLaws
+pub mod Answers
+pub mod Dirents
+pub mod Walks

@@ -1,6 +1,11 @@
 // The functions that Rust calls: one frame read into a flat answer, or written from one. Nothing is decided here: an answer of `frames`
 // is taken apart, and a record for it is put together.
 
+pub mod dirents;
+pub mod stretches;
+pub mod texts;
+pub mod walks;
+
 use frames::ReadRframe;
 use frames::ReadTframe;
 use frames::Rframe;
