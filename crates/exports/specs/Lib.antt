@@ -3,3 +3,4 @@ pub mod WritingLaws
 pub mod Answers
 pub mod Dirents
 pub mod Walks
+pub mod Steps

@@ -1,0 +1,21 @@
+use borrow.Author.Needs.{needs}
+use Rattle.stretch.specs.Views.{viewBody}
+use Rattle.exports.proofs.stretches.flat_body.Statement.{statement}
+use Rattle.exports.proofs.stretches.flat_body.Tie as tie
+
+enum-known-b : tie.Need-enum-known-b
+enum-known-b c = search needs
+
+enum-known-b-2 : tie.Need-enum-known-b-2
+enum-known-b-2 c = search needs
+
+returns : tie.Need-returns
+unfolding viewBody
+returns c = rw (c .before .before .b .given .1) (c .flat-request .ensures)
+
+returns-2 : tie.Need-returns-2
+unfolding viewBody
+returns-2 c = rw (c .before .before .b2 .given .1) (c .flat-reply .ensures)
+
+pub flat-body-spec : {M : Type 1} → statement M
+flat-body-spec = tie.close (tie.spec enum-known-b (λ _ _. tt) enum-known-b-2 (λ _ _. tt) returns returns-2)
