@@ -1,5 +1,5 @@
-//! What the proved library's four functions are to C: src/lib.rt of the crate `exports`, declared
-//! once for this crate and for the comparison.
+//! What the proved library's functions are to C: src/lib.rt of the crate `exports`, declared once
+//! for this crate and for the comparison.
 
 /// A request as it crosses the boundary.
 #[repr(C)]
@@ -31,6 +31,61 @@ pub struct Wrote {
     pub len: usize,
 }
 
+/// What a server calls a file: 13 bytes on the wire.
+#[repr(C)]
+#[derive(Clone, Copy, Debug, Default, PartialEq, Eq)]
+pub struct Qid {
+    pub ty: u8,
+    pub version: u32,
+    pub path: u64,
+}
+
+/// A directory entry as it crosses the boundary. Its name is a span of the bytes that it was read
+/// from, or that are lent; `next` is the place behind it.
+#[repr(C)]
+#[derive(Clone, Copy, Debug, Default, PartialEq, Eq)]
+pub struct FlatDirent {
+    pub refusal: u8,
+    pub ty: u8,
+    pub qid: Qid,
+    pub offset: u64,
+    pub start: usize,
+    pub len: usize,
+    pub next: usize,
+}
+
+#[repr(C)]
+#[derive(Clone, Copy, Debug, Default, PartialEq, Eq)]
+pub struct FlatSpan {
+    pub refusal: u8,
+    pub start: usize,
+    pub len: usize,
+}
+
+#[repr(C)]
+#[derive(Clone, Copy, Debug, Default, PartialEq, Eq)]
+pub struct FlatQid {
+    pub refusal: u8,
+    pub qid: Qid,
+}
+
+/// What is at a position of a stretch: a frame, whose body may be refused (`body`); the end; or a
+/// refusal.
+#[repr(C)]
+#[derive(Clone, Copy, Debug, Default, PartialEq, Eq)]
+pub struct FlatStep {
+    pub refusal: u8,
+    pub end: bool,
+    pub ty: u8,
+    pub body: u8,
+    pub tag: u16,
+    pub at: usize,
+    pub size: usize,
+    pub tail: usize,
+    pub next: usize,
+    pub values: [u64; 22],
+}
+
 extern "C" {
     pub fn sheafsledge_read_tframe(bytes: *const u8, count: usize) -> FlatT;
     pub fn sheafsledge_read_rframe(bytes: *const u8, count: usize) -> FlatR;
@@ -48,4 +103,56 @@ extern "C" {
         count: usize,
         frame: FlatR,
     ) -> Wrote;
+    pub fn sheafsledge_read_dirent(bytes: *const u8, count: usize, at: usize) -> FlatDirent;
+    pub fn sheafsledge_write_dirent(
+        out: *mut u8,
+        room: usize,
+        at: usize,
+        lent: *const u8,
+        count: usize,
+        dirent: FlatDirent,
+    ) -> Wrote;
+    pub fn sheafsledge_is_utf8(bytes: *const u8, count: usize) -> bool;
+    pub fn sheafsledge_answers(
+        request_ty: u8,
+        request_tag: u16,
+        reply_ty: u8,
+        reply_tag: u16,
+    ) -> bool;
+    pub fn sheafsledge_name_at(
+        lent: *const u8,
+        lent_count: usize,
+        count: u16,
+        start: usize,
+        len: usize,
+        i: usize,
+    ) -> FlatSpan;
+    pub fn sheafsledge_qid_at(
+        lent: *const u8,
+        lent_count: usize,
+        count: u16,
+        start: usize,
+        len: usize,
+        i: usize,
+    ) -> FlatSpan;
+    pub fn sheafsledge_read_qid(bytes: *const u8, count: usize, at: usize) -> FlatQid;
+    pub fn sheafsledge_write_twalk(
+        out: *mut u8,
+        room: usize,
+        lent: *const u8,
+        count: usize,
+        tag: u16,
+        fid: u32,
+        newfid: u32,
+        names: *const [usize; 2],
+        names_count: usize,
+    ) -> Wrote;
+    pub fn sheafsledge_write_rwalk(
+        out: *mut u8,
+        room: usize,
+        tag: u16,
+        qids: *const Qid,
+        qids_count: usize,
+    ) -> Wrote;
+    pub fn sheafsledge_frame_at(bytes: *const u8, count: usize, position: usize) -> FlatStep;
 }

@@ -15,14 +15,18 @@ impl<'a> Taken<'a, '_> {
         self.values.next().copied().unwrap_or(0)
     }
 
-    /// The library is proved to give spans that lie in the frame; one that didn't would show nothing.
     fn span(&mut self) -> &'a [u8] {
         let (start, len) = (self.next() as usize, self.next() as usize);
-        self.frame
-            .get(start..)
-            .and_then(|rest| rest.get(..len))
-            .unwrap_or_default()
+        shown(self.frame, start, len)
     }
+}
+
+/// The library is proved to give spans that lie in the bytes; one that didn't would show nothing.
+pub fn shown(bytes: &[u8], start: usize, len: usize) -> &[u8] {
+    bytes
+        .get(start..)
+        .and_then(|rest| rest.get(..len))
+        .unwrap_or_default()
 }
 
 /// What is to be written: the values, and the bytes that their spans point into, at most two slices
@@ -55,6 +59,12 @@ impl<'a> Put<'a> {
 
 pub const LONGEST_STRING: usize = 65_535;
 
+/// One byte more than a string may have is refused with 7, as any more would be.
+pub fn lendable(text: &str) -> &[u8] {
+    let bytes = text.as_bytes();
+    &bytes[..bytes.len().min(LONGEST_STRING + 1)]
+}
+
 pub trait Field<'a>: Sized {
     fn take(taken: &mut Taken<'a, '_>) -> Self;
     fn put(&self, put: &mut Put<'a>);
@@ -85,9 +95,7 @@ impl<'a> Field<'a> for &'a str {
     }
 
     fn put(&self, put: &mut Put<'a>) {
-        // One byte more than a string may have is refused with 7, as any more would be.
-        let bytes = self.as_bytes();
-        put.span(&bytes[..bytes.len().min(LONGEST_STRING + 1)]);
+        put.span(lendable(self));
     }
 }
 

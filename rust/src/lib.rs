@@ -24,19 +24,36 @@
 //! # Ok::<(), sheafsledge::Refusal>(())
 //! ```
 //!
-//! `unsafe` stands in three places, each with the promise that it rests on: the calls of the
-//! library (`ffi`), and twice where bytes that the library accepted as UTF-8 become a `&str`.
+//! `unsafe` stands in five places, each with the promise that it rests on: the calls of the
+//! library (`ffi`), and four times where bytes that the library accepted as UTF-8 become a `&str`:
+//! a frame's string, a directory entry's name, and a walk's names, in order or by their number.
 
 mod boundary;
+mod dirents;
 mod ffi;
 mod fields;
 mod frames;
 mod records;
 mod refusal;
 pub mod stream;
+mod stretch;
+mod tables;
 mod walks;
 
+pub use dirents::{Dirent, Dirents};
 pub use frames::{Decoded, Rframe, Tframe};
 pub use records::*;
 pub use refusal::Refusal;
+pub use stretch::{answers, stretch, Body, Listed, Mark, Stop, Stretch};
+pub use tables::{write_rwalk, write_twalk, WalkHead};
 pub use walks::{Names, Qids};
+
+/// Whether bytes are UTF-8 by RFC 3629, as the strings of a frame have to be.
+///
+/// ```
+/// assert!(sheafsledge::is_utf8("höhe".as_bytes()));
+/// assert!(!sheafsledge::is_utf8(b"\xed\xa0\x80"), "a surrogate");
+/// ```
+pub fn is_utf8(bytes: &[u8]) -> bool {
+    ffi::is_utf8(bytes)
+}

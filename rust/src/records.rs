@@ -1,15 +1,8 @@
 //! The records under the seller's names, and the two enums that hold them.
 
+pub use crate::boundary::Qid;
 use crate::fields::{Field, Put, Taken};
 use crate::walks::{Names, Qids};
-
-/// What a server calls a file: 13 bytes on the wire.
-#[derive(Clone, Copy, Debug, Default, PartialEq, Eq)]
-pub struct Qid {
-    pub ty: u8,
-    pub version: u32,
-    pub path: u64,
-}
 
 /// A record's fields cross in declared order, which is the layout's.
 macro_rules! record {

@@ -1,6 +1,7 @@
 //! The elements of walks: names and qids, as they stand on the wire.
 
-use crate::{Qid, Refusal};
+use crate::fields::shown;
+use crate::{ffi, Qid, Refusal};
 
 /// The names of a Twalk: a part of a frame that was read, or of a buffer that they were gathered in.
 ///
@@ -47,6 +48,28 @@ impl<'a> Names<'a> {
         self.part
     }
 
+    /// Name `i` from 0 on, by the library's own function, which checks the whole part each time;
+    /// refused with 15 where there is none. For all of them, `iter` is the faster way.
+    ///
+    /// ```
+    /// # use sheafsledge::{Names, Refusal};
+    /// let mut buffer = [0; 64];
+    /// let names = Names::gather(&["a", "bc"], &mut buffer)?;
+    /// assert_eq!(names.get(1), Ok("bc"));
+    /// assert_eq!(names.get(2), Err(Refusal::NoSuchElement));
+    /// # Ok::<(), Refusal>(())
+    /// ```
+    pub fn get(&self, i: usize) -> Result<&'a str, Refusal> {
+        let found = ffi::name_at(self.part, self.count, i);
+        let name = shown(self.part, found.start, found.len);
+        match Refusal::of(found.refusal) {
+            Some(refusal) => Err(refusal),
+            // SAFETY: an element is given only of a part whose names are all UTF-8 (`elementAt` in
+            // the definitions).
+            None => Ok(unsafe { std::str::from_utf8_unchecked(name) }),
+        }
+    }
+
     pub fn iter(&self) -> impl Iterator<Item = &'a str> {
         let mut rest = self.part;
         std::iter::from_fn(move || {
@@ -90,6 +113,16 @@ impl<'a> Qids<'a> {
 
     pub(crate) fn part(&self) -> &'a [u8] {
         self.part
+    }
+
+    /// Qid `i` from 0 on, by the library's own functions; refused with 15 where there is none.
+    pub fn get(&self, i: usize) -> Result<Qid, Refusal> {
+        let found = ffi::qid_at(self.part, self.count, i);
+        if let Some(refusal) = Refusal::of(found.refusal) {
+            return Err(refusal);
+        }
+        let read = ffi::read_qid(self.part, found.start);
+        Refusal::of(read.refusal).map_or(Ok(read.qid), Err)
     }
 
     pub fn iter(&self) -> impl Iterator<Item = Qid> + 'a {

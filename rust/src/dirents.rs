@@ -1,0 +1,96 @@
+//! The entries of a directory, as an Rreaddir's data holds them one behind the other.
+
+use crate::boundary::FlatDirent;
+use crate::fields::{lendable, shown};
+use crate::{ffi, Qid, Refusal, Rreaddir};
+
+/// A directory entry: 24 bytes and its name on the wire.
+///
+/// ```
+/// use sheafsledge::{Dirent, Qid, Rreaddir};
+/// let qid = Qid { ty: 0x80, version: 0, path: 7 };
+/// let mut data = [0; 64];
+/// let first = Dirent { qid, offset: 1, ty: 4, name: "dcim" }.encode(&mut data, 0)?;
+/// let end = Dirent { qid, offset: 2, ty: 8, name: "log" }.encode(&mut data, first)?;
+/// assert_eq!((first, end), (28, 55));
+///
+/// let data = &data[..end];
+/// let names = Rreaddir { data }.entries().map(|entry| entry.map(|entry| entry.name));
+/// assert_eq!(names.collect::<Result<Vec<_>, _>>(), Ok(vec!["dcim", "log"]));
+/// # Ok::<(), sheafsledge::Refusal>(())
+/// ```
+#[derive(Clone, Copy, Debug, PartialEq, Eq)]
+pub struct Dirent<'a> {
+    pub qid: Qid,
+    /// Where a client that has come so far goes on: what it asks the next Treaddir for.
+    pub offset: u64,
+    pub ty: u8,
+    pub name: &'a str,
+}
+
+impl<'a> Dirent<'a> {
+    /// Reads the entry at a place of some bytes, and answers the place behind it too.
+    pub fn decode(bytes: &'a [u8], at: usize) -> Result<(Self, usize), Refusal> {
+        let flat = ffi::read_dirent(bytes, at);
+        if let Some(refusal) = Refusal::of(flat.refusal) {
+            return Err(refusal);
+        }
+        let name = shown(bytes, flat.start, flat.len);
+        let entry = Self {
+            qid: flat.qid,
+            offset: flat.offset,
+            ty: flat.ty,
+            // SAFETY: the library accepts an entry only if its name is UTF-8 by RFC 3629
+            // (`layoutDirent`, whose last field is a string, and `readString` in the definitions).
+            name: unsafe { std::str::from_utf8_unchecked(name) },
+        };
+        Ok((entry, flat.next))
+    }
+
+    /// Writes the entry at a place of the output, and answers the place behind it. Refused, the
+    /// output is as it was: 11 where it ends before the entry does.
+    pub fn encode(&self, out: &mut [u8], at: usize) -> Result<usize, Refusal> {
+        let lent = lendable(self.name);
+        let flat = FlatDirent {
+            refusal: 0,
+            ty: self.ty,
+            qid: self.qid,
+            offset: self.offset,
+            start: 0,
+            len: lent.len(),
+            next: 0,
+        };
+        ffi::write_dirent(out, at, lent, flat)
+    }
+}
+
+impl<'a> Rreaddir<'a> {
+    /// The entries one by one. The data is whatever the server sent, so an entry may be refused;
+    /// none is given behind that one.
+    pub fn entries(&self) -> Dirents<'a> {
+        let (data, at) = (self.data, 0);
+        Dirents { data, at }
+    }
+}
+
+/// The entries of an Rreaddir, see [`Rreaddir::entries`].
+#[derive(Clone, Copy, Debug)]
+pub struct Dirents<'a> {
+    data: &'a [u8],
+    at: usize,
+}
+
+impl<'a> Iterator for Dirents<'a> {
+    type Item = Result<Dirent<'a>, Refusal>;
+
+    fn next(&mut self) -> Option<Self::Item> {
+        if self.at >= self.data.len() {
+            return None;
+        }
+        let read = Dirent::decode(self.data, self.at);
+        self.at = read.as_ref().map_or(self.data.len(), |(_, next)| *next);
+        Some(read.map(|(entry, _)| entry))
+    }
+}
+
+impl std::iter::FusedIterator for Dirents<'_> {}

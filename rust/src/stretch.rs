@@ -1,0 +1,174 @@
+//! Frames back to back: a recording, or a buffer that holds several. And which reply answers which
+//! request.
+
+use std::fmt;
+use std::iter::FusedIterator;
+
+use crate::boundary::FlatStep;
+use crate::fields::{shown, Taken};
+use crate::{ffi, Refusal, Rmessage, Tmessage};
+
+/// What a frame holds: a request if its type is even, else a reply.
+#[derive(Clone, Copy, Debug, PartialEq, Eq)]
+pub enum Body<'a> {
+    Request(Result<Tmessage<'a>, Refusal>),
+    Reply(Result<Rmessage<'a>, Refusal>),
+}
+
+/// A frame of a stretch.
+#[derive(Clone, Copy, Debug, PartialEq, Eq)]
+pub struct Listed<'a> {
+    /// Where it starts in the stretch.
+    pub at: usize,
+    /// How long it says that it is, and is.
+    pub size: usize,
+    pub ty: u8,
+    pub tag: u16,
+    pub body: Body<'a>,
+    /// How many bytes stand behind its last field; 0 where the body is refused.
+    pub tail: usize,
+    /// Where the next one starts.
+    pub next: usize,
+}
+
+impl Listed<'_> {
+    /// What it is paired by, also where its body is refused.
+    pub fn mark(&self) -> Mark {
+        let (ty, tag) = (self.ty, self.tag);
+        Mark { ty, tag }
+    }
+}
+
+/// Where a stretch breaks off: 12 where it is cut, 13 at a size that no frame has.
+#[derive(Clone, Copy, Debug, PartialEq, Eq)]
+pub struct Stop {
+    pub at: usize,
+    pub refusal: Refusal,
+}
+
+/// The frames of a stretch in their order. Where the stretch breaks off, the last item says so.
+///
+/// ```
+/// use sheafsledge::{stretch, Body, Refusal, Stop, Tflush, Tmessage};
+/// // A Tflush with a tail of two bytes, a frame of no known type, and the start of another.
+/// let bytes = b"\x0b\0\0\0\x6c\x01\0\x02\0\xaa\xbb\x07\0\0\0\x6a\x05\0\x09\0\0\0\x6c";
+/// let mut frames = stretch(bytes);
+///
+/// let flush = frames.next().unwrap()?;
+/// assert_eq!((flush.at, flush.size, flush.tag, flush.tail), (0, 11, 1, 2));
+/// assert_eq!(flush.body, Body::Request(Ok(Tmessage::Flush(Tflush { oldtag: 2 }))));
+///
+/// let unknown = frames.next().unwrap()?;
+/// assert_eq!((unknown.at, unknown.ty, unknown.tag), (11, 106, 5));
+/// assert_eq!(unknown.body, Body::Request(Err(Refusal::UnknownType)));
+///
+/// assert_eq!(frames.next(), Some(Err(Stop { at: 18, refusal: Refusal::StretchCut })));
+/// assert_eq!(frames.next(), None);
+/// # Ok::<(), sheafsledge::Stop>(())
+/// ```
+///
+/// What is given borrows from the bytes, and cannot outlive them:
+///
+/// ```compile_fail,E0597
+/// let frame = {
+///     let bytes = vec![7, 0, 0, 0, 109, 1, 0];
+///     sheafsledge::stretch(&bytes).next()
+/// };
+/// println!("{frame:?}");
+/// ```
+pub fn stretch(bytes: &[u8]) -> Stretch<'_> {
+    let position = Some(0);
+    Stretch { bytes, position }
+}
+
+/// The frames of a stretch, see [`stretch()`].
+#[derive(Clone, Copy, Debug)]
+pub struct Stretch<'a> {
+    bytes: &'a [u8],
+    /// None behind the end, and behind a refusal.
+    position: Option<usize>,
+}
+
+impl<'a> Iterator for Stretch<'a> {
+    type Item = Result<Listed<'a>, Stop>;
+
+    fn next(&mut self) -> Option<Self::Item> {
+        let step = ffi::frame_at(self.bytes, self.position?);
+        self.position = None;
+        if step.end {
+            return None;
+        }
+        if let Some(refusal) = Refusal::of(step.refusal) {
+            let at = step.at;
+            return Some(Err(Stop { at, refusal }));
+        }
+        self.position = Some(step.next);
+        let frame = shown(self.bytes, step.at, step.size);
+        Some(Ok(Listed::taken(&step, frame)))
+    }
+}
+
+impl FusedIterator for Stretch<'_> {}
+
+impl<'a> Listed<'a> {
+    fn taken(step: &FlatStep, frame: &'a [u8]) -> Self {
+        let values = step.values.iter();
+        let taken = &mut Taken { values, frame };
+        let refusal = Refusal::of(step.body);
+        let unknown = Refusal::UnknownType;
+        let body = match step.ty % 2 {
+            0 => Body::Request(match refusal {
+                Some(refusal) => Err(refusal),
+                None => Tmessage::take(step.ty, taken).ok_or(unknown),
+            }),
+            _ => Body::Reply(match refusal {
+                Some(refusal) => Err(refusal),
+                None => Rmessage::take(step.ty, taken).ok_or(unknown),
+            }),
+        };
+        Self {
+            at: step.at,
+            size: step.size,
+            ty: step.ty,
+            tag: step.tag,
+            body,
+            tail: step.tail,
+            next: step.next,
+        }
+    }
+}
+
+impl fmt::Display for Stop {
+    fn fmt(&self, f: &mut fmt::Formatter) -> fmt::Result {
+        write!(f, "at byte {}: {}", self.at, self.refusal)
+    }
+}
+
+impl std::error::Error for Stop {}
+
+impl From<Stop> for std::io::Error {
+    fn from(stop: Stop) -> Self {
+        Self::new(stop.refusal.kind(), stop)
+    }
+}
+
+/// What a request and a reply are paired by.
+#[derive(Clone, Copy, Debug, PartialEq, Eq)]
+pub struct Mark {
+    pub ty: u8,
+    pub tag: u16,
+}
+
+/// Whether a reply answers a request: the tags are equal, the request's type is known, and the
+/// reply's is that number plus one. An Rlerror answers none by this rule, which is the paper's.
+///
+/// ```
+/// use sheafsledge::{answers, Mark};
+/// let tflush = Mark { ty: 108, tag: 1 };
+/// assert!(answers(tflush, Mark { ty: 109, tag: 1 }));
+/// assert!(!answers(tflush, Mark { ty: 109, tag: 2 }));
+/// assert!(!answers(tflush, Mark { ty: 7, tag: 1 }));
+/// ```
+pub fn answers(request: Mark, reply: Mark) -> bool {
+    ffi::answers(request.ty, request.tag, reply.ty, reply.tag)
+}
