@@ -3,13 +3,10 @@
 #[path = "../../../../rust/src/boundary.rs"]
 mod boundary;
 
-use boundary::{
-    sheafsledge_read_rframe, sheafsledge_read_tframe, sheafsledge_write_rframe,
-    sheafsledge_write_tframe,
-};
+use boundary::*;
 use judge::Direction;
 
-pub use boundary::{FlatR, FlatT, Wrote};
+pub use boundary::{FlatDirent, FlatQid, FlatR, FlatSpan, FlatStep, FlatT, Qid, Wrote};
 
 /// An answer of either direction. A request has 10 values and a reply 22; what is behind them is 0.
 #[derive(Clone, Debug, Default, PartialEq, Eq)]
@@ -72,6 +69,75 @@ pub fn write(direction: Direction, out: &mut [u8], lent: &[u8], frame: &Flat) ->
         Direction::T => FlatT::from(frame).write(out, lent),
         Direction::R => FlatR::from(frame).write(out, lent),
     }
+}
+
+pub fn frame_at(bytes: &[u8], position: usize) -> FlatStep {
+    // SAFETY: as in reading a frame.
+    unsafe { sheafsledge_frame_at(bytes.as_ptr(), bytes.len(), position) }
+}
+
+pub fn read_dirent(bytes: &[u8], at: usize) -> FlatDirent {
+    // SAFETY: as in reading a frame.
+    unsafe { sheafsledge_read_dirent(bytes.as_ptr(), bytes.len(), at) }
+}
+
+pub fn write_dirent(out: &mut [u8], at: usize, lent: &[u8], dirent: FlatDirent) -> Wrote {
+    let (to, room) = (out.as_mut_ptr(), out.len());
+    // SAFETY: as in writing a frame.
+    unsafe { sheafsledge_write_dirent(to, room, at, lent.as_ptr(), lent.len(), dirent) }
+}
+
+pub fn is_utf8(bytes: &[u8]) -> bool {
+    // SAFETY: as in reading a frame.
+    unsafe { sheafsledge_is_utf8(bytes.as_ptr(), bytes.len()) }
+}
+
+/// The elements of a vector among some bytes: how many, where they start, and how long they are.
+#[derive(Clone, Copy, Debug)]
+pub struct Part {
+    pub count: u16,
+    pub start: usize,
+    pub len: usize,
+}
+
+pub fn name_at(lent: &[u8], part: Part, i: usize) -> FlatSpan {
+    let Part { count, start, len } = part;
+    // SAFETY: as in reading a frame.
+    unsafe { sheafsledge_name_at(lent.as_ptr(), lent.len(), count, start, len, i) }
+}
+
+pub fn qid_at(lent: &[u8], part: Part, i: usize) -> FlatSpan {
+    let Part { count, start, len } = part;
+    // SAFETY: as in reading a frame.
+    unsafe { sheafsledge_qid_at(lent.as_ptr(), lent.len(), count, start, len, i) }
+}
+
+pub fn read_qid(bytes: &[u8], at: usize) -> FlatQid {
+    // SAFETY: as in reading a frame.
+    unsafe { sheafsledge_read_qid(bytes.as_ptr(), bytes.len(), at) }
+}
+
+/// The tag, the fid and the new fid of a Twalk.
+pub type Head = (u16, u32, u32);
+
+pub fn write_twalk(out: &mut [u8], lent: &[u8], head: Head, names: &[[usize; 2]]) -> Wrote {
+    let (to, room, from, count) = (out.as_mut_ptr(), out.len(), lent.as_ptr(), lent.len());
+    let (tag, fid, newfid) = head;
+    let (rows, rows_count) = (names.as_ptr(), names.len());
+    // SAFETY: as in writing a frame; the table is a slice's too.
+    unsafe { sheafsledge_write_twalk(to, room, from, count, tag, fid, newfid, rows, rows_count) }
+}
+
+pub fn write_rwalk(out: &mut [u8], tag: u16, qids: &[Qid]) -> Wrote {
+    let (to, room) = (out.as_mut_ptr(), out.len());
+    // SAFETY: as in writing a frame; the table is a slice's too.
+    unsafe { sheafsledge_write_rwalk(to, room, tag, qids.as_ptr(), qids.len()) }
+}
+
+/// Whether a reply answers a request, each told by its type and its tag.
+pub fn answers(request: (u8, u16), reply: (u8, u16)) -> bool {
+    // SAFETY: numbers alone.
+    unsafe { sheafsledge_answers(request.0, request.1, reply.0, reply.1) }
 }
 
 impl From<FlatT> for Flat {

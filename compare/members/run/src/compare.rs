@@ -4,10 +4,13 @@ use judge::cases::{sized, wraps};
 use judge::Direction;
 use ours::{Flat, Wrote};
 use p9::draw::Draws;
+use p9::flat::Value;
 use p9::show::hex;
 
-use crate::pieces::{lent, values, Piece};
+use crate::kinds::Of;
+use crate::pieces::{lent, pieces, values};
 use crate::theirs::{self, Again, Theirs};
+use crate::{dirents, elements, rows, stretches, tables};
 
 pub enum Outcome {
     /// The same, and whether it is a frame or a refusal.
@@ -19,6 +22,12 @@ pub enum Outcome {
         ours: String,
         theirs: String,
     },
+}
+
+impl Outcome {
+    pub fn differs(&self) -> bool {
+        matches!(self, Outcome::Differs { .. })
+    }
 }
 
 /// What a writing answers, and the output afterwards.
@@ -33,8 +42,25 @@ const BLANK: u8 = 0xee;
 
 const MOST_SHOWN: usize = 100_000;
 
+/// What is asked of these bytes.
+pub fn asked(of: Of, bytes: &[u8], draws: &mut Draws) -> Outcome {
+    match of {
+        Of::Read(direction) => read(direction, bytes),
+        Of::Written(direction) => theirs::with_values(direction, bytes, |record| {
+            write_anew(direction, bytes, record, draws)
+        }),
+        Of::Data(direction) => write_anew(direction, bytes, &theirs::of_data(bytes), draws),
+        Of::Entry(at) => dirents::entry(at, bytes, draws),
+        Of::Elements(direction) => elements::elements(direction, bytes),
+        Of::Table(direction) => tables::table(direction, bytes, draws),
+        Of::Stretch => stretches::stretch(bytes, draws),
+        Of::Text => text(bytes),
+        Of::Row(row) => rows::row(row),
+    }
+}
+
 /// A frame read, and the record written again where there is one.
-pub fn read(direction: Direction, bytes: &[u8]) -> Outcome {
+fn read(direction: Direction, bytes: &[u8]) -> Outcome {
     let ours = ours::read(direction, bytes);
     let theirs = theirs::read(direction, bytes);
     if wraps(direction, bytes) {
@@ -103,8 +129,17 @@ fn beside(ours: Written, theirs: Written) -> Outcome {
     }
 }
 
-fn differs(ours: String, theirs: String) -> Outcome {
+pub fn differs(ours: String, theirs: String) -> Outcome {
     Outcome::Differs { ours, theirs }
+}
+
+/// UTF-8 alone, beside the standard library's, which the seller's strings go by.
+fn text(bytes: &[u8]) -> Outcome {
+    match (ours::is_utf8(bytes), std::str::from_utf8(bytes).is_ok()) {
+        (true, true) => Outcome::Accepted,
+        (false, false) => Outcome::Refused,
+        (ours, theirs) => differs(ours.to_string(), theirs.to_string()),
+    }
 }
 
 fn told(theirs: &Theirs) -> String {
@@ -126,31 +161,61 @@ pub fn start(bytes: &[u8]) -> String {
     }
 }
 
-/// The record of a frame written from other bytes: into outputs that are too short, by a byte and
-/// by more, into one that is just long enough, and into one with bytes to spare.
-pub fn write_anew(direction: Direction, bytes: &[u8], draws: &mut Draws) -> Outcome {
-    let (lent, values) = theirs::with_values(direction, bytes, |record| {
-        let pieces: Vec<Piece> = record.iter().map(|value| Piece::from(*value)).collect();
-        let (lent, places) = lent(&pieces, draws);
-        (lent, values(&pieces, &places))
-    });
+/// The record of a frame written from other bytes.
+fn write_anew(direction: Direction, bytes: &[u8], record: &[Value], draws: &mut Draws) -> Outcome {
+    let pieces = pieces(record);
+    let (lent, places) = lent(&pieces, draws);
     let frame = Flat {
         refusal: 0,
         ty: bytes[4],
         tag: u16::from_le_bytes([bytes[5], bytes[6]]),
         tagged: true,
         used: draws.below(usize::MAX),
-        values,
+        values: values(&pieces, &places),
     };
-    for room in [bytes.len() - 1, draws.below(bytes.len())] {
-        let outcome = beside(write(direction, &lent, &frame, room), untouched(11, room));
-        if let Outcome::Differs { .. } = outcome {
-            return outcome;
+    in_rooms(0, bytes, draws, |out| {
+        ours::write(direction, out, &lent, &frame)
+    })
+}
+
+/// What comes to be written behind so many bytes of an output, beside what the seller wrote: into
+/// outputs that are too short, by a byte and by more, into one that is just long enough, and into
+/// one with bytes to spare.
+pub fn in_rooms(
+    before: usize,
+    bytes: &[u8],
+    draws: &mut Draws,
+    write: impl Fn(&mut [u8]) -> Wrote,
+) -> Outcome {
+    let len = before + bytes.len();
+    let short = [len - 1, draws.below(len)].map(|room| untouched(11, room));
+    let long = [0, 1 + draws.below(20)].map(|spare| Written {
+        wrote: Wrote { refusal: 0, len },
+        out: [&vec![BLANK; before], bytes, &vec![BLANK; spare]].concat(),
+    });
+    let outcomes = short.into_iter().chain(long).map(|theirs| {
+        let mut out = vec![BLANK; theirs.out.len()];
+        let wrote = write(&mut out);
+        beside(Written { wrote, out }, theirs)
+    });
+    first_difference(outcomes)
+}
+
+/// Of a writing that is refused, whatever the room.
+pub fn refused(refusal: u8, room: usize, write: impl Fn(&mut [u8]) -> Wrote) -> Outcome {
+    let mut out = vec![BLANK; room];
+    let wrote = write(&mut out);
+    beside(Written { wrote, out }, untouched(refusal, room))
+}
+
+/// The first outcome that is a difference, or else the last.
+pub fn first_difference(outcomes: impl Iterator<Item = Outcome>) -> Outcome {
+    let mut last = Outcome::Accepted;
+    for outcome in outcomes {
+        last = outcome;
+        if last.differs() {
+            break;
         }
     }
-    let again = Ok(bytes.to_vec());
-    match written(direction, &lent, &frame, &again, 0) {
-        Outcome::Accepted => written(direction, &lent, &frame, &again, 1 + draws.below(20)),
-        outcome => outcome,
-    }
+    last
 }

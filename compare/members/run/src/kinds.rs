@@ -1,11 +1,13 @@
-//! The kinds of frames that are asked about, and how each is made.
+//! The kinds of cases that are asked about, and how each is made.
 
-use judge::cases::{damaged, drawn, header, sized, types, unknown, DIRECTIONS};
+use judge::cases::{bytes, damaged, drawn, header, sized, types, unknown, DIRECTIONS};
 use judge::Direction;
 use p9::draw::{Draw, Draws};
+use p9::protocol::{Dirent, P9String, Rframe, Rmessage, Rwalk, Tframe, Tmessage, Twalk};
 
-use crate::limits::limit;
+use crate::limits::{limit, string};
 use crate::pieces::borders;
+use crate::rows::ROWS;
 use crate::theirs::with_values;
 
 /// A frame that is cut at every byte has at most so many.
@@ -23,23 +25,61 @@ pub enum Kind {
     Unknown,
     Limit,
     Write,
+    Dirent,
+    Element,
+    Table,
+    Stretch,
+    Text,
+    Rows,
 }
 
-/// Each kind's name, and how many of ten thousand cases it has. Those of `limit` are long.
-pub const KINDS: [(Kind, &str, u64); 10] = [
+/// Each kind's name, and how many of ten thousand cases it has. Those of `limit` are long, and
+/// `rows` has one for each row.
+pub const KINDS: [(Kind, &str, u64); 16] = [
     (Kind::Short, "short", 1000),
     (Kind::Size, "size", 1000),
-    (Kind::Fields, "fields", 2000),
+    (Kind::Fields, "fields", 1500),
     (Kind::Cut, "cut", 1500),
-    (Kind::Border, "border", 1000),
+    (Kind::Border, "border", 900),
     (Kind::Damage, "damage", 1495),
-    (Kind::Tail, "tail", 500),
-    (Kind::Unknown, "unknown", 500),
+    (Kind::Tail, "tail", 400),
+    (Kind::Unknown, "unknown", 400),
     (Kind::Limit, "limit", 5),
-    (Kind::Write, "write", 1000),
+    (Kind::Write, "write", 800),
+    (Kind::Dirent, "dirent", 600),
+    (Kind::Element, "element", 100),
+    (Kind::Table, "table", 100),
+    (Kind::Stretch, "stretch", 100),
+    (Kind::Text, "text", 100),
+    (Kind::Rows, "rows", 0),
 ];
 
-pub type Asked = (Direction, Vec<u8>);
+/// What is asked of some bytes.
+#[derive(Clone, Copy, Debug)]
+pub enum Of {
+    /// A frame to read.
+    Read(Direction),
+    /// What a frame of the seller's holds, to write.
+    Written(Direction),
+    /// The same, of a frame with data that may be too long to be read again.
+    Data(Direction),
+    /// A directory entry at a place.
+    Entry(usize),
+    /// The elements of a walk, by their numbers.
+    Elements(Direction),
+    /// A walk, to write from a table.
+    Table(Direction),
+    Stretch,
+    /// Whether the bytes are UTF-8.
+    Text,
+    /// A row of docs/DIFFERENCES.md.
+    Row(u8),
+}
+
+pub struct Asked {
+    pub of: Of,
+    pub bytes: Vec<u8>,
+}
 
 /// The direction and the place in the seller's list whose turn it is, of all 57 types.
 fn type_in_turn(turn: usize) -> (Direction, usize) {
@@ -50,28 +90,38 @@ fn type_in_turn(turn: usize) -> (Direction, usize) {
     }
 }
 
-/// What is asked at a turn: several frames, where one is cut or sized in several ways.
+/// What is asked at a turn: several cases, where one is cut or sized in several ways.
 pub fn asked(kind: Kind, turn: usize, draws: &mut Draws) -> Vec<Asked> {
     let (direction, place) = type_in_turn(turn);
-    let frames = match kind {
-        Kind::Short => return both(short(turn)),
-        Kind::Unknown => return vec![of_no_type(turn, draws)],
-        Kind::Limit => return limit(turn, draws),
-        Kind::Size => sizes(drawn(direction, place, draws)),
-        Kind::Fields | Kind::Write => vec![drawn(direction, place, draws)],
-        Kind::Cut => cuts(direction, place, draws),
-        Kind::Border => bordered(direction, &drawn(direction, place, draws)),
-        Kind::Damage => vec![damaged(drawn(direction, place, draws), draws)],
-        Kind::Tail => vec![tailed(drawn(direction, place, draws), draws)],
+    let all = |of: Of, inputs: Vec<Vec<u8>>| {
+        let asked = inputs.into_iter().map(|bytes| Asked { of, bytes });
+        asked.collect::<Vec<_>>()
     };
-    frames.into_iter().map(|frame| (direction, frame)).collect()
-}
-
-fn both(frame: Vec<u8>) -> Vec<Asked> {
-    DIRECTIONS
-        .iter()
-        .map(|direction| (*direction, frame.clone()))
-        .collect()
+    let read = Of::Read(direction);
+    match kind {
+        Kind::Short => DIRECTIONS
+            .iter()
+            .flat_map(|direction| all(Of::Read(*direction), vec![short(turn)]))
+            .collect(),
+        Kind::Size => all(read, sizes(drawn(direction, place, draws))),
+        Kind::Fields => all(read, vec![drawn(direction, place, draws)]),
+        Kind::Cut => all(read, cuts(direction, place, draws)),
+        Kind::Border => all(read, bordered(direction, &drawn(direction, place, draws))),
+        Kind::Damage => all(read, vec![damaged(drawn(direction, place, draws), draws)]),
+        Kind::Tail => all(read, vec![tailed(drawn(direction, place, draws), draws)]),
+        Kind::Unknown => {
+            let (direction, frame) = of_no_type(turn, draws);
+            all(Of::Read(direction), vec![frame])
+        }
+        Kind::Limit => limit(turn, draws),
+        Kind::Write => all(Of::Written(direction), vec![drawn(direction, place, draws)]),
+        Kind::Dirent => entries(turn, draws),
+        Kind::Element => walk(Of::Elements, turn, draws),
+        Kind::Table => walk(Of::Table, turn, draws),
+        Kind::Stretch => all(Of::Stretch, vec![joined(draws)]),
+        Kind::Text => all(Of::Text, vec![text(draws)]),
+        Kind::Rows => all(Of::Row(ROWS[turn % ROWS.len()]), vec![Vec::new()]),
+    }
 }
 
 /// Every frame of up to two bytes, and then those of three. An odd factor spreads them, and
@@ -125,7 +175,7 @@ fn tailed(mut frame: Vec<u8>, draws: &mut Draws) -> Vec<u8> {
 }
 
 /// Each unknown number of both directions in turn, with bytes behind it.
-fn of_no_type(turn: usize, draws: &mut Draws) -> Asked {
+fn of_no_type(turn: usize, draws: &mut Draws) -> (Direction, Vec<u8>) {
     let direction = DIRECTIONS[turn % 2];
     let all = unknown(direction);
     let ty = all[turn / 2 % all.len()];
@@ -134,4 +184,96 @@ fn of_no_type(turn: usize, draws: &mut Draws) -> Asked {
     let body = draws.bytes(count);
     frame.extend(body);
     (direction, frame)
+}
+
+/// The longest name comes up once in so many turns.
+const LONG_NAME: usize = 512;
+
+/// An entry among other bytes: as it is, damaged, or cut at every byte; or several in a row, each at
+/// its place.
+fn entries(turn: usize, draws: &mut Draws) -> Vec<Asked> {
+    let mut before = draws.below(9);
+    let mut all = draws.bytes(before);
+    let mut places = Vec::new();
+    for _ in 0..=draws.below(3) {
+        places.push(all.len());
+        all.extend(bytes(&Dirent {
+            name: match turn % LONG_NAME {
+                0 => string(draws),
+                _ => P9String::draw(draws),
+            },
+            ..Draw::draw(draws)
+        }));
+    }
+    let asked = |at: usize, bytes: Vec<u8>| Asked {
+        of: Of::Entry(at),
+        bytes,
+    };
+    match turn % 4 {
+        0 => places
+            .into_iter()
+            .map(|at| asked(at, all.clone()))
+            .collect(),
+        1 => vec![asked(before, damaged(all, draws))],
+        2 if all.len() <= MOST_CUTS => (0..all.len())
+            .map(|end| asked(before, all[..end].to_vec()))
+            .collect(),
+        _ => {
+            // Any place, the end and behind it too.
+            before = draws.below(all.len() + 3);
+            vec![asked(before, all)]
+        }
+    }
+}
+
+/// A walk of either direction.
+fn walk(of: fn(Direction) -> Of, turn: usize, draws: &mut Draws) -> Vec<Asked> {
+    let tag = Draw::draw(draws);
+    let (direction, bytes) = match turn % 2 {
+        0 => {
+            let walk: Twalk = Draw::draw(draws);
+            let msg = Ok(Tmessage::Walk(walk));
+            (Direction::T, bytes(&Tframe { tag, msg }))
+        }
+        _ => {
+            let walk: Rwalk = Draw::draw(draws);
+            let msg = Rmessage::Walk(walk);
+            (Direction::R, bytes(&Rframe { tag, msg }))
+        }
+    };
+    let of = of(direction);
+    vec![Asked { of, bytes }]
+}
+
+/// Frames back to back, some damaged, some with a tail, and the last one perhaps cut.
+fn joined(draws: &mut Draws) -> Vec<u8> {
+    let mut all = Vec::new();
+    for _ in 0..draws.below(12) {
+        let (direction, place) = type_in_turn(draws.below(57));
+        let frame = drawn(direction, place, draws);
+        let len = frame.len() as u32;
+        all.extend(match draws.below(8) {
+            0 => damaged(frame, draws),
+            // In its place, but of any bytes behind the size.
+            1 => sized(damaged(frame, draws), len),
+            2 => tailed(frame, draws),
+            3 => of_no_type(draws.below(9999), draws).1,
+            _ => frame,
+        });
+    }
+    match draws.below(3) {
+        0 => all[..draws.below(all.len() + 1)].to_vec(),
+        _ => all,
+    }
+}
+
+/// Characters of every row of RFC 3629, damaged or not, or bytes of any kind.
+fn text(draws: &mut Draws) -> Vec<u8> {
+    let count = draws.below(40);
+    let text = P9String::draw(draws).as_bytes().to_vec();
+    match draws.below(3) {
+        0 => draws.bytes(count),
+        1 if !text.is_empty() => damaged(text, draws),
+        _ => text,
+    }
 }

@@ -8,14 +8,29 @@ use p9::protocol::{
     Tversion, Twalk, Twrite,
 };
 
-use crate::kinds::Asked;
+use crate::kinds::{Asked, Of};
 
 const READING_LIMIT: usize = 33_554_432;
 
-/// What is asked at a turn. Data of 33 MB is asked about once; then every other frame is damaged.
+/// The longest that a string is, and the most that a vector has.
+pub const MOST: usize = 65_535;
+
+type Framed = (Direction, Vec<u8>);
+
+/// What is asked at a turn. Data of 33 MB is asked about once; then every other frame is damaged, and
+/// the others are also written.
 pub fn limit(turn: usize, draws: &mut Draws) -> Vec<Asked> {
-    if turn == 0 {
-        return vec![t(twrite(READING_LIMIT)), t(twrite(READING_LIMIT + 1))];
+    let long = [
+        |count| t(twrite(count)),
+        |count| r(Rmessage::Read(Rread { data: data(count) })),
+        |count| r(Rmessage::Readdir(Rreaddir { data: data(count) })),
+    ];
+    if let Some(frame) = long.get(turn) {
+        let counts = [READING_LIMIT, READING_LIMIT + 1];
+        return counts
+            .into_iter()
+            .flat_map(|count| both(frame(count), Of::Data))
+            .collect();
     }
     let (direction, frame) = match turn % 5 {
         0 => t(Tmessage::Version(Tversion {
@@ -33,20 +48,32 @@ pub fn limit(turn: usize, draws: &mut Draws) -> Vec<Asked> {
         3 => r(Rmessage::Walk(Rwalk {
             wqids: vec![Draw::draw(draws); most(draws)],
         })),
-        _ => return counted(draws),
+        _ => return counted(draws).into_iter().map(read).collect(),
     };
     match draws.below(2) {
-        0 => vec![(direction, frame)],
-        _ => vec![(direction, damaged(frame, draws))],
+        0 => both((direction, frame), Of::Written),
+        _ => vec![read((direction, damaged(frame, draws)))],
     }
+}
+
+fn read((direction, bytes): Framed) -> Asked {
+    let of = Of::Read(direction);
+    Asked { of, bytes }
+}
+
+/// Read, and then written from other bytes.
+fn both(frame: Framed, written: fn(Direction) -> Of) -> Vec<Asked> {
+    let of = written(frame.0);
+    let bytes = frame.1.clone();
+    vec![read(frame), Asked { of, bytes }]
 }
 
 /// The most that a count of two bytes holds, or one less.
 fn most(draws: &mut Draws) -> usize {
-    65_535 - draws.below(2)
+    MOST - draws.below(2)
 }
 
-fn string(draws: &mut Draws) -> P9String {
+pub fn string(draws: &mut Draws) -> P9String {
     let letter = draws.one_of(&["a", "é", "€", "😀"]);
     let count = most(draws);
     let mut text = letter.repeat(count / letter.len());
@@ -58,13 +85,17 @@ fn twrite(count: usize) -> Tmessage {
     Tmessage::Write(Twrite {
         fid: 1,
         offset: 2,
-        data: Data(vec![3; count]),
+        data: data(count),
     })
 }
 
+fn data(count: usize) -> Data {
+    Data(vec![3; count])
+}
+
 /// A data count at the limit and one more, with no data behind it.
-fn counted(draws: &mut Draws) -> Vec<Asked> {
-    let data = Data(Vec::new());
+fn counted(draws: &mut Draws) -> Vec<Framed> {
+    let data = data(0);
     let (direction, frame) = match draws.below(3) {
         0 => t(twrite(0)),
         1 => r(Rmessage::Read(Rread { data })),
@@ -79,11 +110,11 @@ fn counted(draws: &mut Draws) -> Vec<Asked> {
     vec![count(READING_LIMIT), count(READING_LIMIT + 1)]
 }
 
-fn t(msg: Tmessage) -> Asked {
+fn t(msg: Tmessage) -> Framed {
     let msg = Ok(msg);
     (Direction::T, bytes(&Tframe { tag: 1, msg }))
 }
 
-fn r(msg: Rmessage) -> Asked {
+fn r(msg: Rmessage) -> Framed {
     (Direction::R, bytes(&Rframe { tag: 1, msg }))
 }

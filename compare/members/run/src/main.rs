@@ -1,23 +1,16 @@
 //! `compare/run` builds and runs this; see its head for the usage.
 
-mod compare;
-mod kinds;
-mod limits;
-mod pieces;
-mod theirs;
-
 use std::env;
 use std::process::ExitCode;
 
-use judge::Direction;
 use p9::draw::Draws;
-
-use compare::{start, Outcome};
-use kinds::{asked, Kind, KINDS};
+use run::compare::{self, start, Outcome};
+use run::kinds::{asked, Asked, Kind, Of, KINDS};
+use run::rows::ROWS;
 
 /// The smallest input of a kind that differs, with both answers.
 struct Difference {
-    direction: Direction,
+    of: Of,
     input: Vec<u8>,
     ours: String,
     theirs: String,
@@ -44,7 +37,7 @@ impl Tally {
         format!("{compared} compared, {accepted} accepted, {known} known, {differ} differ")
     }
 
-    fn count(&mut self, direction: Direction, input: Vec<u8>, outcome: Outcome) {
+    fn count(&mut self, of: Of, input: Vec<u8>, outcome: Outcome) {
         self.compared += 1;
         match outcome {
             Outcome::Accepted => self.accepted += 1,
@@ -56,7 +49,7 @@ impl Tally {
                 let found = self.smallest.as_ref();
                 if found.is_none_or(|found| size(&input) < size(&found.input)) {
                     self.smallest = Some(Difference {
-                        direction,
+                        of,
                         input,
                         ours,
                         theirs,
@@ -72,39 +65,39 @@ fn run(kind: Kind, share: u64, seed: u64) -> Tally {
     let draws = &mut Draws::new(seed ^ kind as u64);
     let mut tally = Tally::default();
     for turn in 0.. {
-        for (direction, input) in asked(kind, turn, draws) {
+        for Asked { of, bytes } in asked(kind, turn, draws) {
             if tally.compared == share {
                 return tally;
             }
-            let outcome = match kind {
-                Kind::Write => compare::write_anew(direction, &input, draws),
-                _ => compare::read(direction, &input),
-            };
-            tally.count(direction, input, outcome);
+            let outcome = compare::asked(of, &bytes, draws);
+            tally.count(of, bytes, outcome);
         }
     }
     tally
 }
 
-/// How many of the cases each kind has; what the division leaves goes to the last.
+/// How many of the cases each kind has. The rows of docs/DIFFERENCES.md come once each; what the
+/// division leaves goes to the first kind.
 fn shares(cases: u64) -> Vec<u64> {
-    let share = |weight: u64| (u128::from(cases) * u128::from(weight) / 10_000) as u64;
+    let rows = cases.min(ROWS.len() as u64);
+    let share = |weight: u64| (u128::from(cases - rows) * u128::from(weight) / 10_000) as u64;
     let mut shares: Vec<u64> = KINDS.iter().map(|(_, _, weight)| share(*weight)).collect();
-    let left = cases - shares.iter().sum::<u64>();
-    if let Some(last) = shares.last_mut() {
-        *last += left;
+    let left = cases - rows - shares.iter().sum::<u64>();
+    if let [first, .., last] = shares.as_mut_slice() {
+        *first += left;
+        *last = rows;
     }
     shares
 }
 
 fn tell(name: &str, found: &Difference) {
     let Difference {
-        direction,
+        of,
         input,
         ours,
         theirs,
     } = found;
-    println!("{name} differs at {direction:?} {}", start(input));
+    println!("{name} differs at {of:?} {}", start(input));
     println!("  ours: {ours}");
     println!("  theirs: {theirs}");
 }

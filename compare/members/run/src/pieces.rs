@@ -29,6 +29,10 @@ impl<'a> From<Value<'a>> for Piece<'a> {
     }
 }
 
+pub fn pieces<'a>(record: &[Value<'a>]) -> Vec<Piece<'a>> {
+    record.iter().map(|value| Piece::from(*value)).collect()
+}
+
 fn span(bytes: &[u8], width: usize) -> Piece<'_> {
     Piece::Span {
         bytes: bytes.into(),

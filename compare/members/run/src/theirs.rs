@@ -6,9 +6,9 @@ use judge::refusal::number;
 use judge::{written, Direction};
 use ours::Flat;
 use p9::flat::Value;
-use p9::protocol::{Rframe, Tframe, WireFormat};
+use p9::protocol::{Qid, Rframe, Tframe, WireFormat};
 
-use crate::pieces::{in_a_frame, shown, values, Piece};
+use crate::pieces::{in_a_frame, pieces, shown, values};
 
 /// The frame written again, or the number of the refusal.
 pub type Again = Result<Vec<u8>, u8>;
@@ -64,14 +64,35 @@ pub fn with_values<A>(
     }
 }
 
+/// The values of a Twrite, an Rread or an Rreaddir whose data may be too long to be read again. Their
+/// numbers are those of `limits`.
+pub fn of_data(frame: &[u8]) -> Vec<Value<'_>> {
+    match frame[4] {
+        118 => vec![
+            Value::Number(1, 4),
+            Value::Number(2, 8),
+            Value::Data(&frame[23..]),
+        ],
+        _ => vec![Value::Data(&frame[11..])],
+    }
+}
+
 fn listed(msg: &impl p9::flat::Flat) -> Vec<Value<'_>> {
     let mut values = Vec::new();
     msg.flat(&mut values);
     values
 }
 
+pub fn qid(theirs: &Qid) -> ours::Qid {
+    ours::Qid {
+        ty: theirs.ty,
+        version: theirs.version,
+        path: theirs.path,
+    }
+}
+
 /// A number that is none of the paper's equals none of ours.
-fn refusal(error: &io::Error) -> u8 {
+pub fn refusal(error: &io::Error) -> u8 {
     number(error).unwrap_or(u8::MAX)
 }
 
@@ -105,7 +126,7 @@ fn with_tag(mut theirs: Theirs, tag: u16, tagged: bool) -> Theirs {
 }
 
 fn accepted(bytes: &[u8], rest: &[u8], record: &[Value], frame: &impl WireFormat) -> Theirs {
-    let pieces: Vec<Piece> = record.iter().map(|value| Piece::from(*value)).collect();
+    let pieces = pieces(record);
     let places = in_a_frame(&pieces);
     let again = again(frame);
     Theirs {

@@ -1,0 +1,101 @@
+//! The elements of a walk, each asked for by its number.
+
+use judge::Direction;
+use ours::{FlatQid, FlatSpan, Part};
+use p9::flat::Value;
+use p9::protocol::Qid;
+
+use crate::compare::{differs, Outcome};
+use crate::theirs::{self, with_values};
+
+type Find = fn(&[u8], Part, usize) -> FlatSpan;
+
+/// A frame of a walk that the seller wrote.
+pub fn elements(direction: Direction, frame: &[u8]) -> Outcome {
+    with_values(direction, frame, |record| match record.last() {
+        Some(Value::Names(names)) => {
+            let widths = names.iter().map(|name| 2 + name.len());
+            found(frame, ours::name_at, &widths.collect::<Vec<_>>(), 2)
+        }
+        Some(Value::Qids(qids)) => {
+            let outcome = found(frame, ours::qid_at, &vec![13; qids.len()], 0);
+            match outcome.differs() {
+                true => outcome,
+                false => read(frame, qids),
+            }
+        }
+        _ => differs("no walk".into(), "a walk".into()),
+    })
+}
+
+/// Where each element is, by the widths of those before it and of its count: the part is the end of
+/// the frame. Behind the last one it is 15, outside of the bytes 9, in a part that is cut 14.
+fn found(frame: &[u8], find: Find, widths: &[usize], before: usize) -> Outcome {
+    let (len, count) = (widths.iter().sum(), widths.len());
+    let part = Part {
+        count: count as u16,
+        start: frame.len() - len,
+        len,
+    };
+    let outside = Part {
+        len: len + 1,
+        ..part
+    };
+    let mut asked = vec![(part, count, none(15)), (outside, count, none(9))];
+    if count > 0 {
+        let cut = Part {
+            len: len - 1,
+            ..part
+        };
+        asked.push((cut, 0, none(14)));
+    }
+    let mut start = part.start;
+    for (i, width) in widths.iter().enumerate() {
+        let span = FlatSpan {
+            refusal: 0,
+            start: start + before,
+            len: width - before,
+        };
+        asked.push((part, i, span));
+        start += width;
+    }
+    all_equal(
+        asked
+            .into_iter()
+            .map(|(part, i, theirs)| (find(frame, part, i), theirs)),
+    )
+}
+
+fn none(refusal: u8) -> FlatSpan {
+    FlatSpan {
+        refusal,
+        ..FlatSpan::default()
+    }
+}
+
+/// The qids that end a frame.
+fn read(frame: &[u8], qids: &[Qid]) -> Outcome {
+    let start = frame.len() - 13 * qids.len();
+    let short = FlatQid {
+        refusal: 1,
+        ..FlatQid::default()
+    };
+    // Too near the end, at it, and behind it.
+    let ends = [frame.len().saturating_sub(12), frame.len(), usize::MAX];
+    let cut = ends.map(|at| (ours::read_qid(frame, at), short));
+    let all = qids.iter().enumerate().map(|(i, qid)| {
+        let (refusal, qid) = (0, theirs::qid(qid));
+        (
+            ours::read_qid(frame, start + 13 * i),
+            FlatQid { refusal, qid },
+        )
+    });
+    all_equal(all.chain(cut))
+}
+
+fn all_equal<A: PartialEq + std::fmt::Debug>(mut pairs: impl Iterator<Item = (A, A)>) -> Outcome {
+    match pairs.find(|(ours, theirs)| ours != theirs) {
+        Some((ours, theirs)) => differs(format!("{ours:?}"), format!("{theirs:?}")),
+        None => Outcome::Accepted,
+    }
+}

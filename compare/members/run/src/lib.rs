@@ -1,0 +1,12 @@
+//! What `compare/run` and `compare/fuzz` share: cases, and the library's answers beside the seller's.
+
+pub mod compare;
+mod dirents;
+mod elements;
+pub mod kinds;
+mod limits;
+mod pieces;
+pub mod rows;
+mod stretches;
+mod tables;
+mod theirs;

@@ -1,0 +1,43 @@
+//! Walks written from tables: a Twalk's names as spans of lent bytes, an Rwalk's qids as they are.
+
+use judge::Direction;
+use ours::Qid;
+use p9::draw::Draws;
+use p9::flat::Value;
+
+use crate::compare::{differs, in_rooms, Outcome};
+use crate::pieces::{lent, Piece};
+use crate::theirs::{qid, with_values};
+
+/// A frame of a walk that the seller wrote, written again.
+pub fn table(direction: Direction, frame: &[u8], draws: &mut Draws) -> Outcome {
+    let tag = u16::from_le_bytes([frame[5], frame[6]]);
+    with_values(direction, frame, |record| match record {
+        [Value::Number(fid, _), Value::Number(newfid, _), Value::Names(names)] => {
+            let head = (tag, *fid as u32, *newfid as u32);
+            let names: Vec<&[u8]> = names.iter().map(|name| name.as_bytes()).collect();
+            twalk(frame, head, &names, draws)
+        }
+        [Value::Qids(qids)] => {
+            let qids: Vec<Qid> = qids.iter().map(qid).collect();
+            in_rooms(0, frame, draws, |out| ours::write_rwalk(out, tag, &qids))
+        }
+        _ => differs("no walk".into(), "a walk".into()),
+    })
+}
+
+fn twalk(frame: &[u8], head: ours::Head, names: &[&[u8]], draws: &mut Draws) -> Outcome {
+    let pieces: Vec<Piece> = names
+        .iter()
+        .map(|name| Piece::from(Value::String(name)))
+        .collect();
+    let (lent, places) = lent(&pieces, draws);
+    let rows: Vec<[usize; 2]> = places
+        .iter()
+        .zip(names)
+        .map(|(start, name)| [*start, name.len()])
+        .collect();
+    in_rooms(0, frame, draws, |out| {
+        ours::write_twalk(out, &lent, head, &rows)
+    })
+}
