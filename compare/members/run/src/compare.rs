@@ -10,7 +10,7 @@ use p9::show::hex;
 use crate::kinds::Of;
 use crate::pieces::{lent, pieces, values};
 use crate::theirs::{self, Again, Theirs};
-use crate::{dirents, elements, rows, stretches, tables};
+use crate::{dirents, elements, raw, rows, stretches, tables};
 
 pub enum Outcome {
     /// The same, and whether it is a frame or a refusal.
@@ -55,8 +55,25 @@ pub fn asked(of: Of, bytes: &[u8], draws: &mut Draws) -> Outcome {
         Of::Table(direction) => tables::table(direction, bytes, draws),
         Of::Stretch => stretches::stretch(bytes, draws),
         Of::Text => text(bytes),
+        Of::Raw(direction) => raw::raw(direction, bytes),
+        Of::Again(direction) => again(direction, bytes, draws),
         Of::Row(row) => rows::row(row),
     }
+}
+
+/// What the seller's crate reads of any bytes and writes again: all that is asked of frames which it
+/// wrote.
+fn again(direction: Direction, bytes: &[u8], draws: &mut Draws) -> Outcome {
+    let Some(Ok(frame)) = theirs::read(direction, bytes).again else {
+        return Outcome::Refused;
+    };
+    let of_any = [Of::Written(direction)];
+    let of_walks = [Of::Elements(direction), Of::Table(direction)];
+    let all = match frame[4] {
+        110 | 111 => of_any.iter().chain(&of_walks),
+        _ => of_any.iter().chain(&[]),
+    };
+    first_difference(all.map(|of| asked(*of, &frame, draws)))
 }
 
 /// A frame read, and the record written again where there is one.
@@ -71,7 +88,12 @@ fn read(direction: Direction, bytes: &[u8]) -> Outcome {
     }
     match &theirs.again {
         None => Outcome::Refused,
-        Some(again) => written(direction, bytes, &ours, again, 3),
+        Some(again) => {
+            let room = again.as_ref().map_or(0, Vec::len) + 3;
+            in_a_room(room, again.clone(), |out| {
+                ours::write(direction, out, bytes, &ours)
+            })
+        }
     }
 }
 
@@ -86,32 +108,6 @@ fn known(bytes: &[u8], ours: &Flat, theirs: &Theirs) -> Outcome {
         true => Outcome::Known,
         false => differs(format!("{ours:?}"), told(theirs)),
     }
-}
-
-/// The library's writing into an output with so many bytes to spare, beside the seller's.
-fn written(
-    direction: Direction,
-    lent: &[u8],
-    frame: &Flat,
-    again: &Again,
-    spare: usize,
-) -> Outcome {
-    let len = again.as_ref().map_or(0, Vec::len);
-    let ours = write(direction, lent, frame, len + spare);
-    let theirs = match again {
-        Ok(bytes) => Written {
-            wrote: Wrote { refusal: 0, len },
-            out: [bytes, &vec![BLANK; spare][..]].concat(),
-        },
-        Err(refusal) => untouched(*refusal, spare),
-    };
-    beside(ours, theirs)
-}
-
-fn write(direction: Direction, lent: &[u8], frame: &Flat, room: usize) -> Written {
-    let mut out = vec![BLANK; room];
-    let wrote = ours::write(direction, &mut out, lent, frame);
-    Written { wrote, out }
 }
 
 fn untouched(refusal: u8, room: usize) -> Written {
@@ -189,23 +185,39 @@ pub fn in_rooms(
 ) -> Outcome {
     let len = before + bytes.len();
     let short = [len - 1, draws.below(len)].map(|room| untouched(11, room));
-    let long = [0, 1 + draws.below(20)].map(|spare| Written {
-        wrote: Wrote { refusal: 0, len },
-        out: [&vec![BLANK; before], bytes, &vec![BLANK; spare]].concat(),
-    });
-    let outcomes = short.into_iter().chain(long).map(|theirs| {
-        let mut out = vec![BLANK; theirs.out.len()];
-        let wrote = write(&mut out);
-        beside(Written { wrote, out }, theirs)
-    });
+    let long = [0, 1 + draws.below(20)].map(|spare| front(before, bytes, spare));
+    let outcomes = short.into_iter().chain(long);
+    let outcomes = outcomes.map(|theirs| put_beside(theirs, &write));
     first_difference(outcomes)
 }
 
-/// Of a writing that is refused, whatever the room.
+/// A writing that is refused.
 pub fn refused(refusal: u8, room: usize, write: impl Fn(&mut [u8]) -> Wrote) -> Outcome {
-    let mut out = vec![BLANK; room];
+    in_a_room(room, Err(refusal), write)
+}
+
+/// A writing into an output of that length, beside the frame that must come of it, or the refusal.
+pub fn in_a_room(room: usize, theirs: Again, write: impl Fn(&mut [u8]) -> Wrote) -> Outcome {
+    let theirs = match theirs {
+        Ok(bytes) => front(0, &bytes, room - bytes.len()),
+        Err(refusal) => untouched(refusal, room),
+    };
+    put_beside(theirs, write)
+}
+
+fn put_beside(theirs: Written, write: impl Fn(&mut [u8]) -> Wrote) -> Outcome {
+    let mut out = vec![BLANK; theirs.out.len()];
     let wrote = write(&mut out);
-    beside(Written { wrote, out }, untouched(refusal, room))
+    beside(Written { wrote, out }, theirs)
+}
+
+/// An output with so many bytes before and behind what was written.
+fn front(before: usize, bytes: &[u8], spare: usize) -> Written {
+    let len = before + bytes.len();
+    Written {
+        wrote: Wrote { refusal: 0, len },
+        out: [&vec![BLANK; before], bytes, &vec![BLANK; spare]].concat(),
+    }
 }
 
 /// The first outcome that is a difference, or else the last.

@@ -30,12 +30,13 @@ pub enum Kind {
     Table,
     Stretch,
     Text,
+    Raw,
     Rows,
 }
 
 /// Each kind's name, and how many of ten thousand cases it has. Those of `limit` are long, and
 /// `rows` has one for each row.
-pub const KINDS: [(Kind, &str, u64); 16] = [
+pub const KINDS: [(Kind, &str, u64); 17] = [
     (Kind::Short, "short", 1000),
     (Kind::Size, "size", 1000),
     (Kind::Fields, "fields", 1500),
@@ -46,16 +47,17 @@ pub const KINDS: [(Kind, &str, u64); 16] = [
     (Kind::Unknown, "unknown", 400),
     (Kind::Limit, "limit", 5),
     (Kind::Write, "write", 800),
-    (Kind::Dirent, "dirent", 600),
+    (Kind::Dirent, "dirent", 500),
     (Kind::Element, "element", 100),
     (Kind::Table, "table", 100),
     (Kind::Stretch, "stretch", 100),
     (Kind::Text, "text", 100),
+    (Kind::Raw, "raw", 100),
     (Kind::Rows, "rows", 0),
 ];
 
 /// What is asked of some bytes.
-#[derive(Clone, Copy, Debug)]
+#[derive(Clone, Copy, Debug, PartialEq, Eq)]
 pub enum Of {
     /// A frame to read.
     Read(Direction),
@@ -72,8 +74,27 @@ pub enum Of {
     Stretch,
     /// Whether the bytes are UTF-8.
     Text,
+    /// A flat record of any values, to write.
+    Raw(Direction),
+    /// Whatever the seller reads there, written again in every way.
+    Again(Direction),
     /// A row of docs/DIFFERENCES.md.
     Row(u8),
+}
+
+/// What an input of `compare/fuzz` asks of its other bytes by its first one.
+pub fn chosen(first: u8) -> Of {
+    match first % 9 {
+        0 => Of::Read(Direction::T),
+        1 => Of::Read(Direction::R),
+        2 => Of::Again(Direction::T),
+        3 => Of::Again(Direction::R),
+        4 => Of::Raw(Direction::T),
+        5 => Of::Raw(Direction::R),
+        6 => Of::Entry(usize::from(first / 9)),
+        7 => Of::Stretch,
+        _ => Of::Text,
+    }
 }
 
 pub struct Asked {
@@ -120,6 +141,7 @@ pub fn asked(kind: Kind, turn: usize, draws: &mut Draws) -> Vec<Asked> {
         Kind::Table => walk(Of::Table, turn, draws),
         Kind::Stretch => all(Of::Stretch, vec![joined(draws)]),
         Kind::Text => all(Of::Text, vec![text(draws)]),
+        Kind::Raw => all(Of::Raw(direction), vec![values(direction, place, draws)]),
         Kind::Rows => all(Of::Row(ROWS[turn % ROWS.len()]), vec![Vec::new()]),
     }
 }
@@ -276,4 +298,25 @@ fn text(draws: &mut Draws) -> Vec<u8> {
         1 if !text.is_empty() => damaged(text, draws),
         _ => text,
     }
+}
+
+/// A record's values as `raw` takes them, few of them out of bounds, and text to lend.
+fn values(direction: Direction, place: usize, draws: &mut Draws) -> Vec<u8> {
+    let ty = match draws.below(20) {
+        0 => draws.byte(),
+        _ => drawn(direction, place, draws)[4],
+    };
+    let mut all = vec![ty];
+    all.extend(draws.bytes(3));
+    all.extend([draws.byte(), draws.one_of(&[0, 0, 0, 1])]);
+    for _ in 0..22 {
+        let small = draws.below(12) as u8;
+        let wide = draws.one_of(&[250, 252, 253, 254]);
+        all.push(draws.one_of(&[small, small, small, small, small, small, small, wide]));
+    }
+    all.extend(bytes(&Tframe {
+        tag: 0,
+        msg: Ok(Tmessage::Walk(Draw::draw(draws))),
+    }));
+    all
 }

@@ -6,6 +6,7 @@ mod elements;
 pub mod kinds;
 mod limits;
 mod pieces;
+mod raw;
 pub mod rows;
 mod stretches;
 mod tables;

@@ -1,10 +1,13 @@
 //! The seller's Rust, its answer put as the library puts its own.
 
 use std::io;
+use std::sync::LazyLock;
 
+use judge::cases::{drawn, types, DIRECTIONS};
 use judge::refusal::number;
 use judge::{written, Direction};
 use ours::Flat;
+use p9::draw::Draws;
 use p9::flat::Value;
 use p9::protocol::{Qid, Rframe, Tframe, WireFormat};
 
@@ -74,6 +77,38 @@ pub fn of_data(frame: &[u8]) -> Vec<Value<'_>> {
             Value::Data(&frame[23..]),
         ],
         _ => vec![Value::Data(&frame[11..])],
+    }
+}
+
+/// A type's values, whatever they are: those of a record that was drawn.
+pub fn layout(direction: Direction, ty: u8) -> Option<&'static [Value<'static>]> {
+    static LAYOUTS: LazyLock<[Vec<(u8, Vec<Value>)>; 2]> =
+        LazyLock::new(|| DIRECTIONS.map(layouts));
+    let all = &LAYOUTS[direction as usize];
+    let found = all.iter().find(|(known, _)| *known == ty);
+    found.map(|(_, values)| values.as_slice())
+}
+
+fn layouts(direction: Direction) -> Vec<(u8, Vec<Value<'static>>)> {
+    let draws = &mut Draws::new(0);
+    let all = (0..types(direction)).map(|place| {
+        let frame = drawn(direction, place, draws);
+        let values = with_values(direction, &frame, |record| {
+            record.iter().map(emptied).collect()
+        });
+        (frame[4], values)
+    });
+    all.collect()
+}
+
+/// The kind of a value alone.
+fn emptied(value: &Value) -> Value<'static> {
+    match value {
+        Value::Number(_, width) => Value::Number(0, *width),
+        Value::String(_) => Value::String(&[]),
+        Value::Data(_) => Value::Data(&[]),
+        Value::Names(_) => Value::Names(&[]),
+        Value::Qids(_) => Value::Qids(&[]),
     }
 }
 

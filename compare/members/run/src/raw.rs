@@ -1,0 +1,145 @@
+//! Flat records of any values, written: what no typed caller could hand over, too.
+//!
+//! Which values a record has is taken from the seller's own record of the type. What has to come of
+//! them is put together here as document 01 says it, since the seller's records have no spans.
+
+use judge::Direction;
+use ours::{Flat, Wrote};
+use p9::flat::Value;
+
+use crate::compare::{in_a_room, Outcome};
+use crate::limits::MOST;
+use crate::theirs::layout;
+
+/// A record's type, tag and values, the room for the frame, and the bytes that are lent.
+struct Raw<'a> {
+    frame: Flat,
+    room: usize,
+    lent: &'a [u8],
+}
+
+/// What some bytes come to as a record: any bytes are one.
+pub fn raw(direction: Direction, bytes: &[u8]) -> Outcome {
+    let Raw { frame, room, lent } = taken(bytes);
+    let theirs = match frame.refusal {
+        0 => written(direction, &frame, lent),
+        _ => Err(16),
+    };
+    let theirs = theirs.and_then(|frame| match frame.len() > room {
+        true => Err(11),
+        false => Ok(frame),
+    });
+    in_a_room(room, theirs, |out| -> Wrote {
+        ours::write(direction, out, lent, &frame)
+    })
+}
+
+/// Six bytes of header, then the values: below 250 a byte is the value itself, else it says how wide
+/// the value behind it is.
+fn taken(bytes: &[u8]) -> Raw<'_> {
+    let mut rest = bytes;
+    let mut number = |width: usize| {
+        let (front, behind) = rest.split_at(width.min(rest.len()));
+        rest = behind;
+        let mut wide = [0; 8];
+        wide[..front.len()].copy_from_slice(front);
+        u64::from_le_bytes(wide)
+    };
+    let mut frame = Flat {
+        ty: number(1) as u8,
+        tag: number(2) as u16,
+        tagged: true,
+        // One in 256 holds a refusal, of any number.
+        refusal: match number(1) {
+            255 => number(1) as u8,
+            _ => 0,
+        },
+        ..Flat::default()
+    };
+    let room = number(2) as usize;
+    for value in &mut frame.values {
+        *value = match number(1) {
+            small @ 0..=249 => small,
+            250 | 251 => number(2),
+            252 => number(4),
+            253 => number(8),
+            254 => u64::MAX,
+            _ => break,
+        };
+    }
+    let lent = rest;
+    Raw { frame, room, lent }
+}
+
+fn written(direction: Direction, frame: &Flat, lent: &[u8]) -> Result<Vec<u8>, u8> {
+    let fields = layout(direction, frame.ty).ok_or(3)?;
+    let mut values = frame.values.iter().copied();
+    let mut next = || values.next().unwrap_or(0);
+    let mut out = vec![0; 4];
+    out.push(frame.ty);
+    out.extend(frame.tag.to_le_bytes());
+    for field in fields {
+        match field {
+            Value::Number(_, width) => out.extend(&next().to_le_bytes()[..*width]),
+            Value::String(_) => {
+                let bytes = spanned(lent, next(), next())?;
+                string(bytes)?;
+                out.extend((bytes.len() as u16).to_le_bytes());
+                out.extend(bytes);
+            }
+            Value::Data(_) => {
+                let bytes = spanned(lent, next(), next())?;
+                out.extend((bytes.len() as u32).to_le_bytes());
+                out.extend(bytes);
+            }
+            Value::Names(_) | Value::Qids(_) => {
+                let count = next() as u16;
+                let bytes = spanned(lent, next(), next())?;
+                match field {
+                    Value::Names(_) => names(bytes, count)?,
+                    _ if bytes.len() != 13 * usize::from(count) => return Err(14),
+                    _ => {}
+                }
+                out.extend(count.to_le_bytes());
+                out.extend(bytes);
+            }
+        }
+    }
+    let size = out.len() as u32;
+    out[..4].copy_from_slice(&size.to_le_bytes());
+    Ok(out)
+}
+
+fn spanned(lent: &[u8], start: u64, len: u64) -> Result<&[u8], u8> {
+    let end = start.checked_add(len).ok_or(9)?;
+    lent.get(start as usize..end as usize).ok_or(9)
+}
+
+fn string(bytes: &[u8]) -> Result<(), u8> {
+    match bytes.len() > MOST {
+        true => Err(7),
+        false => text(bytes),
+    }
+}
+
+fn text(bytes: &[u8]) -> Result<(), u8> {
+    match std::str::from_utf8(bytes) {
+        Err(_) => Err(5),
+        Ok(text) if text.contains('\0') => Err(6),
+        Ok(_) => Ok(()),
+    }
+}
+
+fn names(mut part: &[u8], count: u16) -> Result<(), u8> {
+    for _ in 0..count {
+        let (len, behind) = part.split_first_chunk().ok_or(14)?;
+        let len = usize::from(u16::from_le_bytes(*len));
+        let (name, behind) = behind.split_at_checked(len).ok_or(14)?;
+        text(name)?;
+        part = behind;
+    }
+    match part.is_empty() {
+        true => Ok(()),
+        false => Err(14),
+    }
+}
