@@ -1,0 +1,87 @@
+//! Nothing is allocated in reading or writing.
+
+use std::alloc::{GlobalAlloc, Layout, System};
+use std::cell::Cell;
+
+use sheafsledge::stream::{next_frame, Next};
+use sheafsledge::*;
+
+const SESSION: &[u8] = include_bytes!("../../examples/diod-session.bin");
+
+struct Counting;
+
+thread_local! {
+    static COUNT: Cell<usize> = const { Cell::new(0) };
+}
+
+// SAFETY: the system's allocator does all of it; a number is counted up beside it.
+unsafe impl GlobalAlloc for Counting {
+    unsafe fn alloc(&self, layout: Layout) -> *mut u8 {
+        COUNT.set(COUNT.get() + 1);
+        // SAFETY: as the caller promises.
+        unsafe { System.alloc(layout) }
+    }
+
+    unsafe fn dealloc(&self, place: *mut u8, layout: Layout) {
+        // SAFETY: as the caller promises.
+        unsafe { System.dealloc(place, layout) }
+    }
+}
+
+#[global_allocator]
+static ALLOCATOR: Counting = Counting;
+
+/// How often the thread allocated in there.
+fn counted(done: impl FnOnce()) -> usize {
+    let before = COUNT.get();
+    done();
+    COUNT.get() - before
+}
+
+fn every_frame(buffer: &mut [u8], out: &mut [u8]) -> Result<usize, Refusal> {
+    let (mut stream, mut entries) = (SESSION, 0);
+    while let Ok(Next::Frame(frame)) = next_frame(&mut stream, buffer) {
+        match frame[4] % 2 {
+            0 => Tframe::decode(frame)?.frame.encode(out)?,
+            _ => Rframe::decode(frame)?.frame.encode(out)?,
+        };
+    }
+    for frame in stretch(SESSION).flatten() {
+        if let Body::Reply(Ok(Rmessage::Readdir(part))) = frame.body {
+            for entry in part.entries() {
+                entries += 1;
+                entry?.encode(out, 0)?;
+            }
+        }
+    }
+    Ok(entries)
+}
+
+fn walks(out: &mut [u8]) -> Result<usize, Refusal> {
+    let head = WalkHead {
+        tag: 1,
+        fid: 2,
+        newfid: 3,
+    };
+    let len = write_twalk(out, b"dcim/0001.jpg", head, &[[0, 4], [5, 8]])?;
+    let Ok(Tmessage::Walk(walk)) = Tframe::decode(&out[..len])?.frame.msg else {
+        return Err(Refusal::UnknownType);
+    };
+    let letters = walk.wnames.iter().map(str::len).sum::<usize>() + walk.wnames.get(1)?.len();
+    write_rwalk(out, 1, &[Qid::default(); 16])?;
+    Ok(letters)
+}
+
+#[test]
+fn nothing_is_allocated() {
+    let (mut buffer, mut out) = (vec![0; 65_536], vec![0; 65_536]);
+    let (mut entries, mut letters) = (Ok(0), Ok(0));
+    let count = counted(|| {
+        entries = every_frame(&mut buffer, &mut out);
+        letters = walks(&mut out);
+    });
+    assert_eq!(letters, Ok(20));
+    assert!(entries.is_ok_and(|entries| entries > 0), "{entries:?}");
+    assert_eq!(count, 0);
+    assert_eq!(counted(|| drop(vec![1])), 1, "the count counts");
+}

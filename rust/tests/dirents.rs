@@ -1,0 +1,92 @@
+//! Directory entries, by bytes that were put down by hand.
+
+use sheafsledge::*;
+
+/// The entry "ab" of a file, and "é" of a directory: qid, offset, type, name.
+const AB: &[u8] = b"\0\x01\0\0\0\x02\0\0\0\0\0\0\0\x03\0\0\0\0\0\0\0\x08\x02\0ab";
+const E: &[u8] = b"\x80\xff\xff\xff\xff\x04\0\0\0\0\0\0\x80\xff\0\0\0\0\0\0\0\x04\x02\0\xc3\xa9";
+
+const OF_AB: Dirent = Dirent {
+    qid: Qid {
+        ty: 0,
+        version: 1,
+        path: 2,
+    },
+    offset: 3,
+    ty: 8,
+    name: "ab",
+};
+
+const OF_E: Dirent = Dirent {
+    qid: Qid {
+        ty: 0x80,
+        version: u32::MAX,
+        path: 0x8000_0000_0000_0004,
+    },
+    offset: 255,
+    ty: 4,
+    name: "é",
+};
+
+fn entries(data: &[u8]) -> Vec<Result<Dirent<'_>, Refusal>> {
+    Rreaddir { data }.entries().collect()
+}
+
+#[test]
+fn entries_come_one_by_one() {
+    let both = [AB, E].concat();
+    assert_eq!(entries(&both), [Ok(OF_AB), Ok(OF_E)]);
+    assert_eq!(entries(b""), []);
+    assert_eq!(Dirent::decode(&both, 26), Ok((OF_E, 52)));
+}
+
+#[test]
+fn nothing_is_given_behind_a_refusal() {
+    for end in 27..52 {
+        let cut = &[AB, E].concat()[..end];
+        assert_eq!(entries(cut), [Ok(OF_AB), Err(Refusal::Short)], "{end}");
+    }
+    let surrogate = [AB, &E[..22], b"\x03\0\xed\xa0\x80", AB].concat();
+    assert_eq!(entries(&surrogate), [Ok(OF_AB), Err(Refusal::NotUtf8)]);
+    let zero = [&AB[..25], b"\0", E].concat();
+    assert_eq!(entries(&zero), [Err(Refusal::ZeroByte)]);
+    assert_eq!(Dirent::decode(AB, 27), Err(Refusal::Short));
+    assert_eq!(Dirent::decode(AB, usize::MAX), Err(Refusal::Short));
+}
+
+#[test]
+fn entries_are_written_at_their_places() {
+    let mut out = [0xee; 60];
+    assert_eq!(OF_AB.encode(&mut out, 3), Ok(29));
+    assert_eq!(OF_E.encode(&mut out, 29), Ok(55));
+    assert_eq!(out[..3], [0xee; 3]);
+    assert_eq!(out[3..55], [AB, E].concat());
+    assert_eq!(out[55..], [0xee; 5]);
+}
+
+#[test]
+fn a_refused_entry_leaves_the_output_as_it_was() {
+    let refused = |entry: Dirent, room: usize, at: usize| {
+        let mut out = vec![0xee; room];
+        let refusal = entry.encode(&mut out, at).expect_err("a refusal");
+        assert!(out.iter().all(|byte| *byte == 0xee));
+        refusal
+    };
+    assert_eq!(refused(OF_AB, 28, 3), Refusal::NoRoom);
+    assert_eq!(refused(OF_AB, 28, 29), Refusal::NoRoom);
+    assert_eq!(refused(OF_AB, 28, usize::MAX), Refusal::FrameTooLong);
+    let zero = Dirent {
+        name: "a\0",
+        ..OF_AB
+    };
+    assert_eq!(refused(zero, 64, 0), Refusal::ZeroByte);
+    let name = &"é".repeat(32_768);
+    assert_eq!(
+        refused(Dirent { name, ..OF_AB }, 70_000, 0),
+        Refusal::StringTooLong
+    );
+    let name = &name[..65_534];
+    let mut out = vec![0; 65_558];
+    assert_eq!(Dirent { name, ..OF_AB }.encode(&mut out, 0), Ok(65_558));
+    assert_eq!(entries(&out), [Ok(Dirent { name, ..OF_AB })]);
+}

@@ -1,0 +1,120 @@
+//! The elements of walks in order and by their numbers, and walks written from tables.
+
+use sheafsledge::*;
+
+const HEAD: WalkHead = WalkHead {
+    tag: 3,
+    fid: 1,
+    newfid: 2,
+};
+
+/// The paper's frame E: a Twalk of "a" and "bc".
+const E: &[u8] = b"\x18\0\0\0\x6e\x03\0\x01\0\0\0\x02\0\0\0\x02\0\x01\0a\x02\0bc";
+
+fn names_of(frame: &[u8]) -> Names<'_> {
+    match Tframe::decode(frame).expect("a header").frame.msg {
+        Ok(Tmessage::Walk(walk)) => walk.wnames,
+        _ => panic!("a Twalk"),
+    }
+}
+
+fn qids_of(frame: &[u8]) -> Qids<'_> {
+    match Rframe::decode(frame).expect("a reply").frame.msg {
+        Rmessage::Walk(walk) => walk.wqids,
+        _ => panic!("an Rwalk"),
+    }
+}
+
+#[test]
+fn names_are_the_same_in_order_and_by_number() {
+    let text = "a bc  höhe 😀".as_bytes();
+    for rows in [
+        &[][..],
+        &[[0, 0]],
+        &[[0, 1], [2, 2], [4, 0], [6, 5], [12, 4], [0, 16]],
+        &[[6, 5]; 300],
+    ] {
+        let mut out = vec![0; 8192];
+        let len = write_twalk(&mut out, text, HEAD, rows).expect("room");
+        let names = names_of(&out[..len]);
+        assert_eq!(usize::from(names.count()), rows.len());
+        let in_order: Vec<_> = names.iter().collect();
+        let by_number: Vec<_> = (0..rows.len()).map(|i| names.get(i).unwrap()).collect();
+        assert_eq!(in_order, by_number);
+        let expected = rows.iter().map(|[start, len]| &text[*start..start + len]);
+        assert!(in_order.iter().map(|name| name.as_bytes()).eq(expected));
+        for i in [rows.len(), usize::MAX] {
+            assert_eq!(names.get(i), Err(Refusal::NoSuchElement));
+        }
+    }
+}
+
+#[test]
+fn qids_are_the_same_in_order_and_by_number() {
+    let qid = |i: u64| Qid {
+        ty: i as u8,
+        version: !(i as u32),
+        path: i.wrapping_mul(0x0102_0304_0506_0708),
+    };
+    for count in [0, 1, 2, 300] {
+        let qids: Vec<Qid> = (0..count).map(qid).collect();
+        let mut out = vec![0; 8192];
+        let len = write_rwalk(&mut out, 3, &qids).expect("room");
+        let read = qids_of(&out[..len]);
+        assert_eq!(read.iter().collect::<Vec<_>>(), qids);
+        let by_number: Vec<_> = (0..qids.len()).map(|i| read.get(i).unwrap()).collect();
+        assert_eq!(by_number, qids);
+        assert_eq!(read.get(qids.len()), Err(Refusal::NoSuchElement));
+    }
+}
+
+#[test]
+fn a_twalk_from_a_table_has_the_papers_bytes() {
+    let mut out = [0xee; 30];
+    assert_eq!(
+        write_twalk(&mut out, b"abc", HEAD, &[[0, 1], [1, 2]]),
+        Ok(24)
+    );
+    assert_eq!(out[..24], *E);
+    assert_eq!(out[24..], [0xee; 6]);
+}
+
+#[test]
+fn an_rwalk_from_a_table_has_the_papers_bytes() {
+    let mut out = [0xee; 30];
+    assert_eq!(write_rwalk(&mut out, 3, &[]), Ok(9));
+    assert_eq!(out[..9], *b"\x09\0\0\0\x6f\x03\0\0\0");
+    let qid = Qid {
+        ty: 1,
+        version: 2,
+        path: 3,
+    };
+    assert_eq!(write_rwalk(&mut out, 3, &[qid]), Ok(22));
+    assert_eq!(out[..9], *b"\x16\0\0\0\x6f\x03\0\x01\0");
+    assert_eq!(out[9..22], *b"\x01\x02\0\0\0\x03\0\0\0\0\0\0\0");
+    assert_eq!(out[22..], [0xee; 8]);
+}
+
+#[test]
+fn refused_tables_leave_the_output_as_it_was() {
+    let text = [b"ab\0\xff", &[b'a'; 65_536][..]].concat();
+    let refused = |rows: &[[usize; 2]], room: usize| {
+        let mut out = vec![0xee; room];
+        let refusal = write_twalk(&mut out, &text, HEAD, rows).expect_err("a refusal");
+        assert!(out.iter().all(|byte| *byte == 0xee));
+        refusal
+    };
+    assert_eq!(refused(&[[0, 2], [65_540, 1]], 64), Refusal::SpanOutside);
+    assert_eq!(refused(&[[usize::MAX, 2]], 64), Refusal::SpanOutside);
+    assert_eq!(refused(&[[4, 65_536]], 64), Refusal::StringTooLong);
+    assert_eq!(refused(&[[0, 4]], 64), Refusal::NotUtf8);
+    assert_eq!(refused(&[[0, 3]], 64), Refusal::ZeroByte);
+    assert_eq!(refused(&[[0, 2]], 20), Refusal::NoRoom);
+    assert_eq!(refused(&[[0, 4]; 65_536], 64), Refusal::TableTooLong);
+    assert_eq!(refused(&[[4, 65_535]; 65_535], 64), Refusal::FrameTooLong);
+    let mut out = [0xee; 64];
+    let qids = vec![Qid::default(); 65_536];
+    assert_eq!(write_rwalk(&mut out, 3, &qids), Err(Refusal::TableTooLong));
+    assert_eq!(write_rwalk(&mut out, 3, &qids[..5]), Err(Refusal::NoRoom));
+    assert_eq!(out, [0xee; 64]);
+}
