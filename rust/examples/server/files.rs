@@ -55,6 +55,9 @@ const O_NOFOLLOW: i32 = match cfg!(any(target_arch = "arm", target_arch = "aarch
     false => 0o400_000,
 };
 
+/// Of an Rgetattr's fields those that are filled in: all but the last four.
+const BASIC: u64 = 0x7ff;
+
 pub struct Place {
     handle: File,
     /// None for the root.
@@ -118,7 +121,7 @@ impl Place {
     pub fn attributes(&self) -> io::Result<Rgetattr> {
         let data = self.handle.metadata()?;
         Ok(Rgetattr {
-            valid: 0,
+            valid: BASIC,
             qid: qid(&data),
             mode: data.mode(),
             uid: data.uid(),

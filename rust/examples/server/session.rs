@@ -31,9 +31,6 @@ const NO_FID: u32 = u32::MAX;
 /// Of Tlopen's flags those that would write: for writing alone, for both, or truncated at once.
 const WRITES: u32 = 0o1003;
 
-/// Of Rgetattr's fields those that are filled in: all but the last four.
-const BASIC: u64 = 0x7ff;
-
 type Answer<'d> = Result<Rmessage<'d>, Errno>;
 
 /// A file that the client has a number for, and what it is read from once it is open.
@@ -149,11 +146,7 @@ impl Session {
 
     fn getattr<'d>(&self, asked: Tgetattr) -> Answer<'d> {
         let attributes = self.fid(asked.fid)?.place.attributes()?;
-        let valid = BASIC;
-        Ok(Rmessage::GetAttr(Rgetattr {
-            valid,
-            ..attributes
-        }))
+        Ok(Rmessage::GetAttr(attributes))
     }
 
     fn lopen<'d>(&mut self, asked: Tlopen) -> Answer<'d> {

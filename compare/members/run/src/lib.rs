@@ -3,8 +3,10 @@
 pub mod compare;
 mod dirents;
 mod elements;
+mod frames;
 pub mod kinds;
 mod limits;
+mod others;
 mod pieces;
 mod raw;
 pub mod rows;

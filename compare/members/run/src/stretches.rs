@@ -1,5 +1,6 @@
 //! A stretch, frame by frame: cut as the paper says, and each frame answered by the seller's Rust.
 
+use judge::cases::unknown;
 use judge::stretch::whole;
 use judge::Direction;
 use ours::FlatStep;
@@ -20,6 +21,9 @@ pub fn stretch(bytes: &[u8], draws: &mut Draws) -> Outcome {
             break;
         }
         position = theirs.next;
+        if let Some(outcome) = pairs(theirs.ty, theirs.tag) {
+            return outcome;
+        }
     }
     for _ in 0..3 {
         let position = draws.below(bytes.len() + 3);
@@ -36,6 +40,24 @@ pub fn stretch(bytes: &[u8], draws: &mut Draws) -> Outcome {
 fn beside(bytes: &[u8], position: usize, theirs: FlatStep) -> Option<Outcome> {
     let ours = ours::frame_at(bytes, position);
     (ours != theirs).then(|| differs(format!("{ours:?}"), format!("{theirs:?}")))
+}
+
+/// Whether the next number, another one and another tag answer it, as document 01 says.
+fn pairs(ty: u8, tag: u16) -> Option<Outcome> {
+    let known = !unknown(Direction::T).contains(&ty);
+    let replies = [
+        (ty.wrapping_add(1), tag, known),
+        (ty.wrapping_add(2), tag, false),
+        (ty.wrapping_add(1), !tag, false),
+    ];
+    let mut wrong = replies.iter().filter(|(reply, tag_of_it, theirs)| {
+        ours::answers((ty, tag), (*reply, *tag_of_it)) != *theirs
+    });
+    let reply = wrong.next()?;
+    Some(differs(
+        format!("{:?} answers {:?}: {}", reply, (ty, tag), !reply.2),
+        reply.2.to_string(),
+    ))
 }
 
 fn step(bytes: &[u8], at: usize) -> FlatStep {

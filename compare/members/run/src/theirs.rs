@@ -80,16 +80,18 @@ pub fn of_data(frame: &[u8]) -> Vec<Value<'_>> {
     }
 }
 
-/// A type's values, whatever they are: those of a record that was drawn.
+/// A type's number and its values, whatever these are.
+type Layout = (u8, Vec<Value<'static>>);
+
+/// The values of a type: those of a record that was drawn.
 pub fn layout(direction: Direction, ty: u8) -> Option<&'static [Value<'static>]> {
-    static LAYOUTS: LazyLock<[Vec<(u8, Vec<Value>)>; 2]> =
-        LazyLock::new(|| DIRECTIONS.map(layouts));
-    let all = &LAYOUTS[direction as usize];
-    let found = all.iter().find(|(known, _)| *known == ty);
+    static LAYOUTS: LazyLock<[Vec<Layout>; 2]> = LazyLock::new(|| DIRECTIONS.map(layouts));
+    let mut all = LAYOUTS[direction as usize].iter();
+    let found = all.find(|(known, _)| *known == ty);
     found.map(|(_, values)| values.as_slice())
 }
 
-fn layouts(direction: Direction) -> Vec<(u8, Vec<Value<'static>>)> {
+fn layouts(direction: Direction) -> Vec<Layout> {
     let draws = &mut Draws::new(0);
     let all = (0..types(direction)).map(|place| {
         let frame = drawn(direction, place, draws);
