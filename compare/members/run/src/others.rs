@@ -90,14 +90,26 @@ pub fn joined(draws: &mut Draws) -> Vec<u8> {
     }
 }
 
-/// Characters of every row of RFC 3629, damaged or not, or bytes of any kind.
+/// The first and the last byte of each row of RFC 3629, and those beside them: as a character's
+/// first byte, and behind it.
+const LEADS: [u8; 16] = [
+    0x00, 0x7f, 0x80, 0xbf, 0xc1, 0xc2, 0xdf, 0xe0, 0xe1, 0xed, 0xee, 0xef, 0xf0, 0xf3, 0xf4, 0xf5,
+];
+const TRAILS: [u8; 8] = [0x7f, 0x80, 0x8f, 0x90, 0x9f, 0xa0, 0xbf, 0xc0];
+
+/// Characters of every row, damaged or not, with such bytes behind them; or bytes of any kind.
 pub fn text(draws: &mut Draws) -> Vec<u8> {
     let count = draws.below(40);
-    let text = P9String::draw(draws).as_bytes().to_vec();
-    match draws.below(3) {
+    let mut text = P9String::draw(draws).as_bytes().to_vec();
+    match draws.below(4) {
         0 => draws.bytes(count),
         1 if !text.is_empty() => damaged(text, draws),
-        _ => text,
+        2 => text,
+        _ => {
+            text.push(draws.one_of(&LEADS));
+            text.extend((0..draws.below(4)).map(|_| draws.one_of(&TRAILS)));
+            text
+        }
     }
 }
 
