@@ -6,7 +6,7 @@ use p9::draw::Draws;
 
 use crate::frames::{bordered, cuts, of_no_type, short, sizes, tailed, type_in_turn};
 use crate::limits::limit;
-use crate::others::{entries, joined, text, values, walk};
+use crate::others::{entries, joined, near_a_walk, text, values, walk};
 use crate::rows::ROWS;
 
 #[derive(Clone, Copy)]
@@ -38,7 +38,7 @@ pub const KINDS: [(Kind, &str, u64); 17] = [
     (Kind::Fields, "fields", 1500),
     (Kind::Cut, "cut", 1500),
     (Kind::Border, "border", 900),
-    (Kind::Damage, "damage", 1495),
+    (Kind::Damage, "damage", 1295),
     (Kind::Tail, "tail", 400),
     (Kind::Unknown, "unknown", 400),
     (Kind::Limit, "limit", 5),
@@ -47,8 +47,8 @@ pub const KINDS: [(Kind, &str, u64); 17] = [
     (Kind::Element, "element", 100),
     (Kind::Table, "table", 100),
     (Kind::Stretch, "stretch", 100),
-    (Kind::Text, "text", 100),
-    (Kind::Raw, "raw", 100),
+    (Kind::Text, "text", 200),
+    (Kind::Raw, "raw", 200),
     (Kind::Rows, "rows", 0),
 ];
 
@@ -128,6 +128,10 @@ pub fn asked(kind: Kind, turn: usize, draws: &mut Draws) -> Vec<Asked> {
         Kind::Table => walk(Of::Table, turn, draws),
         Kind::Stretch => all(Of::Stretch, vec![joined(draws)]),
         Kind::Text => all(Of::Text, vec![text(draws)]),
+        // Every other one is of the two types with a part.
+        Kind::Raw if turn.is_multiple_of(2) => {
+            all(Of::Raw(direction), vec![near_a_walk(direction, draws)])
+        }
         Kind::Raw => all(Of::Raw(direction), vec![values(direction, place, draws)]),
         Kind::Rows => all(Of::Row(ROWS[turn % ROWS.len()]), vec![Vec::new()]),
     }

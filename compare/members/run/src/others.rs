@@ -1,9 +1,9 @@
 //! What else is asked about: directory entries, walks, stretches, text, and values.
 
-use judge::cases::{bytes, damaged, drawn, sized};
+use judge::cases::{bytes, damaged, drawn, sized, DIRECTIONS};
 use judge::Direction;
 use p9::draw::{Draw, Draws};
-use p9::protocol::{Dirent, P9String, Rframe, Rmessage, Rwalk, Tframe, Tmessage, Twalk};
+use p9::protocol::{Dirent, P9String, Rframe, Rmessage, Tframe, Tmessage};
 
 use crate::frames::{of_no_type, tailed, type_in_turn, MOST_CUTS};
 use crate::kinds::{Asked, Of};
@@ -51,21 +51,23 @@ pub fn entries(turn: usize, draws: &mut Draws) -> Vec<Asked> {
 
 /// A walk of either direction.
 pub fn walk(of: fn(Direction) -> Of, turn: usize, draws: &mut Draws) -> Vec<Asked> {
-    let tag = Draw::draw(draws);
-    let (direction, bytes) = match turn % 2 {
-        0 => {
-            let walk: Twalk = Draw::draw(draws);
-            let msg = Ok(Tmessage::Walk(walk));
-            (Direction::T, bytes(&Tframe { tag, msg }))
-        }
-        _ => {
-            let walk: Rwalk = Draw::draw(draws);
-            let msg = Rmessage::Walk(walk);
-            (Direction::R, bytes(&Rframe { tag, msg }))
-        }
-    };
-    let of = of(direction);
+    let direction = DIRECTIONS[turn % 2];
+    let (of, bytes) = (of(direction), a_walk(direction, draws));
     vec![Asked { of, bytes }]
+}
+
+fn a_walk(direction: Direction, draws: &mut Draws) -> Vec<u8> {
+    let tag = Draw::draw(draws);
+    match direction {
+        Direction::T => {
+            let msg = Ok(Tmessage::Walk(Draw::draw(draws)));
+            bytes(&Tframe { tag, msg })
+        }
+        Direction::R => {
+            let msg = Rmessage::Walk(Draw::draw(draws));
+            bytes(&Rframe { tag, msg })
+        }
+    }
 }
 
 /// Frames back to back, some damaged, some with a tail, and the last one perhaps cut.
@@ -90,10 +92,25 @@ pub fn joined(draws: &mut Draws) -> Vec<u8> {
     }
 }
 
-/// The first and the last byte of each row of RFC 3629, and those beside them: as a character's
-/// first byte, and behind it.
-const LEADS: [u8; 16] = [
-    0x00, 0x7f, 0x80, 0xbf, 0xc1, 0xc2, 0xdf, 0xe0, 0xe1, 0xed, 0xee, 0xef, 0xf0, 0xf3, 0xf4, 0xf5,
+/// The first bytes at the borders of RFC 3629's rows, each with how many have to follow it; and what
+/// stands at the borders of those.
+const LEADS: [(u8, usize); 16] = [
+    (0x00, 0),
+    (0x7f, 0),
+    (0x80, 0),
+    (0xbf, 0),
+    (0xc1, 1),
+    (0xc2, 1),
+    (0xdf, 1),
+    (0xe0, 2),
+    (0xe1, 2),
+    (0xed, 2),
+    (0xee, 2),
+    (0xef, 2),
+    (0xf0, 3),
+    (0xf3, 3),
+    (0xf4, 3),
+    (0xf5, 3),
 ];
 const TRAILS: [u8; 8] = [0x7f, 0x80, 0x8f, 0x90, 0x9f, 0xa0, 0xbf, 0xc0];
 
@@ -101,13 +118,14 @@ const TRAILS: [u8; 8] = [0x7f, 0x80, 0x8f, 0x90, 0x9f, 0xa0, 0xbf, 0xc0];
 pub fn text(draws: &mut Draws) -> Vec<u8> {
     let count = draws.below(40);
     let mut text = P9String::draw(draws).as_bytes().to_vec();
-    match draws.below(4) {
+    match draws.below(6) {
         0 => draws.bytes(count),
         1 if !text.is_empty() => damaged(text, draws),
         2 => text,
         _ => {
-            text.push(draws.one_of(&LEADS));
-            text.extend((0..draws.below(4)).map(|_| draws.one_of(&TRAILS)));
+            let (lead, behind) = draws.one_of(&LEADS);
+            text.push(lead);
+            text.extend((0..behind).map(|_| draws.one_of(&TRAILS)));
             text
         }
     }
@@ -127,9 +145,32 @@ pub fn values(direction: Direction, place: usize, draws: &mut Draws) -> Vec<u8> 
         let wide = draws.one_of(&[250, 252, 253, 254]);
         all.push(draws.one_of(&[small, small, small, small, small, small, small, wide]));
     }
-    all.extend(bytes(&Tframe {
-        tag: 0,
-        msg: Ok(Tmessage::Walk(Draw::draw(draws))),
-    }));
+    all.extend(a_walk(Direction::T, draws));
+    all
+}
+
+/// A walk's values, of which one or none is one off, and the walk itself to lend.
+pub fn near_a_walk(direction: Direction, draws: &mut Draws) -> Vec<u8> {
+    let frame = a_walk(direction, draws);
+    let start = match direction {
+        Direction::T => 17,
+        Direction::R => 9,
+    };
+    let count = u16::from_le_bytes([frame[start - 2], frame[start - 1]]);
+    let mut part = [count, start as u16, (frame.len() - start) as u16];
+    let off = draws.one_of(&[u16::MAX, 1]);
+    // Those that are no values of the part stand for none.
+    if let Some(value) = part.get_mut(draws.below(6)) {
+        *value = value.wrapping_add(off);
+    }
+    let mut all = vec![frame[4], 0, 0, 0, 255, 31];
+    all.extend(&[1, 2][..(start - 9) / 4]);
+    for value in part {
+        all.push(250);
+        all.extend(value.to_le_bytes());
+    }
+    all.push(255);
+    all.extend(frame);
+    all.extend(draws.bytes(2));
     all
 }

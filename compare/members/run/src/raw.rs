@@ -34,8 +34,8 @@ pub fn raw(direction: Direction, bytes: &[u8]) -> Outcome {
     })
 }
 
-/// Six bytes of header, then the values: below 250 a byte is the value itself, else it says how wide
-/// the value behind it is.
+/// A header, then the values: below 250 a byte is the value itself, above it says how wide the value
+/// behind it is, and 255 ends them. What is left is lent.
 fn taken(bytes: &[u8]) -> Raw<'_> {
     let mut rest = bytes;
     let mut number = |width: usize| {
