@@ -4,7 +4,7 @@
 //! them is put together here as document 01 says it, since the seller's records have no spans.
 
 use judge::Direction;
-use ours::{Flat, Wrote};
+use ours::Flat;
 use p9::flat::Value;
 
 use crate::compare::{in_a_room, Outcome};
@@ -29,7 +29,7 @@ pub fn raw(direction: Direction, bytes: &[u8]) -> Outcome {
         true => Err(11),
         false => Ok(frame),
     });
-    in_a_room(room, theirs, |out| -> Wrote {
+    in_a_room(room, theirs, |out| {
         ours::write(direction, out, lent, &frame)
     })
 }

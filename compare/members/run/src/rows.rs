@@ -1,11 +1,11 @@
 //! The rows of docs/DIFFERENCES.md that no frame of a drawn record comes to, by their numbers there.
 //!
 //! Of 3, 4 and 5 only ours is run: the seller's crate writes 4 GB for each, which `compare/oracle
-//! wrap` has it do. Ours refuses them before it looks at the data, so that no memory is filled.
+//! wrap` has it do. Ours refuses 4 and 5 before it looks at the data, so that no memory is filled.
 
 use judge::refusal::number;
-use judge::written;
-use ours::{Flat, Qid, Wrote};
+use judge::{written, Direction};
+use ours::{Flat, Qid};
 use p9::draw::{Draw, Draws};
 use p9::protocol::{P9String, Rframe, Rmessage, Rwalk, Tframe, Tmessage, Twalk, WireFormat};
 
@@ -20,40 +20,45 @@ const LONGEST_DATA: usize = 4_294_967_295 - 11;
 const ROOM: usize = 64;
 
 pub fn row(row: u8) -> Outcome {
-    let ours = match row {
+    let outcome = match row {
         3 => names(vec![[0, MOST]; MOST], 10),
         4 => match rread(LONGEST_DATA, 11) {
             Outcome::Refused => rread(LONGEST_DATA + 1, 10),
             outcome => outcome,
         },
         5 => rread(1 << 32, 10),
-        7 => names(vec![[0, 0]; MOST + 1], 8),
-        _ => refused(8, ROOM, |out| {
-            ours::write_rwalk(out, 1, &vec![Qid::default(); MOST + 1])
-        }),
+        7 => both(names(vec![[0, 0]; MOST + 1], 8), told(&their_names())),
+        _ => both(qids(), told(&their_qids())),
     };
-    let theirs = match row {
-        7 => told(&Tframe {
-            tag: 1,
-            msg: Ok(Tmessage::Walk(Twalk {
-                fid: 1,
-                newfid: 2,
-                wnames: vec![P9String::new("").expect("a name"); MOST + 1],
-            })),
-        }),
-        8 => told(&Rframe {
-            tag: 1,
-            msg: Rmessage::Walk(Rwalk {
-                wqids: vec![Draw::draw(&mut Draws::new(8)); MOST + 1],
-            }),
-        }),
-        _ => Some(8),
-    };
-    match (ours, theirs) {
-        (Outcome::Refused, Some(8)) => Outcome::Known,
-        (Outcome::Refused, theirs) => differs("8".into(), format!("{theirs:?}")),
-        (ours, _) => ours,
+    match outcome {
+        Outcome::Refused => Outcome::Known,
+        outcome => outcome,
     }
+}
+
+/// Ours, if the Rust answers 8 too.
+fn both(ours: Outcome, theirs: Option<u8>) -> Outcome {
+    match theirs {
+        Some(8) => ours,
+        _ => differs("8".into(), format!("{theirs:?}")),
+    }
+}
+
+fn their_names() -> Tframe {
+    let name = P9String::new("").expect("a name");
+    let walk = Twalk {
+        fid: 1,
+        newfid: 2,
+        wnames: vec![name; MOST + 1],
+    };
+    let msg = Ok(Tmessage::Walk(walk));
+    Tframe { tag: 1, msg }
+}
+
+fn their_qids() -> Rframe {
+    let wqids = vec![Draw::draw(&mut Draws::new(8)); MOST + 1];
+    let msg = Rmessage::Walk(Rwalk { wqids });
+    Rframe { tag: 1, msg }
 }
 
 fn told(frame: &impl WireFormat) -> Option<u8> {
@@ -68,6 +73,11 @@ fn names(rows: Vec<[usize; 2]>, refusal: u8) -> Outcome {
     })
 }
 
+fn qids() -> Outcome {
+    let qids = vec![Qid::default(); MOST + 1];
+    refused(8, ROOM, |out| ours::write_rwalk(out, 1, &qids))
+}
+
 /// The zeros are not looked at, and take no memory.
 fn rread(count: usize, refusal: u8) -> Outcome {
     let lent = vec![0; count];
@@ -77,7 +87,7 @@ fn rread(count: usize, refusal: u8) -> Outcome {
         ..Flat::default()
     };
     frame.values[1] = count as u64;
-    refused(refusal, ROOM, |out| -> Wrote {
-        ours::write(judge::Direction::R, out, &lent, &frame)
+    refused(refusal, ROOM, |out| {
+        ours::write(Direction::R, out, &lent, &frame)
     })
 }
