@@ -4,7 +4,8 @@
 //! nothing is allocated, and a refusal has its number. Where a frame ends is what its size says:
 //! bytes behind the last field are a tail, and never another request; [`stream`] cuts a stream
 //! into frames by that, and [`stretch()`] bytes that hold several. The entries of a directory are
-//! given by [`Rreaddir::entries`].
+//! given by [`Rreaddir::entries`]. The example `server` shows a directory with these, and is meant to
+//! be started from.
 //!
 //! ```
 //! use sheafsledge::{Names, Rframe, Rmessage, Tframe, Tmessage, Twalk};
