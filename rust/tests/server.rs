@@ -1,4 +1,5 @@
 //! The server of examples/server over a socket, asked by frames that were put down by hand.
+#![cfg(target_os = "linux")]
 
 #[path = "../examples/server/files.rs"]
 mod files;
