@@ -3,7 +3,9 @@
 use std::io::{self, Read};
 
 use sheafsledge::stream::{next_frame, Broken, Next};
-use sheafsledge::Refusal;
+use sheafsledge::{stretch, Refusal};
+
+const SESSION: &[u8] = include_bytes!("../../examples/diod-session.bin");
 
 struct Drops<'a>(&'a [u8]);
 
@@ -72,4 +74,38 @@ fn a_stream_that_fails_is_told_apart() {
         panic!("an error of the stream");
     };
     assert_eq!(error.kind(), io::ErrorKind::ConnectionReset);
+}
+
+/// The frames of a stream, and why there are no more if that is a refusal.
+fn cut(bytes: &[u8]) -> (Vec<Vec<u8>>, Option<Refusal>) {
+    let (mut stream, mut buffer) = (Drops(bytes), [0; 4096]);
+    let mut frames = Vec::new();
+    loop {
+        match next_frame(&mut stream, &mut buffer) {
+            Ok(Next::Frame(frame)) => frames.push(frame.to_vec()),
+            Ok(Next::End) => return (frames, None),
+            Err(Broken::Refused(refusal)) => return (frames, Some(refusal)),
+            Err(Broken::Io(error)) => panic!("{error}"),
+        }
+    }
+}
+
+/// The same, as the proved library says it of these bytes.
+fn listed(bytes: &[u8]) -> (Vec<Vec<u8>>, Option<Refusal>) {
+    let whole = stretch(bytes).flatten();
+    let frames = whole.map(|frame| bytes[frame.at..frame.next].to_vec());
+    let stop = stretch(bytes).find_map(Result::err);
+    (frames.collect(), stop.map(|stop| stop.refusal))
+}
+
+#[test]
+fn a_stream_is_cut_as_the_stretch_is() {
+    for end in 0..1_500 {
+        let bytes = &SESSION[..end];
+        assert_eq!(cut(bytes), listed(bytes), "{end}");
+    }
+    for size in 0..20 {
+        let bytes = [&SESSION[..42], &[size, 0, 0, 0, 108, 1, 0, 2, 0, 3]].concat();
+        assert_eq!(cut(&bytes), listed(&bytes), "{size}");
+    }
 }
