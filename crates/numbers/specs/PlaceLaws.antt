@@ -169,7 +169,7 @@ put-length {bs} {o} {o'} {p} a = ap length (a .bytes) ∙ length-put bs o p
 
 -- ---- one put after another, where there is room for both
 
-over-then : (o : List ℕ) (a : ℕ) (bs cs : List ℕ) → a + length (bs ++ cs) ≤ length o → over (over o a bs) (a + length bs) cs ≡ over o a (bs ++ cs)
+pub over-then : (o : List ℕ) (a : ℕ) (bs cs : List ℕ) → a + length (bs ++ cs) ≤ length o → over (over o a bs) (a + length bs) cs ≡ over o a (bs ++ cs)
 over-then o a bs cs h =
     let l = length-append bs cs in
     let t : length (take a o ++ bs) ≡ a + length bs = length-append (take a o) bs ∙ (let k = length-take-le a o (omega arith) in omega arith) in

@@ -9,10 +9,11 @@ use mathlib.Core.Bool.{Bool, true, false, cond, _&&_}
 use mathlib.Core.List.{List, [], _∷_, _++_}
 use lib.ListN.{length, take, drop, getD, drop-of-length-le, take-append-drop}
 use lib.Seq.{drop-cons, drop-drop}
-use lib.Dec.{leb, ltb}
-use borrow.Author.Tests.{le-leb, lt-leb, leb-true, ltb-true}
-use Rattle.strings.specs.Utf8.{Range, _to_, inRange, rows, fits, charIn, char, CharAt}
-use Rattle.strings.specs.Utf8Laws.{FitsAt, Rest}
+use lib.Dec.{leb, ltb, lit<}
+use borrow.Author.Tests.{le-leb, lt-leb, leb-true, ltb-true, ne-eqb}
+use Rattle.numbers.specs.ReadingLaws.{or-else}
+use Rattle.strings.specs.Utf8.{Range, _to_, inRange, tail, rows, fits, charIn, char, CharAt}
+use Rattle.strings.specs.Utf8Laws.{FitsAt, Rest, leastSecond, greatestSecond}
 
 never : (t : Bool) → (t && false) ≡ false
 never true = refl
@@ -152,6 +153,16 @@ module _ {s : List ℕ} {i : ℕ} where
   -- a row of one octet
   pub alone : Rest [] s i 1
   alone = record { is = refl }
+
+-- the three rows of four octets, told by the second one's range
+pub in-fours : (s : List ℕ) (i lo hi : ℕ) {k : ℕ} → i < length s → 240 ≤ getD s i 0 → getD s i 0 ≤ 244 → lo ≡ leastSecond (getD s i 0) → hi ≡ greatestSecond (getD s i 0)
+    → Rest (lo to hi ∷ tail ∷ tail ∷ []) s i k → CharAt s i k
+in-fours s i lo hi h p q e f r =
+    let b = getD s i 0 in
+    or-else b 240 (λ l. let z : b ≡ 240 = omega arith in in-row 6 h (lit< tt) (omega arith) (omega arith) (rw (e ∙ ap leastSecond z, f ∙ ap greatestSecond z) at r))
+    (λ l. or-else b 243
+    (λ m. in-row 7 h (lit< tt) (omega arith) (omega arith) (rw (e, f, ne-eqb b 240 (λ z. omega arith), ne-eqb b 244 (λ z. omega arith)) at r))
+    (λ m. let z : b ≡ 244 = omega arith in in-row 8 h (lit< tt) (omega arith) (omega arith) (rw (e ∙ ap leastSecond z, f ∙ ap greatestSecond z) at r)))
 
 -- at least k, and another number
 pub other : (b k : ℕ) → (b ≡ k → ⊥) → k ≤ b → k < b

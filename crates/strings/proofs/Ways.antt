@@ -1,19 +1,19 @@
 -- The ways that the checks, the reader and the writers of strings go: one law for each way out, over plain variables.
-use Prim.Native.Nat.{ℕ, suc, _+_, _-_, _≤_, _<_}
+use Prim.Native.Nat.{ℕ, suc, _+_, _-_, _≤_, _<_, min}
 use native.Mathlib.Omega.{arith}
 use mathlib.Core.Path.{_≡_, refl, sym, ap, _∙_}
 use mathlib.Core.Bool.{Bool, true, false, cond}
-use mathlib.Core.List.{List, [], _∷_, _++_}
-use lib.ListN.{length, take, drop, getD, set, length-append, length-drop}
-use native.Mathlib.Numerals.{add-one}
-use lib.Seq.{length-take-le, drop-drop, getD-drop, paste, paste-suc}
+use mathlib.Core.List.{List, [], _∷_, _++_, append-nil}
+use lib.ListN.{length, take, drop, getD, set, length-append, length-drop, take-append-drop}
+use native.Mathlib.Numerals.{add-one, unary-clauses}
+use lib.Seq.{length-take-le, take-at, take-add, drop-drop, getD-drop, paste, paste-suc}
 use lib.Dec.{leb}
 use borrow.Author.Tests.{le-leb, lt-leb, leb-true}
 use Rattle.numbers.specs.Numbers.{toLE, length-toLE}
 use Rattle.numbers.specs.Reading.{Result, ok, bad, after, raw, readNum}
 use Rattle.numbers.specs.ReadingLaws.{or-else, after-inv, cond-inv, raw-short}
 use Rattle.numbers.specs.Places.{Within, readAt, restAt, NumRead, over, Put}
-use Rattle.numbers.specs.PlaceLaws.{inside, outside, Held, num-holds, num-refused, put-stays, put-full, put-done, put-then}
+use Rattle.numbers.specs.PlaceLaws.{inside, outside, Held, num-holds, num-refused, put-stays, put-full, put-done, put-then, over-then}
 use Rattle.numbers.specs.declared.Refusal.{Refusal}
 use Rattle.numbers.specs.declared.Refusal.the-variants as R
 use Rattle.numbers.specs.declared.Place.{Place}
@@ -113,6 +113,32 @@ copy-turn o l lent at start i h k e =
 pub copy-ends : (o l lent : List ℕ) (at start len i : ℕ) → i ≡ len → start + len ≤ length lent → o ≡ paste l at (drop start lent) i
     → o ≡ over l at (take len (drop start lent))
 copy-ends o l lent at start len i e h f = rw (shown-length lent start len h) (rw e at f)
+
+-- by way of an array: what it got is what it gives
+pub copy-by-way : (z o lent : List ℕ) (at start len : ℕ) {block o' : List ℕ} → start + len ≤ length lent → block ≡ over z 0 (take len (drop start lent))
+    → o' ≡ over o at (take len (drop 0 block)) → o' ≡ over o at (take len (drop start lent))
+copy-by-way z o lent at start len h e f =
+    let x = take len (drop start lent) in
+    let g : take len (over z 0 x) ≡ x = take-at x (drop (0 + length x) z) len (shown-length lent start len h) in
+    f ∙ ap (λ (y : List ℕ). over o at (take len y)) e ∙ ap (over o at) g
+
+pub copy-none : (o : List ℕ) (at : ℕ) → o ≡ over o at []
+copy-none o at = simp (append-nil, unary-clauses) (sym (take-append-drop at o))
+
+-- the next block is not empty, and no longer than what is left
+pub next-block : {n left : ℕ} → n ≡ min left 65536 → 0 < left → (0 < n) × (n ≤ left) × (n ≤ 65536)
+next-block e h = (omega arith, omega arith, omega arith)
+
+-- the blocks so far, and one more
+pub copy-more : (o0 lent : List ℕ) (at start len done n : ℕ) {o o' : List ℕ} → at + len ≤ length o0 → start + len ≤ length lent → done + n ≤ len
+    → o ≡ over o0 at (take done (drop start lent)) → o' ≡ over o (at + done) (take n (drop (start + done) lent)) → o' ≡ over o0 at (take (done + n) (drop start lent))
+copy-more o0 lent at start len done n h k l e f =
+    let bs = take done (drop start lent) in
+    let cs = take n (drop (start + done) lent) in
+    let b : length bs ≡ done = shown-length lent start done (omega arith) in
+    let t : take (done + n) (drop start lent) ≡ bs ++ cs = take-add done n (drop start lent) ∙ ap (λ (x : List ℕ). bs ++ take n x) (drop-drop done start lent) in
+    let m : length (bs ++ cs) ≡ done + n = ap length (sym t) ∙ shown-length lent start (done + n) (omega arith) in
+    f ∙ ap (λ (x : List ℕ). over x (at + done) cs) e ∙ ap (λ i. over (over o0 at bs) (at + i) cs) (sym b) ∙ over-then o0 at bs cs (omega arith) ∙ ap (over o0 at) (sym t)
 
 -- ---- bytes that are put
 

@@ -142,3 +142,11 @@ text-passed bs r {n} {a} {q} c e = go (utf8 bs) (noZero bs) (sym (c .is) ∙ e)
     go true true f = (refl, e ∙ sym f)
     go true false f = absurd (let z : _≡_ {A = ℕ} 0 1 = cc f in omega arith)
     go false z f = absurd (let z : _≡_ {A = ℕ} 0 1 = cc f in omega arith)
+
+pub text-good : (bs : List ℕ) {n a : ℕ} {q : Place} → TextCheck bs (At n) q → q ≡ At a → (utf8 bs ≡ true) × (noZero bs ≡ true)
+text-good bs {n} {a} {q} c e = go (utf8 bs) (noZero bs) (sym (c .is) ∙ e)
+  where
+    go : (u z : Bool) → checkAt (cond u (cond z (ok bs []) (bad R.ZeroByte)) (bad R.NotUtf8)) (At n) ≡ At a → (u ≡ true) × (z ≡ true)
+    go true true f = (refl, refl)
+    go true false f = absurd (let z : _≡_ {A = ℕ} 0 1 = cc f in omega arith)
+    go false z f = absurd (let z : _≡_ {A = ℕ} 0 1 = cc f in omega arith)

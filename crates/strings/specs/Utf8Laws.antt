@@ -8,7 +8,8 @@ use mathlib.Core.List.{List, [], _∷_}
 use lib.ListN.{length, drop, getD, length-drop, drop-of-length-le}
 use lib.Seq.{drop-cons, drop-drop, drop-length}
 use lib.Dec.{leb, eqb, leb·zero}
-use borrow.Author.Tests.{le-leb, lt-leb, ne-eqb, eq-eqb}
+use borrow.Author.Tests.{le-leb, lt-leb, leb-true, ne-eqb, eq-eqb}
+use native.Mathlib.Numerals.{add-one}
 use Rattle.numbers.specs.ReadingLaws.{or-else}
 use Rattle.strings.specs.Utf8.{Range, _to_, inRange, rows, fits, charIn, char, CharAt, chars, utf8, noZero}
 
@@ -21,6 +22,13 @@ pub record FitsAt (rs : List Range) (s : List ℕ) (at : ℕ) (r : Bool) : Type 
 -- the length of a character whose first octet stands at i, and whose row goes on with the ranges rs; 0 where the bytes do not
 pub record Rest (rs : List Range) (s : List ℕ) (i k : ℕ) : Type 0 where
   pub is : k ≡ cond (fits rs (drop (i + 1) s)) (suc (length rs)) 0
+
+-- the second octets that the rows of four allow behind their first one
+abbrev pub leastSecond : ℕ → ℕ
+leastSecond b = cond (eqb b 240) 144 128
+
+abbrev pub greatestSecond : ℕ → ℕ
+greatestSecond b = cond (eqb b 244) 143 191
 
 -- the least and the greatest of some bytes
 unfoldable pub leastOf : List ℕ → ℕ
@@ -36,6 +44,10 @@ greatestOf (b ∷ bs) = max b (greatestOf bs)
 both-true : (a b : Bool) → (a && b) ≡ true → b ≡ true
 both-true true b e = e
 both-true false b e = absurd (let y : _≡_ {A = ℕ} 0 1 = cc in omega arith)
+
+both-first : (a b : Bool) → (a && b) ≡ true → a ≡ true
+both-first true b e = refl
+both-first false b e = absurd (let y : _≡_ {A = ℕ} 0 1 = cc in omega arith)
 
 fits-length : (rs : List Range) (bs : List ℕ) → fits rs bs ≡ true → length rs ≤ length bs
 fits-length [] bs e = omega arith
@@ -126,3 +138,27 @@ unfolding noZero leastOf
 full-text [] h = refl
 full-text (b ∷ bs) h =
     rw (ne-eqb b 0 (λ e. h (omega arith))) (full-text bs (λ e. h (omega arith)))
+
+-- ---- a plain byte: one character, and not zero
+
+plain-low : (b : ℕ) {t : Bool} → t ≡ inRange (1 to 127) b → t ≡ true → 1 ≤ b
+plain-low b e h = leb-true 1 b (both-first (leb 1 b) (leb b 127) (sym e ∙ h))
+
+plain-high : (b : ℕ) {t : Bool} → t ≡ inRange (1 to 127) b → t ≡ true → b ≤ 127
+plain-high b e h = leb-true b 127 (both-true (leb 1 b) (leb b 127) (sym e ∙ h))
+
+module _ (s : List ℕ) (i : ℕ) {t x : Bool} (l : i < length s) (e : t ≡ inRange (1 to 127) (getD s i 0)) (h : t ≡ true) where
+  pub plain-turn : utf8 (drop i s) ≡ x → utf8 (drop (i + 1) s) ≡ x
+  plain-turn =
+      let c : 1 ≡ char (drop i s)
+      = sym (ap char (drop-cons s i 0 l) ∙ ascii-char (getD s i 0) (drop (suc i) s) (let k = plain-high (getD s i 0) e h in omega arith)) in
+      char-turn {s = s} {i = i} (record { is = c }) (λ z. omega arith)
+
+  pub plain-full : noZero (drop i s) ≡ x → noZero (drop (i + 1) s) ≡ x
+  unfolding noZero
+  plain-full z =
+      let k = plain-low (getD s i 0) e h in rw (add-one i) (rw (drop-cons s i 0 l, ne-eqb (getD s i 0) 0 (λ w. omega arith)) at z)
+
+pub full-over : (s : List ℕ) (i : ℕ) {x : Bool} → length s ≤ i → noZero (drop i s) ≡ x → true ≡ x
+unfolding noZero
+full-over s i h e = sym (ap (λ (l : List ℕ). noZero l) (drop-of-length-le s h)) ∙ e

@@ -5,7 +5,7 @@ pub mod utf8;
 use numbers::Place;
 use numbers::Refusal;
 ghost use mathlib.Core.Path.{_≡_};
-ghost use Prim.Native.Nat.{_+_, _≤_};
+ghost use Prim.Native.Nat.{_+_, _≤_, min};
 ghost use lib.ListN.{length, take, drop};
 ghost use Rattle.numbers.specs.Places.{over};
 ghost use Rattle.strings.specs.Spans.{Shown, SpanCheck, StrCheck, StrRead, SpanPut, StrPut};
@@ -97,8 +97,8 @@ pub fn read_str(s: &[u8], p: Place) -> ReadSpan
     }
 }
 
-// The lent bytes from `start` on, over those of the output from `at` on.
-fn copy(out: &mut [u8], at: usize, lent: &[u8], start: usize, len: usize)
+// The lent bytes from `start` on, over those of the output from `at` on: the plain form, byte by byte.
+fn copy_bytes(out: &mut [u8], at: usize, lent: &[u8], start: usize, len: usize)
     requires { ⌜ (at + len ≤ length (now out)) × (start + len ≤ length (now lent)) ⌝ }
     ensures { λ r. ⌜ now (out .exit) ≡ over (now (out .entry)) at (take len (drop start (now (lent .entry)))) ⌝ }
 {
@@ -106,6 +106,40 @@ fn copy(out: &mut [u8], at: usize, lent: &[u8], start: usize, len: usize)
     while i < len {
         out[at + i] = lent[start + i];
         i += 1;
+    }
+}
+
+// One block, by way of an array. For all the compiler knows the output overlaps the lent bytes; an array of our own it knows to lie
+// apart, so it makes a move of each loop, one move of the two, and no array of what is left.
+fn copy_block(out: &mut [u8], at: usize, lent: &[u8], start: usize, len: usize)
+    requires { ⌜ (len ≤ 65536) × (at + len ≤ length (now out)) × (start + len ≤ length (now lent)) ⌝ }
+    ensures { λ r. ⌜ now (out .exit) ≡ over (now (out .entry)) at (take len (drop start (now (lent .entry)))) ⌝ }
+{
+    let mut block = [0u8; 65536];
+    copy_bytes(&mut block, 0, lent, start, len);
+    copy_bytes(out, at, &block, 0, len);
+}
+
+// How many of the bytes that are left the next block takes.
+fn block_of(left: usize) -> usize
+    ensures { λ r. ⌜ r ≡ min left 65536 ⌝ }
+{
+    if left < 65536 {
+        return left;
+    }
+    65536
+}
+
+// What `copy_bytes` does, block by block.
+fn copy(out: &mut [u8], at: usize, lent: &[u8], start: usize, len: usize)
+    requires { ⌜ (at + len ≤ length (now out)) × (start + len ≤ length (now lent)) ⌝ }
+    ensures { λ r. ⌜ now (out .exit) ≡ over (now (out .entry)) at (take len (drop start (now (lent .entry)))) ⌝ }
+{
+    let mut done = 0;
+    while done < len {
+        let n = block_of(len - done);
+        copy_block(out, at + done, lent, start + done, n);
+        done += n;
     }
 }
 

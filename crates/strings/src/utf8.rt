@@ -6,8 +6,8 @@ ghost use mathlib.Core.Path.{_≡_};
 ghost use mathlib.Core.List.{[], _∷_};
 ghost use Prim.Native.Nat.{_<_, min, max};
 ghost use lib.ListN.{length};
-ghost use Rattle.strings.specs.Utf8.{_to_, tail, CharAt, utf8};
-ghost use Rattle.strings.specs.Utf8Laws.{FitsAt, Rest, leastOf, greatestOf};
+ghost use Rattle.strings.specs.Utf8.{_to_, inRange, tail, CharAt, utf8};
+ghost use Rattle.strings.specs.Utf8Laws.{FitsAt, Rest, leastSecond, greatestSecond, leastOf, greatestOf};
 ghost use Rattle.strings.specs.Spans.{TextCheck};
 
 // Whether the byte at `at` is one from `low` to `high`.
@@ -61,7 +61,27 @@ fn four(s: &[u8], i: usize, low: u8, high: u8) -> usize
     0
 }
 
-// The length of the character at `i`, by the rows of the RFC in their order; 0 where no row has these bytes.
+// The least and the greatest second octet behind a first one of the rows of four octets.
+fn least_second(b: u8) -> u8
+    ensures { λ r. ⌜ r ≡ leastSecond b ⌝ }
+{
+    match b {
+        0xf0 => 0x90,
+        _ => 0x80,
+    }
+}
+
+fn greatest_second(b: u8) -> u8
+    ensures { λ r. ⌜ r ≡ greatestSecond b ⌝ }
+{
+    match b {
+        0xf4 => 0x8f,
+        _ => 0xbf,
+    }
+}
+
+// The length of the character at `i`, by the rows of the RFC in their order; 0 where no row has these bytes. The rows of one and two
+// octets are told first, and the last three share their call: so the compiler keeps everything in registers.
 pub fn char_at(s: &[u8], i: usize) -> usize
     ensures { λ r. ⌜ CharAt (now (s .entry)) i r ⌝ }
 {
@@ -69,22 +89,27 @@ pub fn char_at(s: &[u8], i: usize) -> usize
         return 0;
     }
     let b = s[i];
+    if b < 0x80 {
+        return 1;
+    }
+    if b < 0xe0 {
+        if b < 0xc2 {
+            return 0;
+        }
+        return two(s, i);
+    }
     match b {
-        0x00..=0x7f => 1,
-        0xc2..=0xdf => two(s, i),
         0xe0 => three(s, i, 0xa0, 0xbf),
         0xe1..=0xec => three(s, i, 0x80, 0xbf),
         0xed => three(s, i, 0x80, 0x9f),
         0xee..=0xef => three(s, i, 0x80, 0xbf),
-        0xf0 => four(s, i, 0x90, 0xbf),
-        0xf1..=0xf3 => four(s, i, 0x80, 0xbf),
-        0xf4 => four(s, i, 0x80, 0x8f),
+        0xf0..=0xf4 => four(s, i, least_second(b), greatest_second(b)),
         _ => 0,
     }
 }
 
-// Whether the bytes are characters to their end.
-pub fn is_utf8(s: &[u8]) -> bool
+// The plain form: character by character to the end.
+fn all_characters(s: &[u8]) -> bool
     ensures { λ r. ⌜ r ≡ utf8 (now (s .entry)) ⌝ }
 {
     let mut i = 0;
@@ -96,6 +121,27 @@ pub fn is_utf8(s: &[u8]) -> bool
         i += k;
     }
     true
+}
+
+// Whether the bytes are characters to their end; none has to be looked for where every byte is below 128.
+pub fn is_utf8(s: &[u8]) -> bool
+    ensures { λ r. ⌜ r ≡ utf8 (now (s .entry)) ⌝ }
+{
+    let e = extremes_of(s);
+    if e.high < 128 {
+        return true;
+    }
+    all_characters(s)
+}
+
+// Whether a byte is a character of its own, and not zero.
+pub fn is_plain(b: u8) -> bool
+    ensures { λ r. ⌜ r ≡ inRange (1 to 127) b ⌝ }
+{
+    if b < 1 {
+        return false;
+    }
+    b <= 127
 }
 
 fn least(a: u8, b: u8) -> u8
@@ -146,7 +192,7 @@ pub fn check_text(s: &[u8], p: Place) -> Place
     };
     let e = extremes_of(s);
     if 128 <= e.high {
-        let well_formed = is_utf8(s);
+        let well_formed = all_characters(s);
         if !well_formed {
             return Place::Refused(Refusal::NotUtf8);
         }

@@ -1,50 +1,56 @@
--- The invariant: the first `i` bytes are copied. The measure is how many are to come.
+-- The invariant: the blocks so far are copied. The measure is how many bytes are to come.
 use Prim.Native.Nat.{_≤_, _-_, _+_}
-use mathlib.Core.Path.{_≡_, refl, sym, ap, _∙_}
-use borrow.Author.Needs.{needs}
+use mathlib.Core.Path.{_≡_, refl, _∙_}
 use native.Mathlib.Omega.{arith}
-use lib.ListN.{length, drop, length-set}
-use lib.Seq.{paste, paste-zero}
-use Rattle.strings.proofs.Ways.{copy-turn, copy-ends}
+use borrow.Author.Needs.{needs}
+use lib.ListN.{length, take, drop}
+use Rattle.numbers.specs.Places.{over}
+use Rattle.strings.proofs.Ways.{copy-none, next-block, copy-more}
 use Rattle.strings.proofs.copy.Statement.{statement}
 use Rattle.strings.proofs.copy.Tie as tie
 
 abbrev Inv-loop : tie.InvT-loop
-Inv-loop out₀ at lent start len i₀ out i =
-    (i ≤ len) × (length out ≡ length out₀) × (out ≡ paste out₀ at (drop start lent) i)
+Inv-loop out₀ at lent start len done₀ out done =
+    (done ≤ len) × (length out ≡ length out₀) × (out ≡ over out₀ at (take done (drop start lent)))
 
 abbrev μ-loop : tie.MeasureT-loop
-μ-loop out₀ at lent start len i₀ out i = len - i
+μ-loop out₀ at lent start len done₀ out done = len - done
 
 loop-holds : tie.Need-loop-holds Inv-loop μ-loop
-loop-holds c =
-    let a = c .args in (omega arith, refl, paste-zero (a .out .now) (a .at) (drop (a .start) (a .lent .now)))
+loop-holds c = let a = c .before .before .args in (omega arith, refl, copy-none (a .out .now) (a .at))
 
-add-out : tie.Need-add-out Inv-loop μ-loop
-add-out c = search needs
+sub-block-of : tie.Need-sub-block-of Inv-loop μ-loop
+sub-block-of c = search needs
 
-shared-slice-read-out : tie.Need-shared-slice-read-out Inv-loop μ-loop
-shared-slice-read-out c = search needs
+block-of-requires : tie.Need-block-of-requires Inv-loop μ-loop
+block-of-requires c κs = tt
 
-add-out-2 : tie.Need-add-out-2 Inv-loop μ-loop
-add-out-2 c = search needs
+add-copy-block : tie.Need-add-copy-block Inv-loop μ-loop
+add-copy-block c = search needs
 
-slice-write-out : tie.Need-slice-write-out Inv-loop μ-loop
-slice-write-out c = search needs
+add-copy-block-2 : tie.Need-add-copy-block-2 Inv-loop μ-loop
+add-copy-block-2 c = search needs
 
-add-i : tie.Need-add-i Inv-loop μ-loop
-add-i c = search needs
+copy-block-requires : tie.Need-copy-block-requires Inv-loop μ-loop
+copy-block-requires c κs =
+    let n = next-block (c .before .block-of .ensures) (omega arith) in (n .2, omega arith, omega arith)
+
+add-done : tie.Need-add-done Inv-loop μ-loop
+add-done c = search needs
 
 loop-less : tie.Need-loop-less Inv-loop μ-loop
-loop-less c = search needs
+loop-less c =
+    let n = next-block (c .before .before .before .before .block-of .ensures) (omega arith) in omega arith
 
 loop-again : tie.Need-loop-again Inv-loop μ-loop
 loop-again c =
-    let a = c .before .before .before .args in
-    let l = c .before .before .loop in (
+    let b = c .before .before .before .before in
+    let l = b .before .before .loop in
+    let a = b .before .before .before .before .before .args in
+    let n = next-block (b .block-of .ensures) (omega arith) in (
       omega arith,
-      simp length-set (l .inv .1),
-      copy-turn (l .out) (a .out .now) (a .lent .now) (a .at) (a .start) (l .i) (omega arith) (omega arith) (l .inv .2),
+      search needs,
+      copy-more (a .out .now) (a .lent .now) (a .at) (a .start) (a .len) (l .done) (b .block-of .result) (omega arith) (omega arith) (omega arith) (l .inv .2) (c .before .before .copy-block .ensures),
     )
 
 same-length : tie.Need-same-length Inv-loop μ-loop
@@ -52,9 +58,9 @@ same-length c = c .before .loop .inv .1
 
 returns : tie.Need-returns Inv-loop μ-loop
 returns c =
-    let a = c .before .before .args in
+    let a = c .before .before .before .before .args in
     let l = c .before .loop in
-    copy-ends (l .out) (a .out .now) (a .lent .now) (a .at) (a .start) (a .len) (l .i) (omega arith) (omega arith) (l .inv .2)
+    let e : l .done ≡ a .len = omega arith in rw (← e) (l .inv .2)
 
 pub copy-spec : {M : Type 1} → statement M
 copy-spec =
@@ -63,11 +69,12 @@ copy-spec =
     Inv-loop
     μ-loop
     loop-holds
-    add-out
-    shared-slice-read-out
-    add-out-2
-    slice-write-out
-    add-i
+    sub-block-of
+    block-of-requires
+    add-copy-block
+    add-copy-block-2
+    copy-block-requires
+    add-done
     loop-less
     loop-again
     same-length

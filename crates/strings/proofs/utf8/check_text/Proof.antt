@@ -21,7 +21,7 @@ returns c = search needs
 
 returns-2 : tie.Need-returns-2
 returns-2 c =
-    text-bad (c .before .before .before .before .before .enum-told .given .1) (sym (c .before .is-utf8 .ensures) ∙ not-true _ (c .if2 .taken))
+    text-bad (c .before .before .before .before .before .enum-told .given .1) (sym (c .before .all-characters .ensures) ∙ not-true _ (c .if2 .taken))
 
 returns-3 : tie.Need-returns-3
 returns-3 c =

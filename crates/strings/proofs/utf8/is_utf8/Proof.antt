@@ -1,45 +1,15 @@
--- The invariant: what is left is UTF-8 exactly if all is. The measure is how many bytes are left.
-use Prim.Native.Nat.{_≤_, _-_}
-use mathlib.Core.Path.{_≡_, refl}
+use mathlib.Core.Path.{sym}
 use native.Mathlib.Omega.{arith}
-use lib.ListN.{length, drop}
-use Rattle.strings.specs.Utf8.{utf8}
-use Rattle.strings.specs.Utf8Laws.{char-in, char-turn, char-lost, chars-over}
+use Rattle.strings.specs.Utf8Laws.{ascii-text}
 use Rattle.strings.proofs.utf8.is_utf8.Statement.{statement}
 use Rattle.strings.proofs.utf8.is_utf8.Tie as tie
 
-abbrev Inv-loop : tie.InvT-loop
-Inv-loop s i₀ i = (i ≤ length s) × (utf8 (drop i s) ≡ utf8 s)
-
-abbrev μ-loop : tie.MeasureT-loop
-μ-loop s i₀ i = length s - i
-
-loop-holds : tie.Need-loop-holds Inv-loop μ-loop
-loop-holds c = (omega arith, refl)
-
-returns : tie.Need-returns Inv-loop μ-loop
+returns : tie.Need-returns
 returns c =
-    let l = c .before .before .before .loop in
-    char-lost (c .before .char-at .ensures) (omega arith) (c .if1 .taken) (l .inv .1)
+    let s = c .before .before .before .before .args .s .now in sym (ascii-text s (omega (arith, c .before .before .extremes-of .ensures .1)))
 
-add-i : tie.Need-add-i Inv-loop μ-loop
-add-i c =
-    omega (arith, char-in (c .before .char-at .ensures) (c .before .before .before .loop .inv .0))
-
-loop-less : tie.Need-loop-less Inv-loop μ-loop
-loop-less c =
-    omega (arith, char-in (c .before .char-at .ensures) (c .before .before .before .loop .inv .0))
-
-loop-again : tie.Need-loop-again Inv-loop μ-loop
-loop-again c =
-    let l = c .before .before .before .loop in
-    (char-in (c .before .char-at .ensures) (l .inv .0), char-turn (c .before .char-at .ensures) (c .if1 .left) (l .inv .1))
-
-returns-2 : tie.Need-returns-2 Inv-loop μ-loop
-returns-2 c =
-    let l = c .before .loop in
-    chars-over (c .before .before .before .args .s .now) (l .i) (c .loop-test .left) (l .inv .1)
+returns-2 : tie.Need-returns-2
+returns-2 c = c .all-characters .ensures
 
 pub is-utf8-spec : {M : Type 1} → statement M
-is-utf8-spec =
-    tie.close (tie.spec Inv-loop μ-loop loop-holds (λ _ _. tt) returns add-i loop-less loop-again returns-2)
+is-utf8-spec = tie.close (tie.spec (λ _ _. tt) returns (λ _ _. tt) returns-2)
