@@ -24,9 +24,7 @@ use Rattle.fields.specs.LayoutLaws.{took-many}
 use Rattle.fields.specs.LayingLaws.{Unless, behind}
 use Rattle.fields.specs.Values.{Value, val, span, part, startOf, lenOf, cutOff, wholePart, show}
 use Rattle.fields.specs.Fields.{ManyRead}
-use Rattle.fields.specs.Laying.{limit, advance, sizeIn, checkField, headWidth, headOf, putField, pastPutField, FieldLaid, NumLaid, Advanced, CountedPut, ShowCheck, filledAt, Filled, settledAt, Settled}
-use Rattle.fields.specs.declared.lay.Pass.{Pass}
-use Rattle.fields.specs.declared.lay.Pass.the-variants as P
+use Rattle.fields.specs.Laying.{limit, advance, sizeIn, checkField, headWidth, headOf, putField, pastPutField, FieldLaid, NumLaid, Advanced, CountedPut, ShowCheck, filledAt, Filled, settledAt, Settled, Begun}
 
 -- ---- a place on
 
@@ -45,17 +43,17 @@ twice m n (Refused k) = refl
 
 -- ---- the second pass
 
-pub number-put : {w x : ℕ} {o o' : List ℕ} {p q : Place} → Put (toLE w x) o p o' q → NumLaid w x P.Put o p o' q
+pub number-put : {w x : ℕ} {o o' : List ℕ} {p q : Place} → Put (toLE w x) o p o' q → NumLaid w x true o p o' q
 number-put a = record { bytes = a .bytes; next = a .next }
 
-pub number-measured : {w x : ℕ} {o : List ℕ} {p q : Place} → Advanced w p q → NumLaid w x P.Check o p o q
+pub number-measured : {w x : ℕ} {o : List ℕ} {p q : Place} → Advanced w p q → NumLaid w x false o p o q
 number-measured a = record { bytes = refl; next = a .is }
 
 pub counted-put : {w n x y : ℕ} {lent o o1 o2 : List ℕ} {p q r : Place} → Put (toLE w n) o p o1 q → SpanPut lent x y o1 q o2 r → CountedPut w n lent x y o p o2 r
 counted-put a b = record { bytes = b .put .bytes ∙ rw (a .bytes, a .next); next = b .put .next ∙ rw (a .bytes, a .next) }
 
 pub put-laid : {lent o o' : List ℕ} {p q : Place} (f : Field) (v : Value) → Unless f → CountedPut (headWidth f) (headOf f v) lent (startOf v) (lenOf v) o p o' q
-    → FieldLaid f lent v P.Put o p o' q
+    → FieldLaid f lent v true o p o' q
 unfolding putField pastPutField
 put-laid (num w) v u a = absurd u
 put-laid str v u a = record { bytes = a .bytes; next = a .next }
@@ -70,7 +68,7 @@ pub record Sized (f : Field) (lent : List ℕ) (v : Value) : Type 0 where
   pub is : (i : Item) (r : List ℕ) → show f lent v ≡ ok i r → length (itemBytes i) ≡ headWidth f + lenOf v
 
 pub check-laid : {f : Field} {lent o : List ℕ} {v : Value} {p q a r : Place} → Sized f lent v → ShowCheck f lent v p q → Advanced (headWidth f) q a → Advanced (lenOf v) a r
-    → FieldLaid f lent v P.Check o p o r
+    → FieldLaid f lent v false o p o r
 unfolding checkField
 check-laid {f} {lent} {o} {v} {p} {q} z c x y = record {
   bytes = refl;
@@ -143,10 +141,10 @@ strs-scanned {lent} {n} {x} {y} {a} {bs} b c h s m f =
 
 -- ---- in whichever pass it is
 
-pub in-pass : {f : Field} {lent o o' : List ℕ} {v : Value} {ps ps' : Pass} {p q : Place} → ps ≡ ps' → FieldLaid f lent v ps' o p o' q → FieldLaid f lent v ps o p o' q
+pub in-pass : {f : Field} {lent o o' : List ℕ} {v : Value} {ps ps' : Bool} {p q : Place} → ps ≡ ps' → FieldLaid f lent v ps' o p o' q → FieldLaid f lent v ps o p o' q
 in-pass e a = rw e a
 
-pub num-in-pass : {w x : ℕ} {o o' : List ℕ} {ps ps' : Pass} {p q : Place} → ps ≡ ps' → NumLaid w x ps' o p o' q → NumLaid w x ps o p o' q
+pub num-in-pass : {w x : ℕ} {o o' : List ℕ} {ps ps' : Bool} {p q : Place} → ps ≡ ps' → NumLaid w x ps' o p o' q → NumLaid w x ps o p o' q
 num-in-pass e a = rw e a
 
 pub fills-at : {e p : Place} {n m : ℕ} → e ≡ At m → m ≡ n → Filled e n p p
@@ -172,3 +170,12 @@ module _ {e : Place} {n m : ℕ} where
 
   pub settles-fits : e ≡ At m → m < limit → m ≤ n → Settled e n (At m)
   settles-fits f h k = record { is = rw (f, lt-ltb m limit h, le-leb m n k) }
+
+-- ---- where the second pass begins
+
+module _ {p e q : Place} {n : ℕ} where
+  pub begins-not : {k : Refusal} → Settled e n q → q ≡ Refused k → Begun p e n q
+  begins-not s h = record { is = rw (← (s .is), h) }
+
+  pub begins : {m : ℕ} → Settled e n q → q ≡ At m → Begun p e n p
+  begins s h = record { is = rw (← (s .is), h) }

@@ -4,24 +4,22 @@ use native.Mathlib.Omega.{arith}
 use mathlib.Core.Path.{_≡_, refl, sym, ap, _∙_}
 use mathlib.Core.Bool.{Bool, true, false, cond}
 use mathlib.Core.List.{List, [], _∷_}
-use lib.ListN.{length, take, drop, length-drop}
+use lib.ListN.{length, take, drop, getD, length-drop}
 use lib.Seq.{drop-length, length-take-le}
-use lib.Dec.{ltb}
-use borrow.Author.Tests.{lt-ltb, le-ltb, ltb-true}
 use Rattle.numbers.specs.Reading.{Result, ok, bad, after}
-use Rattle.numbers.specs.ReadingLaws.{or-else}
 use Rattle.numbers.specs.Places.{readAt, restAt, NumRead}
 use Rattle.numbers.specs.PlaceLaws.{Held, num-holds, num-refused}
 use Rattle.numbers.specs.declared.Refusal.{Refusal}
 use Rattle.numbers.specs.declared.Refusal.the-variants as R
 use Rattle.numbers.specs.declared.Place.{Place}
 use Rattle.numbers.specs.declared.Place.the-variants.{At, Refused}
-use Rattle.strings.specs.Utf8.{CharAt, chars, utf8, noZero}
-use Rattle.strings.specs.Utf8Laws.{leastOf, greatestOf, ascii-text, zero-text, full-text}
+use Rattle.strings.specs.Utf8.{_to_, inRange, chars, utf8, noZero}
+use Rattle.strings.specs.Utf8Laws.{chars-over, plain-turn, plain-full, full-over}
 use Rattle.strings.specs.Strings.{okText, readString}
-use Rattle.strings.specs.SpanLaws.{string-at, string-held, string-short}
+use Rattle.strings.specs.SpanLaws.{string-at, string-held, string-short, text-refused, text-good}
+use Rattle.strings.specs.Spans.{TextCheck}
 use Rattle.fields.specs.Layouts.{readMany}
-use Rattle.fields.specs.Fields.{ManyRead, lookFrom}
+use Rattle.fields.specs.Fields.{ManyRead}
 
 -- ---- one string off
 
@@ -39,6 +37,24 @@ good-name : (m : ℕ) (s : List ℕ) (a n e : ℕ) {b : List ℕ} → (n ≡ 0 �
 unfolding readMany
 good-name m s a zero e f g = absurd (f refl)
 good-name m s a (suc n) e {b} f g = let o : suc n - 1 ≡ n = omega arith in rw (o, g) (same-rest m b (readMany n (drop e s)))
+
+-- ---- the bytes of a name, one by one
+
+-- from i on the text is what all of it is: characters, and no zero
+pub record Same (t : List ℕ) (i : ℕ) : Type 0 where
+  pub form : utf8 (drop i t) ≡ utf8 t
+  pub full : noZero (drop i t) ≡ noZero t
+
+pub from-front : (t : List ℕ) → Same t 0
+from-front t = record { form = refl; full = refl }
+
+pub plain-byte : (t : List ℕ) (i : ℕ) {p : Bool} → i < length t → p ≡ inRange (1 to 127) (getD t i 0) → p ≡ true → Same t i → Same t (i + 1)
+plain-byte t i l e h s = record { form = plain-turn t i l e h (s .form); full = plain-full t i l e h (s .full) }
+
+-- all of it looked at, and passed
+pub all-good : (t : List ℕ) (i : ℕ) {n a : ℕ} {q : Place} → length t ≡ i → TextCheck t (At n) q → q ≡ At a → Same t i
+unfolding utf8 chars noZero
+all-good t i l c e = let (u, z) = text-good t c e in rw (← l) (record { form = rw (drop-length t) (sym u); full = rw (drop-length t) (sym z) })
 
 -- ---- the ways out
 
@@ -72,21 +88,12 @@ module _ {s : List ℕ} {at n : ℕ} {x : Place} where
   bytes-cut f r e h l = sym (bad-name (length s) s at n f (string-short (num-holds (omega arith) r e) h)) ∙ l .is
 
 module _ {s : List ℕ} {at n c e : ℕ} {x : Place} where
-  pub text-lost : (n ≡ 0 → ⊥) → Name s at c e → false ≡ utf8 (take (e + c - e) (drop e s)) → Left s at n x → Refused R.NotUtf8 ≡ x
-  text-lost f m u l = sym (bad-name (length s) s at n f (name-reads m ∙ rw (← u))) ∙ l .is
+  pub text-bad : {a : ℕ} {q : Place} {k : Refusal} → (n ≡ 0 → ⊥) → Name s at c e → TextCheck (take (e + c - e) (drop e s)) (At a) q → q ≡ Refused k → Left s at n x → q ≡ x
+  text-bad f m t h l = h ∙ sym (bad-name (length s) s at n f (name-reads m ∙ text-refused _ _ t h)) ∙ l .is
 
-  pub text-empty : (n ≡ 0 → ⊥) → Name s at c e → true ≡ utf8 (take (e + c - e) (drop e s)) → noZero (take (e + c - e) (drop e s)) ≡ false → Left s at n x → Refused R.ZeroByte ≡ x
-  text-empty f m u z l = sym (bad-name (length s) s at n f (name-reads m ∙ rw (← u, z))) ∙ l .is
-
-  pub one-off : (n ≡ 0 → ⊥) → Name s at c e → true ≡ utf8 (take (e + c - e) (drop e s)) → noZero (take (e + c - e) (drop e s)) ≡ true → Left s at n x → Left s (e + c) (n - 1) x
-  one-off f m u z l =
+  pub one-off : {i : ℕ} → (n ≡ 0 → ⊥) → Name s at c e → length (take (e + c - e) (drop e s)) ≤ i → Same (take (e + c - e) (drop e s)) i → Left s at n x → Left s (e + c) (n - 1) x
+  one-off {i} f m o t l =
+      let u = chars-over _ i o (t .form) in
+      let z = sym (full-over _ i o (t .full)) in
       let g : readString (drop at s) ≡ ok (take (e + c - e) (drop e s)) (drop (e + c) s) = name-reads m ∙ rw (← u, z) in
       record { is = sym (good-name (length s) s at n (e + c) f g) ∙ l .is }
-
--- ---- where the characters are looked at: from there on the text is UTF-8 exactly if all of it is
-
-pub looks : (t : List ℕ) (high n i : ℕ) → high ≡ greatestOf t → length t ≡ n → i ≡ lookFrom high n → (i ≤ n) × (utf8 (drop i t) ≡ utf8 t)
-unfolding utf8 chars
-looks t high n i e l f =
-    or-else 128 high (λ h. let j : i ≡ 0 = f ∙ rw (le-ltb high 128 h) in (omega arith, rw j))
-    (λ h. let j : i ≡ length t = f ∙ rw (lt-ltb high 128 h) (sym l) in (omega arith, rw (j, drop-length t) (sym (ascii-text t (omega arith)))))

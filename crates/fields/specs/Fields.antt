@@ -46,10 +46,6 @@ pub record Nowhere (v : Value) (e k : Place) : Type 0 where
   pub value : v ≡ part 0 0 0
   pub next : e ≡ k
 
--- where a text has to be looked at: nowhere if its greatest byte is below 128
-abbrev pub lookFrom : ℕ → ℕ → ℕ
-lookFrom high n = cond (ltb high 128) n 0
-
 -- field after field; once one is refused, so are all behind it
 unfoldable pub valuesAt : Layout → List ℕ → Place → List Value
 valuesAt [] s p = []

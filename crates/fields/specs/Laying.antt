@@ -1,7 +1,7 @@
 -- Writing fields at places, in two passes: the first checks and measures and touches nothing, the second puts bytes. What the contracts cite.
 use Prim.Native.Nat.{ℕ, _+_, min}
 use mathlib.Core.Path.{_≡_}
-use mathlib.Core.Bool.{cond}
+use mathlib.Core.Bool.{Bool, true, false, cond}
 use mathlib.Core.List.{List, [], _∷_}
 use lib.ListN.{length}
 use lib.Dec.{eqb, leb, ltb}
@@ -14,8 +14,6 @@ use Rattle.numbers.specs.declared.Place.the-variants.{At, Refused}
 use Rattle.strings.specs.Spans.{bytesIn, showSpan, checkAt}
 use Rattle.fields.specs.Layouts.{Field, num, str, dat, strs, quids, Layout, Item, itemBytes, itemsBytes}
 use Rattle.fields.specs.Values.{Value, numOf, startOf, lenOf, countOf, cutOff, show, firstOf, othersOf, shows}
-use Rattle.fields.specs.declared.lay.Pass.{Pass}
-use Rattle.fields.specs.declared.lay.Pass.the-variants as P
 
 -- ---- the first pass
 
@@ -97,21 +95,22 @@ pastPutFields (f ∷ fs) lent vs o p =
 
 -- ---- both
 
-abbrev pub ByPass : Pass → Type 0 → Type 0 → Type 0
-ByPass P.Check A B = A
-ByPass P.Put A B = B
+-- the first fact in the pass that checks, the second in the pass that puts
+abbrev pub ByPass : Bool → Type 0 → Type 0 → Type 0
+ByPass false A B = A
+ByPass true A B = B
 
 -- what laying a field, and the fields of a layout, at p of the output o leaves and answers
-pub record FieldLaid (f : Field) (lent : List ℕ) (v : Value) (ps : Pass) (o : List ℕ) (p : Place) (o' : List ℕ) (q : Place) : Type 0 where
+pub record FieldLaid (f : Field) (lent : List ℕ) (v : Value) (ps : Bool) (o : List ℕ) (p : Place) (o' : List ℕ) (q : Place) : Type 0 where
   pub bytes : ByPass ps (o' ≡ o) (o' ≡ putField f lent v o p)
   pub next : ByPass ps (q ≡ checkField f lent v p) (q ≡ pastPutField f lent v o p)
 
-pub record Laid (fs : Layout) (lent : List ℕ) (vs : List Value) (ps : Pass) (o : List ℕ) (p : Place) (o' : List ℕ) (q : Place) : Type 0 where
+pub record Laid (fs : Layout) (lent : List ℕ) (vs : List Value) (ps : Bool) (o : List ℕ) (p : Place) (o' : List ℕ) (q : Place) : Type 0 where
   pub bytes : ByPass ps (o' ≡ o) (o' ≡ putFields fs lent vs o p)
   pub next : ByPass ps (q ≡ checkFields fs lent vs p) (q ≡ pastPutFields fs lent vs o p)
 
 -- a number needs no lent bytes
-pub record NumLaid (w x : ℕ) (ps : Pass) (o : List ℕ) (p : Place) (o' : List ℕ) (q : Place) : Type 0 where
+pub record NumLaid (w x : ℕ) (ps : Bool) (o : List ℕ) (p : Place) (o' : List ℕ) (q : Place) : Type 0 where
   pub bytes : ByPass ps (o' ≡ o) (o' ≡ putAt (toLE w x) o p)
   pub next : ByPass ps (q ≡ advance w p) (q ≡ pastPut (toLE w x) o p)
 
@@ -160,3 +159,11 @@ settledAt (Refused k) n = Refused k
 
 pub record Settled (e : Place) (n : ℕ) (q : Place) : Type 0 where
   pub is : q ≡ settledAt e n
+
+-- where the second pass begins: where the first one did, unless that was refused
+abbrev pub begunAt : Place → Place → Place
+begunAt p (At n) = p
+begunAt p (Refused k) = Refused k
+
+pub record Begun (p e : Place) (n : ℕ) (q : Place) : Type 0 where
+  pub is : q ≡ begunAt p (settledAt e n)

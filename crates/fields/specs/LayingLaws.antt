@@ -2,6 +2,7 @@
 use Prim.Native.Nat.{ℕ, _+_, _*_, _≤_, _<_, min}
 use native.Mathlib.Omega.{arith}
 use mathlib.Core.Path.{_≡_, refl, sym, ap, ap₂, _∙_}
+use mathlib.Core.Bool.{Bool, true, false}
 use mathlib.Core.List.{List, [], _∷_, _++_, append-nil}
 use lib.ListN.{length, take, drop, length-append, take-append-drop}
 use lib.Dec.{eqb}
@@ -22,42 +23,40 @@ use Rattle.fields.specs.Layouts.{Field, num, str, dat, strs, quids, Layo
 use Rattle.fields.specs.LayoutLaws.{took-many}
 use Rattle.fields.specs.Values.{Value, val, numOf, startOf, lenOf, countOf, wholePart, show, firstOf, othersOf, shows}
 use Rattle.fields.specs.Laying.{limit, advance, sizeIn, checkField, checkFields, headWidth, headOf, countedField, pastCounted, putField, pastPutField, putFields, pastPutFields, ByPass, FieldLaid, Laid, NumLaid}
-use Rattle.fields.specs.declared.lay.Pass.{Pass}
-use Rattle.fields.specs.declared.lay.Pass.the-variants as P
 
-pub laid-none : {lent : List ℕ} {ps : Pass} {o : List ℕ} {p : Place} → Laid [] lent [] ps o p o p
+pub laid-none : {lent : List ℕ} {ps : Bool} {o : List ℕ} {p : Place} → Laid [] lent [] ps o p o p
 unfolding checkFields putFields pastPutFields
-laid-none {ps = P.Check} = record { bytes = refl; next = refl }
-laid-none {ps = P.Put} = record { bytes = refl; next = refl }
+laid-none {ps = false} = record { bytes = refl; next = refl }
+laid-none {ps = true} = record { bytes = refl; next = refl }
 
-module _ {f : Field} {fs : Layout} {lent : List ℕ} {v : Value} {vs : List Value} {ps : Pass} {o o1 o2 : List ℕ} {p q e : Place} where
+module _ {f : Field} {fs : Layout} {lent : List ℕ} {v : Value} {vs : List Value} {ps : Bool} {o o1 o2 : List ℕ} {p q e : Place} where
   pub lay : FieldLaid f lent v ps o p o1 q → Laid fs lent vs ps o1 q o2 e → Laid (f ∷ fs) lent (v ∷ vs) ps o p o2 e
   unfolding checkFields putFields pastPutFields
   lay a b = go ps a b
     where
-      go : (x : Pass) → FieldLaid f lent v x o p o1 q → Laid fs lent vs x o1 q o2 e → Laid (f ∷ fs) lent (v ∷ vs) x o p o2 e
-      go P.Check a b = record { bytes = b .bytes ∙ a .bytes; next = b .next ∙ ap (checkFields fs lent vs) (a .next) }
-      go P.Put a b = record {
+      go : (x : Bool) → FieldLaid f lent v x o p o1 q → Laid fs lent vs x o1 q o2 e → Laid (f ∷ fs) lent (v ∷ vs) x o p o2 e
+      go false a b = record { bytes = b .bytes ∙ a .bytes; next = b .next ∙ ap (checkFields fs lent vs) (a .next) }
+      go true a b = record {
         bytes = b .bytes ∙ rw (a .bytes, a .next);
         next = b .next ∙ rw (a .bytes, a .next);
       }
 
 -- a qid in front
-pub lay-qid : {fs : Layout} {lent : List ℕ} {t v x : ℕ} {vs : List Value} {ps : Pass} {o o1 o2 : List ℕ} {p p' e : Place}
+pub lay-qid : {fs : Layout} {lent : List ℕ} {t v x : ℕ} {vs : List Value} {ps : Bool} {o o1 o2 : List ℕ} {p p' e : Place}
     → Laid q lent (val t ∷ val v ∷ val x ∷ []) ps o p o1 p' → Laid fs lent vs ps o1 p' o2 e → Laid (num 1 ∷ num 4 ∷ num 8 ∷ fs) lent (val t ∷ val v ∷ val x ∷ vs) ps o p o2 e
 unfolding checkFields putFields pastPutFields
-lay-qid {ps = P.Check} a b = record { bytes = b .bytes ∙ a .bytes; next = b .next ∙ rw (a .next) }
-lay-qid {ps = P.Put} a b = record { bytes = b .bytes ∙ rw (a .bytes, a .next); next = b .next ∙ rw (a .bytes, a .next) }
+lay-qid {ps = false} a b = record { bytes = b .bytes ∙ a .bytes; next = b .next ∙ rw (a .next) }
+lay-qid {ps = true} a b = record { bytes = b .bytes ∙ rw (a .bytes, a .next); next = b .next ∙ rw (a .bytes, a .next) }
 
 size : (w x : ℕ) → length (itemBytes (number w x)) ≡ w
 unfolding itemBytes
 size w x = length-toLE w x
 
-pub lay-num : {w x : ℕ} {lent : List ℕ} {ps : Pass} {o o1 : List ℕ} {p q : Place} → NumLaid w x ps o p o1 q → FieldLaid (num w) lent (val x) ps o p o1 q
+pub lay-num : {w x : ℕ} {lent : List ℕ} {ps : Bool} {o o1 : List ℕ} {p q : Place} → NumLaid w x ps o p o1 q → FieldLaid (num w) lent (val x) ps o p o1 q
 unfolding checkField putField pastPutField show
-lay-num {w} {x} {ps = P.Check} {p = At a} b = record { bytes = b .bytes; next = b .next ∙ ap (λ n. At (min (a + n) 4294967296)) (sym (size w x)) }
-lay-num {w} {x} {ps = P.Check} {p = Refused k} b = record { bytes = b .bytes; next = b .next }
-lay-num {ps = P.Put} b = record { bytes = b .bytes; next = b .next }
+lay-num {w} {x} {ps = false} {p = At a} b = record { bytes = b .bytes; next = b .next ∙ ap (λ n. At (min (a + n) 4294967296)) (sym (size w x)) }
+lay-num {w} {x} {ps = false} {p = Refused k} b = record { bytes = b .bytes; next = b .next }
+lay-num {ps = true} b = record { bytes = b .bytes; next = b .next }
 
 -- ---- the output keeps its length
 
@@ -78,9 +77,9 @@ fields-length [] lent vs o p = refl
 fields-length (f ∷ fs) lent vs o p =
     fields-length fs lent (othersOf vs) (putField f lent (firstOf vs) o p) (pastPutField f lent (firstOf vs) o p) ∙ field-length f lent (firstOf vs) o p
 
-pub laid-length : {fs : Layout} {lent : List ℕ} {vs : List Value} {ps : Pass} {o o' : List ℕ} {p q : Place} → Laid fs lent vs ps o p o' q → length o' ≡ length o
-laid-length {ps = P.Check} a = ap length (a .bytes)
-laid-length {fs} {lent} {vs} {ps = P.Put} {o} {o'} {p} a = ap length (a .bytes) ∙ fields-length fs lent vs o p
+pub laid-length : {fs : Layout} {lent : List ℕ} {vs : List Value} {ps : Bool} {o o' : List ℕ} {p q : Place} → Laid fs lent vs ps o p o' q → length o' ≡ length o
+laid-length {ps = false} a = ap length (a .bytes)
+laid-length {fs} {lent} {vs} {ps = true} {o} {o'} {p} a = ap length (a .bytes) ∙ fields-length fs lent vs o p
 
 -- ---- both passes as in the definition
 

@@ -16,11 +16,10 @@ use Rattle.numbers.specs.declared.Refusal.{Refusal}
 use Rattle.numbers.specs.declared.Refusal.the-variants as R
 use Rattle.numbers.specs.declared.Place.{Place}
 use Rattle.numbers.specs.declared.Place.the-variants.{At, Refused}
-use Rattle.fields.specs.Layouts.{Field, Layout, Item, itemBytes, itemsBytes}
+use Rattle.fields.specs.Layouts.{Field, num, str, dat, strs, quids, Layout, Item, itemBytes, itemsBytes}
 use Rattle.fields.specs.Values.{Value, show, firstOf, othersOf, shows}
-use Rattle.fields.specs.Laying.{limit, advance, checkField, checkFields, putFields, pastPutFields, Laid, writtenOut, writtenPast, Written, settledAt, Settled}
-use Rattle.fields.specs.LayingLaws.{put-fields}
-use Rattle.fields.specs.declared.lay.Pass.the-variants as P
+use Rattle.fields.specs.Laying.{limit, advance, checkField, checkFields, putFields, pastPutFields, Laid, writtenOut, writtenPast, Written, settledAt, Settled, begunAt, Begun, putField, pastPutField}
+use Rattle.fields.specs.LayingLaws.{put-fields, laid-none}
 
 pub written-one : {fs : Layout} {lent o o1 o2 : List ℕ} {vs : List Value} {p q q' : Place} → Written fs lent vs o p o1 q → Written fs lent vs o p o2 q' → (o1 ≡ o2) × (q ≡ q')
 written-one a b = (one-answer (a .bytes) (b .bytes), one-answer (a .next) (b .next))
@@ -116,7 +115,7 @@ clash : {k : Refusal} {n : ℕ} {q : Place} → q ≡ Refused k → q ≡ At n �
 clash e f = let d = sym e ∙ f in let z : _≡_ {A = ℕ} 0 1 = cc d in omega arith
 
 -- refused after the first pass: the output is as it was
-pub written-not : {fs : Layout} {lent o o1 : List ℕ} {vs : List Value} {p e q : Place} {k : Refusal} → Laid fs lent vs P.Check o p o1 e → Settled e (length o1) q → q ≡ Refused k
+written-not : {fs : Layout} {lent o o1 : List ℕ} {vs : List Value} {p e q : Place} {k : Refusal} → Laid fs lent vs false o p o1 e → Settled e (length o1) q → q ≡ Refused k
     → Written fs lent vs o p o1 q
 written-not {fs} {lent} {o} {o1} {vs} {p} {e} {q} {k} c s h =
     rw (c .bytes) (go p (s .is ∙ ap (λ x. settledAt x (length o1)) (c .next) ∙ ap (λ l. settledAt (checkFields fs lent vs p) (length l)) (c .bytes)))
@@ -137,8 +136,8 @@ written-not {fs} {lent} {o} {o1} {vs} {p} {e} {q} {k} c s h =
     go (At a) d = at a d (shows fs lent vs) refl
 
 -- settled, and put by the second pass
-pub written-put : {fs : Layout} {lent o o1 o2 : List ℕ} {vs : List Value} {p e q r : Place} {n : ℕ} → Bytes lent → Laid fs lent vs P.Check o p o1 e → Settled e (length o1) q → q ≡ At n
-    → Laid fs lent vs P.Put o1 p o2 r → Written fs lent vs o p o2 r
+written-put : {fs : Layout} {lent o o1 o2 : List ℕ} {vs : List Value} {p e q r : Place} {n : ℕ} → Bytes lent → Laid fs lent vs false o p o1 e → Settled e (length o1) q → q ≡ At n
+    → Laid fs lent vs true o1 p o2 r → Written fs lent vs o p o2 r
 written-put {fs} {lent} {o} {o1} {o2} {vs} {p} {e} {q} {r} {n} b c s h l =
     rw (l .bytes, l .next, c .bytes)
     (go p (s .is ∙ ap (λ x. settledAt x (length o1)) (c .next) ∙ ap (λ l. settledAt (checkFields fs lent vs p) (length l)) (c .bytes)))
@@ -157,3 +156,47 @@ written-put {fs} {lent} {o} {o1} {o2} {vs} {p} {e} {q} {r} {n} b c s h l =
     go : (p' : Place) → q ≡ settledAt (checkFields fs lent vs p') (length o) → Written fs lent vs o p' (putFields fs lent vs o p') (pastPutFields fs lent vs o p')
     go (Refused j) d = absurd (clash {k = j} (d ∙ rw (stays fs lent vs j)) h)
     go (At a) d = at a d (shows fs lent vs) refl
+
+-- ---- both passes
+
+put-stays-out : (f : Field) (lent : List ℕ) (v : Value) (o : List ℕ) (k : Refusal) → putField f lent v o (Refused k) ≡ o
+unfolding putField putAt pastPut
+put-stays-out (num w) lent v o k = refl
+put-stays-out str lent v o k = refl
+put-stays-out dat lent v o k = refl
+put-stays-out strs lent v o k = refl
+put-stays-out quids lent v o k = refl
+
+put-stays-refused : (f : Field) (lent : List ℕ) (v : Value) (o : List ℕ) (k : Refusal) → pastPutField f lent v o (Refused k) ≡ Refused k
+unfolding pastPutField putAt pastPut
+put-stays-refused (num w) lent v o k = refl
+put-stays-refused str lent v o k = refl
+put-stays-refused dat lent v o k = refl
+put-stays-refused strs lent v o k = refl
+put-stays-refused quids lent v o k = refl
+
+-- at a refused place nothing is put
+nothing-put : (fs : Layout) (lent : List ℕ) (vs : List Value) (o : List ℕ) (k : Refusal) → (putFields fs lent vs o (Refused k) ≡ o) × (pastPutFields fs lent vs o (Refused k) ≡ Refused k)
+unfolding putFields pastPutFields
+nothing-put [] lent vs o k = (refl, refl)
+nothing-put (f ∷ fs) lent vs o k =
+    rw (put-stays-out f lent (firstOf vs) o k, put-stays-refused f lent (firstOf vs) o k) (nothing-put fs lent (othersOf vs) o k)
+
+-- the second pass, begun where the first one lets it
+pub written : {fs : Layout} {lent o o1 o2 : List ℕ} {vs : List Value} {p e q r : Place} → Bytes lent → Laid fs lent vs false o p o1 e → Begun p e (length o1) q
+    → Laid fs lent vs true o1 q o2 r → Written fs lent vs o p o2 r
+written {fs} {lent} {o} {o1} {o2} {vs} {p} {e} {q} {r} b c s l = go (settledAt e (length o1)) refl
+  where
+    go : (x : Place) → settledAt e (length o1) ≡ x → Written fs lent vs o p o2 r
+    go (At n) f = let g : q ≡ p = s .is ∙ ap (begunAt p) f in written-put b c (record { is = sym f }) refl (rw g at l)
+    go (Refused k) f =
+        let g : q ≡ Refused k = s .is ∙ ap (begunAt p) f in
+        let h : Laid fs lent vs true o1 (Refused k) o2 r = rw g at l in
+        let n = nothing-put fs lent vs o1 k in
+        rw (h .bytes ∙ n .0, h .next ∙ n .1) (written-not c (record { is = sym f }) refl)
+
+-- of no fields there is nothing to put, but the place must be one
+pub written-nothing : {lent o : List ℕ} {p q : Place} → Begun p p (length o) q → Written [] lent [] o p o q
+unfolding shows
+written-nothing s =
+    let w = written {lent = []} tt laid-none s laid-none in record { bytes = w .bytes; next = w .next }

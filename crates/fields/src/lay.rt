@@ -8,12 +8,12 @@ use strings::Span;
 ghost use mathlib.Core.Path.{_≡_};
 ghost use Rattle.fields.specs.Layouts.{str, dat, strs, quids};
 ghost use Rattle.fields.specs.Values.{span, part, cutOff};
-ghost use Rattle.fields.specs.Laying.{Advanced, NumLaid, FieldLaid, CountedPut, ShowCheck, Filled, Settled};
+ghost use Rattle.fields.specs.Laying.{Advanced, NumLaid, FieldLaid, CountedPut, ShowCheck, Filled, Settled, Begun};
 
-pub enum Pass {
-    Check,
-    Put,
-}
+// The pass is a plain truth value: passed as a number, it lets the compiler make a straight line for each pass.
+pub const CHECK: bool = false;
+
+pub const PUT: bool = true;
 
 // The place `n` bytes on; past the largest frame every place is the limit, so that no sum wraps.
 pub fn advanced(p: Place, n: usize) -> Place
@@ -32,37 +32,37 @@ pub fn advanced(p: Place, n: usize) -> Place
     Place::At(next)
 }
 
-fn lay_num(out: &mut [u8], p: Place, x: u64, width: usize, pass: Pass) -> Place
-    ensures { λ r. ⌜ NumLaid width x pass (now (out .entry)) p (now (out .exit)) r ⌝ }
+fn lay_num(out: &mut [u8], p: Place, x: u64, width: usize, put: bool) -> Place
+    ensures { λ r. ⌜ NumLaid width x put (now (out .entry)) p (now (out .exit)) r ⌝ }
 {
-    match pass {
-        Pass::Check => advanced(p, width),
-        Pass::Put => numbers::put_num(out, p, x, width),
+    if put {
+        return numbers::put_num(out, p, x, width);
     }
+    advanced(p, width)
 }
 
-pub fn lay_u8(out: &mut [u8], p: Place, x: u8, pass: Pass) -> Place
-    ensures { λ r. ⌜ NumLaid 1 x pass (now (out .entry)) p (now (out .exit)) r ⌝ }
+pub fn lay_u8(out: &mut [u8], p: Place, x: u8, put: bool) -> Place
+    ensures { λ r. ⌜ NumLaid 1 x put (now (out .entry)) p (now (out .exit)) r ⌝ }
 {
-    lay_num(out, p, x as u64, 1, pass)
+    lay_num(out, p, x as u64, 1, put)
 }
 
-pub fn lay_u16(out: &mut [u8], p: Place, x: u16, pass: Pass) -> Place
-    ensures { λ r. ⌜ NumLaid 2 x pass (now (out .entry)) p (now (out .exit)) r ⌝ }
+pub fn lay_u16(out: &mut [u8], p: Place, x: u16, put: bool) -> Place
+    ensures { λ r. ⌜ NumLaid 2 x put (now (out .entry)) p (now (out .exit)) r ⌝ }
 {
-    lay_num(out, p, x as u64, 2, pass)
+    lay_num(out, p, x as u64, 2, put)
 }
 
-pub fn lay_u32(out: &mut [u8], p: Place, x: u32, pass: Pass) -> Place
-    ensures { λ r. ⌜ NumLaid 4 x pass (now (out .entry)) p (now (out .exit)) r ⌝ }
+pub fn lay_u32(out: &mut [u8], p: Place, x: u32, put: bool) -> Place
+    ensures { λ r. ⌜ NumLaid 4 x put (now (out .entry)) p (now (out .exit)) r ⌝ }
 {
-    lay_num(out, p, x as u64, 4, pass)
+    lay_num(out, p, x as u64, 4, put)
 }
 
-pub fn lay_u64(out: &mut [u8], p: Place, x: u64, pass: Pass) -> Place
-    ensures { λ r. ⌜ NumLaid 8 x pass (now (out .entry)) p (now (out .exit)) r ⌝ }
+pub fn lay_u64(out: &mut [u8], p: Place, x: u64, put: bool) -> Place
+    ensures { λ r. ⌜ NumLaid 8 x put (now (out .entry)) p (now (out .exit)) r ⌝ }
 {
-    lay_num(out, p, x, 8, pass)
+    lay_num(out, p, x, 8, put)
 }
 
 // A count of `width` bytes and the bytes that a span shows, measured or put.
@@ -73,28 +73,24 @@ fn put_counted(out: &mut [u8], p: Place, n: usize, width: usize, lent: &[u8], v:
     strings::put_bytes(out, q, lent, v)
 }
 
-pub fn lay_str(out: &mut [u8], p: Place, lent: &[u8], v: Span, pass: Pass) -> Place
-    ensures { λ r. ⌜ FieldLaid str (now (lent .entry)) (span (v .start) (v .len)) pass (now (out .entry)) p (now (out .exit)) r ⌝ }
+pub fn lay_str(out: &mut [u8], p: Place, lent: &[u8], v: Span, put: bool) -> Place
+    ensures { λ r. ⌜ FieldLaid str (now (lent .entry)) (span (v .start) (v .len)) put (now (out .entry)) p (now (out .exit)) r ⌝ }
 {
-    match pass {
-        Pass::Check => {
-            let q = strings::check_str(lent, v, p);
-            advanced(advanced(q, 2), v.len)
-        }
-        Pass::Put => put_counted(out, p, v.len, 2, lent, v),
+    if put {
+        return put_counted(out, p, v.len, 2, lent, v);
     }
+    let q = strings::check_str(lent, v, p);
+    advanced(advanced(q, 2), v.len)
 }
 
-pub fn lay_data(out: &mut [u8], p: Place, lent: &[u8], v: Span, pass: Pass) -> Place
-    ensures { λ r. ⌜ FieldLaid dat (now (lent .entry)) (span (v .start) (v .len)) pass (now (out .entry)) p (now (out .exit)) r ⌝ }
+pub fn lay_data(out: &mut [u8], p: Place, lent: &[u8], v: Span, put: bool) -> Place
+    ensures { λ r. ⌜ FieldLaid dat (now (lent .entry)) (span (v .start) (v .len)) put (now (out .entry)) p (now (out .exit)) r ⌝ }
 {
-    match pass {
-        Pass::Check => {
-            let q = strings::check_span(lent, v, p);
-            advanced(advanced(q, 4), v.len)
-        }
-        Pass::Put => put_counted(out, p, v.len, 4, lent, v),
+    if put {
+        return put_counted(out, p, v.len, 4, lent, v);
     }
+    let q = strings::check_span(lent, v, p);
+    advanced(advanced(q, 4), v.len)
 }
 
 // What a scan of a part's elements comes to: they fill it whole, or it is malformed, unless an element's text is to blame.
@@ -150,30 +146,26 @@ pub fn check_qids(lent: &[u8], v: Part, p: Place) -> Place
     Place::Refused(Refusal::PartMalformed)
 }
 
-pub fn lay_names(out: &mut [u8], p: Place, lent: &[u8], v: Part, pass: Pass) -> Place
-    ensures { λ r. ⌜ FieldLaid strs (now (lent .entry)) (part (v .count) (v .elements .start) (v .elements .len)) pass (now (out .entry)) p (now (out .exit)) r ⌝ }
+pub fn lay_names(out: &mut [u8], p: Place, lent: &[u8], v: Part, put: bool) -> Place
+    ensures { λ r. ⌜ FieldLaid strs (now (lent .entry)) (part (v .count) (v .elements .start) (v .elements .len)) put (now (out .entry)) p (now (out .exit)) r ⌝ }
 {
     let elements = v.elements;
-    match pass {
-        Pass::Check => {
-            let q = check_names(lent, v, p);
-            advanced(advanced(q, 2), elements.len)
-        }
-        Pass::Put => put_counted(out, p, v.count as usize, 2, lent, elements),
+    if put {
+        return put_counted(out, p, v.count as usize, 2, lent, elements);
     }
+    let q = check_names(lent, v, p);
+    advanced(advanced(q, 2), elements.len)
 }
 
-pub fn lay_qids(out: &mut [u8], p: Place, lent: &[u8], v: Part, pass: Pass) -> Place
-    ensures { λ r. ⌜ FieldLaid quids (now (lent .entry)) (part (v .count) (v .elements .start) (v .elements .len)) pass (now (out .entry)) p (now (out .exit)) r ⌝ }
+pub fn lay_qids(out: &mut [u8], p: Place, lent: &[u8], v: Part, put: bool) -> Place
+    ensures { λ r. ⌜ FieldLaid quids (now (lent .entry)) (part (v .count) (v .elements .start) (v .elements .len)) put (now (out .entry)) p (now (out .exit)) r ⌝ }
 {
     let elements = v.elements;
-    match pass {
-        Pass::Check => {
-            let q = check_qids(lent, v, p);
-            advanced(advanced(q, 2), elements.len)
-        }
-        Pass::Put => put_counted(out, p, v.count as usize, 2, lent, elements),
+    if put {
+        return put_counted(out, p, v.count as usize, 2, lent, elements);
     }
+    let q = check_qids(lent, v, p);
+    advanced(advanced(q, 2), elements.len)
 }
 
 // What the end that the first pass found means in an output of `len` bytes: 10, then 11, or the second pass may go.
@@ -190,4 +182,15 @@ pub fn settled(end: Place, len: usize) -> Place
         return Place::Refused(Refusal::NoRoom);
     }
     end
+}
+
+// Where the second pass begins: where the first one did, or nowhere if that pass found a reason to refuse.
+pub fn begun(p: Place, end: Place, len: usize) -> Place
+    ensures { λ r. ⌜ Begun p end len r ⌝ }
+{
+    let q = settled(end, len);
+    let Place::At(_) = q else {
+        return q;
+    };
+    p
 }

@@ -7,12 +7,11 @@ use numbers::Place;
 use numbers::Refusal;
 use strings::ReadSpan;
 use strings::Span;
-ghost use mathlib.Core.Path.{_≡_};
 ghost use Prim.Native.Nat.{_≤_};
 ghost use lib.ListN.{length};
 ghost use Rattle.fields.specs.Layouts.{dat, strs, quids};
 ghost use Rattle.fields.specs.Values.{span, part};
-ghost use Rattle.fields.specs.Fields.{FieldRead, ManyRead, Nowhere, lookFrom};
+ghost use Rattle.fields.specs.Fields.{FieldRead, ManyRead, Nowhere};
 
 // The elements of a vector: how many they are, and the part of the bytes that holds them.
 pub struct Part {
@@ -60,16 +59,6 @@ pub fn read_data(s: &[u8], p: Place) -> ReadSpan
     }
 }
 
-// Where the characters of a text have to be looked at: from its front, or not at all where every byte is below 128.
-fn first_to_look_at(high: u8, len: usize) -> usize
-    ensures { λ r. ⌜ r ≡ lookFrom high len ⌝ }
-{
-    if high < 128 {
-        return len;
-    }
-    0
-}
-
 // So many strings from a position on: the place behind them, or the refusal of the first that fails, whichever that is.
 fn scan_names(s: &[u8], from: usize, count: u16) -> Place
     requires { ⌜ from ≤ length (now s) ⌝ }
@@ -95,17 +84,18 @@ fn scan_names(s: &[u8], from: usize, count: u16) -> Place
         }
         let end = start + len;
         let name = &s[start..end];
-        let e = strings::utf8::extremes_of(name);
-        let mut i = first_to_look_at(e.high, len);
+        // Names are short, and plain but for a few: byte by byte is the fastest, and one byte that is not plain has all looked at.
+        let mut i = 0;
         while i < len {
-            let k = strings::utf8::char_at(name, i);
-            if k == 0 {
-                break 'names Place::Refused(Refusal::NotUtf8);
+            if strings::utf8::is_plain(name[i]) {
+                i += 1;
+            } else {
+                let q = strings::utf8::check_text(name, Place::At(end));
+                let Place::At(_) = q else {
+                    break 'names q;
+                };
+                i = len;
             }
-            i += k;
-        }
-        if e.low == 0 {
-            break 'names Place::Refused(Refusal::ZeroByte);
         }
         at = end;
         n -= 1;

@@ -2,7 +2,7 @@
 use Prim.Native.Nat.{ℕ, suc, _+_, _*_, _≤_, _<_}
 use native.Mathlib.Omega.{arith}
 use mathlib.Core.Path.{_≡_, refl, sym, ap, _∙_}
-use mathlib.Core.Bool.{cond}
+use mathlib.Core.Bool.{Bool, true, false, cond}
 use mathlib.Core.List.{List, [], _∷_}
 use lib.ListN.{length, drop, getD}
 use lib.Seq.{drop-cons, drop-length}
@@ -17,11 +17,9 @@ use Rattle.numbers.specs.declared.Place.the-variants.{At, Refused}
 use Rattle.numbers.specs.Reading.{Result}
 use Rattle.fields.specs.Layouts.{Layout, num, str, Item}
 use Rattle.fields.specs.Values.{Value, val, span}
-use Rattle.fields.specs.Laying.{FieldLaid, Laid, NumLaid, Settled}
+use Rattle.fields.specs.Laying.{FieldLaid, Laid, NumLaid, Begun}
 use Rattle.fields.specs.LayingLaws.{laid-none, lay, lay-num, laid-length}
-use Rattle.fields.specs.WritingLaws.{written-not, written-put}
-use Rattle.fields.specs.declared.lay.Pass.{Pass}
-use Rattle.fields.specs.declared.lay.Pass.the-variants as P
+use Rattle.fields.specs.WritingLaws.{written}
 use Rattle.frames.specs.Writing.{frameOut, framePast, FrameWritten, HeadPut}
 use Rattle.frames.specs.WritingLaws.{head-stays, frame-written}
 use Rattle.frames.specs.Tables.{TableWritten, nameFields, nameValues, walkFields, walkValues, TwalkWritten}
@@ -29,10 +27,10 @@ use Rattle.frames.specs.Tables.{TableWritten, nameFields, nameValues, wa
 -- ---- the names, one after another
 
 -- names are laid up to the i-th: whatever lays those behind it has laid them all
-pub record Upto (t : List (List ℕ)) (lent : List ℕ) (ps : Pass) (o : List ℕ) (p : Place) (i : ℕ) (o1 : List ℕ) (q : Place) : Type 0 where
+pub record Upto (t : List (List ℕ)) (lent : List ℕ) (ps : Bool) (o : List ℕ) (p : Place) (i : ℕ) (o1 : List ℕ) (q : Place) : Type 0 where
   pub on : (o2 : List ℕ) (e : Place) → Laid (nameFields (drop i t)) lent (nameValues (drop i t)) ps o1 q o2 e → Laid (nameFields t) lent (nameValues t) ps o p o2 e
 
-module _ {t : List (List ℕ)} {lent : List ℕ} {ps : Pass} {o : List ℕ} {p : Place} where
+module _ {t : List (List ℕ)} {lent : List ℕ} {ps : Bool} {o : List ℕ} {p : Place} where
   pub upto-none : Upto t lent ps o p 0 o p
   upto-none = record { on = λ o2 e l. l }
 
@@ -43,10 +41,10 @@ module _ {t : List (List ℕ)} {lent : List ℕ} {ps : Pass} {o : List ℕ} {p :
   pub upto-all : {i : ℕ} {o1 : List ℕ} {q : Place} → i ≡ length t → Upto t lent ps o p i o1 q → Laid (nameFields t) lent (nameValues t) ps o p o1 q
   upto-all {i} {o1} {q} e u = u .on o1 q (rw (e, drop-length t) laid-none)
 
-pub name-length : {lent : List ℕ} {v : Value} {ps : Pass} {o o1 : List ℕ} {p q : Place} → FieldLaid str lent v ps o p o1 q → length o1 ≡ length o
+pub name-length : {lent : List ℕ} {v : Value} {ps : Bool} {o o1 : List ℕ} {p q : Place} → FieldLaid str lent v ps o p o1 q → length o1 ≡ length o
 name-length f = laid-length (lay f laid-none)
 
-pub walk-laid : (t : List (List ℕ)) {lent : List ℕ} {ps : Pass} {o o1 o2 o3 o4 : List ℕ} {p a b c e : Place} {fid newfid n : ℕ} → NumLaid 4 fid ps o p o1 a → NumLaid 4 newfid ps o1 a o2 b
+pub walk-laid : (t : List (List ℕ)) {lent : List ℕ} {ps : Bool} {o o1 o2 o3 o4 : List ℕ} {p a b c e : Place} {fid newfid n : ℕ} → NumLaid 4 fid ps o p o1 a → NumLaid 4 newfid ps o1 a o2 b
     → NumLaid 2 n ps o2 b o3 c → Laid (nameFields t) lent (nameValues t) ps o3 c o4 e → Laid (walkFields t) lent (walkValues fid newfid n t) ps o p o4 e
 walk-laid t f g h l = lay (lay-num f) (lay (lay-num g) (lay (lay-num h) l))
 
@@ -61,13 +59,9 @@ module _ {tag fid newfid : ℕ} {lent : List ℕ} {t : List (List ℕ)} {o : Lis
       → TwalkWritten tag fid newfid lent t o o' q
   in-table h e w = let f = le-ltb 65535 (length t) h in record { is = record { bytes = rw (f, ← e) (w .bytes); next = rw (f, ← e) (w .next) } }
 
-  pub twalk-not : {n : ℕ} {o1 : List ℕ} {e q : Place} {k : Refusal} → length t ≤ 65535 → n ≡ length t → Laid (walkFields t) lent (walkValues fid newfid n t) P.Check o (At 7) o1 e
-      → Settled e (length o1) q → q ≡ Refused k → TwalkWritten tag fid newfid lent t o o1 q
-  twalk-not h m c s e = in-table h m (frame-written (written-not c s e) (head-stays e))
-
-  pub twalk-put : {n a : ℕ} {o1 o2 o3 : List ℕ} {e q r z : Place} → Bytes lent → length t ≤ 65535 → n ≡ length t → Laid (walkFields t) lent (walkValues fid newfid n t) P.Check o (At 7) o1 e
-      → Settled e (length o1) q → q ≡ At a → Laid (walkFields t) lent (walkValues fid newfid n t) P.Put o1 (At 7) o2 r → HeadPut 110 tag r o2 o3 z → TwalkWritten tag fid newfid lent t o o3 z
-  twalk-put b h m c s e l d = in-table h m (frame-written (written-put b c s e l) d)
+  pub twalk-put : {n : ℕ} {o1 o2 o3 : List ℕ} {e q r z : Place} → Bytes lent → length t ≤ 65535 → n ≡ length t → Laid (walkFields t) lent (walkValues fid newfid n t) false o (At 7) o1 e
+      → Begun (At 7) e (length o1) q → Laid (walkFields t) lent (walkValues fid newfid n t) true o1 q o2 r → HeadPut 110 tag r o2 o3 z → TwalkWritten tag fid newfid lent t o o3 z
+  twalk-put b h m c s l d = in-table h m (frame-written (written b c s l) d)
 
 -- ---- one answer
 

@@ -1,7 +1,6 @@
 // Walks written from tables that the caller lends: names as spans of the lent bytes, qids as structs.
 
 use fields::lay;
-use fields::lay::Pass;
 use messages::ids::Fid;
 use messages::ids::Tag;
 use messages::qids::Qid;
@@ -11,14 +10,13 @@ use strings::Span;
 ghost use mathlib.Core.Path.{_≡_};
 ghost use Prim.Native.Nat.{_+_, _*_, _<_, _≤_};
 ghost use lib.ListN.{length};
-ghost use Rattle.numbers.specs.declared.Place.the-variants.{At};
 ghost use Rattle.fields.specs.Laying.{Laid};
 ghost use Rattle.frames.specs.Tables.{nameFields, nameValues, walkFields, walkValues, TwalkWritten, RwalkWritten};
 ghost use Rattle.frames.specs.Qids.{putQid, placed, toFollow, headed, answerOf};
 
 // The names of a table, in order, each a string. A row of the table is a span: its start and its length.
-fn lay_names(out: &mut [u8], p: Place, lent: &[u8], names: &[[usize; 2]], pass: Pass) -> Place
-    ensures { λ r. ⌜ Laid (nameFields (now (names .entry))) (now (lent .entry)) (nameValues (now (names .entry))) pass (now (out .entry)) p (now (out .exit)) r ⌝ }
+fn lay_names(out: &mut [u8], p: Place, lent: &[u8], names: &[[usize; 2]], put: bool) -> Place
+    ensures { λ r. ⌜ Laid (nameFields (now (names .entry))) (now (lent .entry)) (nameValues (now (names .entry))) put (now (out .entry)) p (now (out .exit)) r ⌝ }
 {
     let mut at = p;
     let mut i = 0;
@@ -27,28 +25,29 @@ fn lay_names(out: &mut [u8], p: Place, lent: &[u8], names: &[[usize; 2]], pass: 
             start: names[i][0],
             len: names[i][1],
         };
-        at = lay::lay_str(out, at, lent, name, pass);
+        at = lay::lay_str(out, at, lent, name, put);
         i += 1;
     }
     at
 }
 
-// The body of a Twalk behind its header.
+// The body of a Twalk at a place.
 fn lay_twalk(
     out: &mut [u8],
+    p: Place,
     fid: Fid,
     newfid: Fid,
     count: u16,
     lent: &[u8],
     names: &[[usize; 2]],
-    pass: Pass,
+    put: bool,
 ) -> Place
-    ensures { λ r. ⌜ Laid (walkFields (now (names .entry))) (now (lent .entry)) (walkValues (fid .0) (newfid .0) count (now (names .entry))) pass (now (out .entry)) (At 7) (now (out .exit)) r ⌝ }
+    ensures { λ r. ⌜ Laid (walkFields (now (names .entry))) (now (lent .entry)) (walkValues (fid .0) (newfid .0) count (now (names .entry))) put (now (out .entry)) p (now (out .exit)) r ⌝ }
 {
-    let a = lay::lay_u32(out, Place::At(7), fid.0, pass);
-    let b = lay::lay_u32(out, a, newfid.0, pass);
-    let c = lay::lay_u16(out, b, count, pass);
-    lay_names(out, c, lent, names, pass)
+    let a = lay::lay_u32(out, p, fid.0, put);
+    let b = lay::lay_u32(out, a, newfid.0, put);
+    let c = lay::lay_u16(out, b, count, put);
+    lay_names(out, c, lent, names, put)
 }
 
 // A Twalk whose names are spans of the lent bytes: 8; then the names in order; then 10; then 11. The answer is its length.
@@ -66,13 +65,11 @@ pub fn write_twalk(
         return Place::Refused(Refusal::TableTooLong);
     }
     let count = names.len() as u16;
-    let end = lay_twalk(out, fid, newfid, count, lent, names, Pass::Check);
-    let fits = lay::settled(end, out.len());
-    let Place::At(_) = fits else {
-        return fits;
-    };
-    let put = lay_twalk(out, fid, newfid, count, lent, names, Pass::Put);
-    crate::put_header(out, put, 110, tag.0)
+    let p = Place::At(7);
+    let end = lay_twalk(out, p, fid, newfid, count, lent, names, lay::CHECK);
+    let start = lay::begun(p, end, out.len());
+    let past = lay_twalk(out, start, fid, newfid, count, lent, names, lay::PUT);
+    crate::put_header(out, past, 110, tag.0)
 }
 
 // One qid at its place among those from `at` on.

@@ -5,11 +5,10 @@ use crate::ids::Gid;
 use crate::qids;
 use crate::qids::Qid;
 use fields::lay;
-use fields::lay::Pass;
 use numbers::Place;
 use strings::Span;
 ghost use Rattle.fields.specs.Fields.{Fields};
-ghost use Rattle.fields.specs.Laying.{Laid};
+ghost use Rattle.fields.specs.Laying.{Laid, Written};
 ghost use Rattle.messages.specs.Tables.{layoutT, layoutR};
 ghost use Rattle.messages.specs.Records.{tstatfs, rstatfs, tgetattr, rgetattr, tsetattr, txattrwalk, rxattrwalk, txattrcreate};
 
@@ -32,11 +31,19 @@ pub fn read_tstatfs(s: &[u8], p: Place) -> ReadTstatfs
     ReadTstatfs { value, next: p1 }
 }
 
-pub fn lay_tstatfs(out: &mut [u8], p: Place, lent: &[u8], m: Tstatfs, pass: Pass) -> Place
-    ensures { λ r. ⌜ Laid (layoutT 8) (now (lent .entry)) (tstatfs m) pass (now (out .entry)) p (now (out .exit)) r ⌝ }
+fn lay_tstatfs(out: &mut [u8], p: Place, lent: &[u8], m: Tstatfs, put: bool) -> Place
+    ensures { λ r. ⌜ Laid (layoutT 8) (now (lent .entry)) (tstatfs m) put (now (out .entry)) p (now (out .exit)) r ⌝ }
 {
     let fid = m.fid;
-    lay::lay_u32(out, p, fid.0, pass)
+    lay::lay_u32(out, p, fid.0, put)
+}
+
+pub fn write_tstatfs(out: &mut [u8], p: Place, lent: &[u8], m: Tstatfs) -> Place
+    ensures { λ r. ⌜ Written (layoutT 8) (now (lent .entry)) (tstatfs m) (now (out .entry)) p (now (out .exit)) r ⌝ }
+{
+    let end = lay_tstatfs(out, p, lent, m, lay::CHECK);
+    let start = lay::begun(p, end, out.len());
+    lay_tstatfs(out, start, lent, m, lay::PUT)
 }
 
 pub struct Rstatfs {
@@ -91,18 +98,26 @@ pub fn read_rstatfs(s: &[u8], p: Place) -> ReadRstatfs
     ReadRstatfs { value, next: p9 }
 }
 
-pub fn lay_rstatfs(out: &mut [u8], p: Place, lent: &[u8], m: Rstatfs, pass: Pass) -> Place
-    ensures { λ r. ⌜ Laid (layoutR 9) (now (lent .entry)) (rstatfs m) pass (now (out .entry)) p (now (out .exit)) r ⌝ }
+fn lay_rstatfs(out: &mut [u8], p: Place, lent: &[u8], m: Rstatfs, put: bool) -> Place
+    ensures { λ r. ⌜ Laid (layoutR 9) (now (lent .entry)) (rstatfs m) put (now (out .entry)) p (now (out .exit)) r ⌝ }
 {
-    let p1 = lay::lay_u32(out, p, m.ty, pass);
-    let p2 = lay::lay_u32(out, p1, m.bsize, pass);
-    let p3 = lay::lay_u64(out, p2, m.blocks, pass);
-    let p4 = lay::lay_u64(out, p3, m.bfree, pass);
-    let p5 = lay::lay_u64(out, p4, m.bavail, pass);
-    let p6 = lay::lay_u64(out, p5, m.files, pass);
-    let p7 = lay::lay_u64(out, p6, m.ffree, pass);
-    let p8 = lay::lay_u64(out, p7, m.fsid, pass);
-    lay::lay_u32(out, p8, m.namelen, pass)
+    let p1 = lay::lay_u32(out, p, m.ty, put);
+    let p2 = lay::lay_u32(out, p1, m.bsize, put);
+    let p3 = lay::lay_u64(out, p2, m.blocks, put);
+    let p4 = lay::lay_u64(out, p3, m.bfree, put);
+    let p5 = lay::lay_u64(out, p4, m.bavail, put);
+    let p6 = lay::lay_u64(out, p5, m.files, put);
+    let p7 = lay::lay_u64(out, p6, m.ffree, put);
+    let p8 = lay::lay_u64(out, p7, m.fsid, put);
+    lay::lay_u32(out, p8, m.namelen, put)
+}
+
+pub fn write_rstatfs(out: &mut [u8], p: Place, lent: &[u8], m: Rstatfs) -> Place
+    ensures { λ r. ⌜ Written (layoutR 9) (now (lent .entry)) (rstatfs m) (now (out .entry)) p (now (out .exit)) r ⌝ }
+{
+    let end = lay_rstatfs(out, p, lent, m, lay::CHECK);
+    let start = lay::begun(p, end, out.len());
+    lay_rstatfs(out, start, lent, m, lay::PUT)
 }
 
 pub struct Tgetattr {
@@ -130,12 +145,20 @@ pub fn read_tgetattr(s: &[u8], p: Place) -> ReadTgetattr
     ReadTgetattr { value, next: p2 }
 }
 
-pub fn lay_tgetattr(out: &mut [u8], p: Place, lent: &[u8], m: Tgetattr, pass: Pass) -> Place
-    ensures { λ r. ⌜ Laid (layoutT 24) (now (lent .entry)) (tgetattr m) pass (now (out .entry)) p (now (out .exit)) r ⌝ }
+fn lay_tgetattr(out: &mut [u8], p: Place, lent: &[u8], m: Tgetattr, put: bool) -> Place
+    ensures { λ r. ⌜ Laid (layoutT 24) (now (lent .entry)) (tgetattr m) put (now (out .entry)) p (now (out .exit)) r ⌝ }
 {
     let fid = m.fid;
-    let p1 = lay::lay_u32(out, p, fid.0, pass);
-    lay::lay_u64(out, p1, m.request_mask, pass)
+    let p1 = lay::lay_u32(out, p, fid.0, put);
+    lay::lay_u64(out, p1, m.request_mask, put)
+}
+
+pub fn write_tgetattr(out: &mut [u8], p: Place, lent: &[u8], m: Tgetattr) -> Place
+    ensures { λ r. ⌜ Written (layoutT 24) (now (lent .entry)) (tgetattr m) (now (out .entry)) p (now (out .exit)) r ⌝ }
+{
+    let end = lay_tgetattr(out, p, lent, m, lay::CHECK);
+    let start = lay::begun(p, end, out.len());
+    lay_tgetattr(out, start, lent, m, lay::PUT)
 }
 
 pub struct Rgetattr {
@@ -236,31 +259,39 @@ pub fn read_rgetattr(s: &[u8], p: Place) -> ReadRgetattr
     ReadRgetattr { value, next: p20 }
 }
 
-pub fn lay_rgetattr(out: &mut [u8], p: Place, lent: &[u8], m: Rgetattr, pass: Pass) -> Place
-    ensures { λ r. ⌜ Laid (layoutR 25) (now (lent .entry)) (rgetattr m) pass (now (out .entry)) p (now (out .exit)) r ⌝ }
+fn lay_rgetattr(out: &mut [u8], p: Place, lent: &[u8], m: Rgetattr, put: bool) -> Place
+    ensures { λ r. ⌜ Laid (layoutR 25) (now (lent .entry)) (rgetattr m) put (now (out .entry)) p (now (out .exit)) r ⌝ }
 {
-    let p1 = lay::lay_u64(out, p, m.valid, pass);
+    let p1 = lay::lay_u64(out, p, m.valid, put);
     let qid = m.qid;
-    let p2 = qids::lay_qid(out, p1, lent, qid, pass);
-    let p3 = lay::lay_u32(out, p2, m.mode, pass);
-    let p4 = lay::lay_u32(out, p3, m.uid, pass);
+    let p2 = qids::lay_qid(out, p1, lent, qid, put);
+    let p3 = lay::lay_u32(out, p2, m.mode, put);
+    let p4 = lay::lay_u32(out, p3, m.uid, put);
     let gid = m.gid;
-    let p5 = lay::lay_u32(out, p4, gid.0, pass);
-    let p6 = lay::lay_u64(out, p5, m.nlink, pass);
-    let p7 = lay::lay_u64(out, p6, m.rdev, pass);
-    let p8 = lay::lay_u64(out, p7, m.size, pass);
-    let p9 = lay::lay_u64(out, p8, m.blksize, pass);
-    let p10 = lay::lay_u64(out, p9, m.blocks, pass);
-    let p11 = lay::lay_u64(out, p10, m.atime_sec, pass);
-    let p12 = lay::lay_u64(out, p11, m.atime_nsec, pass);
-    let p13 = lay::lay_u64(out, p12, m.mtime_sec, pass);
-    let p14 = lay::lay_u64(out, p13, m.mtime_nsec, pass);
-    let p15 = lay::lay_u64(out, p14, m.ctime_sec, pass);
-    let p16 = lay::lay_u64(out, p15, m.ctime_nsec, pass);
-    let p17 = lay::lay_u64(out, p16, m.btime_sec, pass);
-    let p18 = lay::lay_u64(out, p17, m.btime_nsec, pass);
-    let p19 = lay::lay_u64(out, p18, m.gen_, pass);
-    lay::lay_u64(out, p19, m.data_version, pass)
+    let p5 = lay::lay_u32(out, p4, gid.0, put);
+    let p6 = lay::lay_u64(out, p5, m.nlink, put);
+    let p7 = lay::lay_u64(out, p6, m.rdev, put);
+    let p8 = lay::lay_u64(out, p7, m.size, put);
+    let p9 = lay::lay_u64(out, p8, m.blksize, put);
+    let p10 = lay::lay_u64(out, p9, m.blocks, put);
+    let p11 = lay::lay_u64(out, p10, m.atime_sec, put);
+    let p12 = lay::lay_u64(out, p11, m.atime_nsec, put);
+    let p13 = lay::lay_u64(out, p12, m.mtime_sec, put);
+    let p14 = lay::lay_u64(out, p13, m.mtime_nsec, put);
+    let p15 = lay::lay_u64(out, p14, m.ctime_sec, put);
+    let p16 = lay::lay_u64(out, p15, m.ctime_nsec, put);
+    let p17 = lay::lay_u64(out, p16, m.btime_sec, put);
+    let p18 = lay::lay_u64(out, p17, m.btime_nsec, put);
+    let p19 = lay::lay_u64(out, p18, m.gen_, put);
+    lay::lay_u64(out, p19, m.data_version, put)
+}
+
+pub fn write_rgetattr(out: &mut [u8], p: Place, lent: &[u8], m: Rgetattr) -> Place
+    ensures { λ r. ⌜ Written (layoutR 25) (now (lent .entry)) (rgetattr m) (now (out .entry)) p (now (out .exit)) r ⌝ }
+{
+    let end = lay_rgetattr(out, p, lent, m, lay::CHECK);
+    let start = lay::begun(p, end, out.len());
+    lay_rgetattr(out, start, lent, m, lay::PUT)
 }
 
 pub struct Tsetattr {
@@ -321,21 +352,29 @@ pub fn read_tsetattr(s: &[u8], p: Place) -> ReadTsetattr
     ReadTsetattr { value, next: p10 }
 }
 
-pub fn lay_tsetattr(out: &mut [u8], p: Place, lent: &[u8], m: Tsetattr, pass: Pass) -> Place
-    ensures { λ r. ⌜ Laid (layoutT 26) (now (lent .entry)) (tsetattr m) pass (now (out .entry)) p (now (out .exit)) r ⌝ }
+fn lay_tsetattr(out: &mut [u8], p: Place, lent: &[u8], m: Tsetattr, put: bool) -> Place
+    ensures { λ r. ⌜ Laid (layoutT 26) (now (lent .entry)) (tsetattr m) put (now (out .entry)) p (now (out .exit)) r ⌝ }
 {
     let fid = m.fid;
-    let p1 = lay::lay_u32(out, p, fid.0, pass);
-    let p2 = lay::lay_u32(out, p1, m.valid, pass);
-    let p3 = lay::lay_u32(out, p2, m.mode, pass);
-    let p4 = lay::lay_u32(out, p3, m.uid, pass);
+    let p1 = lay::lay_u32(out, p, fid.0, put);
+    let p2 = lay::lay_u32(out, p1, m.valid, put);
+    let p3 = lay::lay_u32(out, p2, m.mode, put);
+    let p4 = lay::lay_u32(out, p3, m.uid, put);
     let gid = m.gid;
-    let p5 = lay::lay_u32(out, p4, gid.0, pass);
-    let p6 = lay::lay_u64(out, p5, m.size, pass);
-    let p7 = lay::lay_u64(out, p6, m.atime_sec, pass);
-    let p8 = lay::lay_u64(out, p7, m.atime_nsec, pass);
-    let p9 = lay::lay_u64(out, p8, m.mtime_sec, pass);
-    lay::lay_u64(out, p9, m.mtime_nsec, pass)
+    let p5 = lay::lay_u32(out, p4, gid.0, put);
+    let p6 = lay::lay_u64(out, p5, m.size, put);
+    let p7 = lay::lay_u64(out, p6, m.atime_sec, put);
+    let p8 = lay::lay_u64(out, p7, m.atime_nsec, put);
+    let p9 = lay::lay_u64(out, p8, m.mtime_sec, put);
+    lay::lay_u64(out, p9, m.mtime_nsec, put)
+}
+
+pub fn write_tsetattr(out: &mut [u8], p: Place, lent: &[u8], m: Tsetattr) -> Place
+    ensures { λ r. ⌜ Written (layoutT 26) (now (lent .entry)) (tsetattr m) (now (out .entry)) p (now (out .exit)) r ⌝ }
+{
+    let end = lay_tsetattr(out, p, lent, m, lay::CHECK);
+    let start = lay::begun(p, end, out.len());
+    lay_tsetattr(out, start, lent, m, lay::PUT)
 }
 
 pub struct Txattrwalk {
@@ -365,15 +404,23 @@ pub fn read_txattrwalk(s: &[u8], p: Place) -> ReadTxattrwalk
     ReadTxattrwalk { value, next: p3 }
 }
 
-pub fn lay_txattrwalk(out: &mut [u8], p: Place, lent: &[u8], m: Txattrwalk, pass: Pass) -> Place
-    ensures { λ r. ⌜ Laid (layoutT 30) (now (lent .entry)) (txattrwalk m) pass (now (out .entry)) p (now (out .exit)) r ⌝ }
+fn lay_txattrwalk(out: &mut [u8], p: Place, lent: &[u8], m: Txattrwalk, put: bool) -> Place
+    ensures { λ r. ⌜ Laid (layoutT 30) (now (lent .entry)) (txattrwalk m) put (now (out .entry)) p (now (out .exit)) r ⌝ }
 {
     let fid = m.fid;
-    let p1 = lay::lay_u32(out, p, fid.0, pass);
+    let p1 = lay::lay_u32(out, p, fid.0, put);
     let newfid = m.newfid;
-    let p2 = lay::lay_u32(out, p1, newfid.0, pass);
+    let p2 = lay::lay_u32(out, p1, newfid.0, put);
     let name = m.name;
-    lay::lay_str(out, p2, lent, name, pass)
+    lay::lay_str(out, p2, lent, name, put)
+}
+
+pub fn write_txattrwalk(out: &mut [u8], p: Place, lent: &[u8], m: Txattrwalk) -> Place
+    ensures { λ r. ⌜ Written (layoutT 30) (now (lent .entry)) (txattrwalk m) (now (out .entry)) p (now (out .exit)) r ⌝ }
+{
+    let end = lay_txattrwalk(out, p, lent, m, lay::CHECK);
+    let start = lay::begun(p, end, out.len());
+    lay_txattrwalk(out, start, lent, m, lay::PUT)
 }
 
 pub struct Rxattrwalk {
@@ -394,10 +441,18 @@ pub fn read_rxattrwalk(s: &[u8], p: Place) -> ReadRxattrwalk
     ReadRxattrwalk { value, next: p1 }
 }
 
-pub fn lay_rxattrwalk(out: &mut [u8], p: Place, lent: &[u8], m: Rxattrwalk, pass: Pass) -> Place
-    ensures { λ r. ⌜ Laid (layoutR 31) (now (lent .entry)) (rxattrwalk m) pass (now (out .entry)) p (now (out .exit)) r ⌝ }
+fn lay_rxattrwalk(out: &mut [u8], p: Place, lent: &[u8], m: Rxattrwalk, put: bool) -> Place
+    ensures { λ r. ⌜ Laid (layoutR 31) (now (lent .entry)) (rxattrwalk m) put (now (out .entry)) p (now (out .exit)) r ⌝ }
 {
-    lay::lay_u64(out, p, m.size, pass)
+    lay::lay_u64(out, p, m.size, put)
+}
+
+pub fn write_rxattrwalk(out: &mut [u8], p: Place, lent: &[u8], m: Rxattrwalk) -> Place
+    ensures { λ r. ⌜ Written (layoutR 31) (now (lent .entry)) (rxattrwalk m) (now (out .entry)) p (now (out .exit)) r ⌝ }
+{
+    let end = lay_rxattrwalk(out, p, lent, m, lay::CHECK);
+    let start = lay::begun(p, end, out.len());
+    lay_rxattrwalk(out, start, lent, m, lay::PUT)
 }
 
 pub struct Txattrcreate {
@@ -434,13 +489,21 @@ pub fn read_txattrcreate(s: &[u8], p: Place) -> ReadTxattrcreate
     ReadTxattrcreate { value, next: p4 }
 }
 
-pub fn lay_txattrcreate(out: &mut [u8], p: Place, lent: &[u8], m: Txattrcreate, pass: Pass) -> Place
-    ensures { λ r. ⌜ Laid (layoutT 32) (now (lent .entry)) (txattrcreate m) pass (now (out .entry)) p (now (out .exit)) r ⌝ }
+fn lay_txattrcreate(out: &mut [u8], p: Place, lent: &[u8], m: Txattrcreate, put: bool) -> Place
+    ensures { λ r. ⌜ Laid (layoutT 32) (now (lent .entry)) (txattrcreate m) put (now (out .entry)) p (now (out .exit)) r ⌝ }
 {
     let fid = m.fid;
-    let p1 = lay::lay_u32(out, p, fid.0, pass);
+    let p1 = lay::lay_u32(out, p, fid.0, put);
     let name = m.name;
-    let p2 = lay::lay_str(out, p1, lent, name, pass);
-    let p3 = lay::lay_u64(out, p2, m.attr_size, pass);
-    lay::lay_u32(out, p3, m.flags, pass)
+    let p2 = lay::lay_str(out, p1, lent, name, put);
+    let p3 = lay::lay_u64(out, p2, m.attr_size, put);
+    lay::lay_u32(out, p3, m.flags, put)
+}
+
+pub fn write_txattrcreate(out: &mut [u8], p: Place, lent: &[u8], m: Txattrcreate) -> Place
+    ensures { λ r. ⌜ Written (layoutT 32) (now (lent .entry)) (txattrcreate m) (now (out .entry)) p (now (out .exit)) r ⌝ }
+{
+    let end = lay_txattrcreate(out, p, lent, m, lay::CHECK);
+    let start = lay::begun(p, end, out.len());
+    lay_txattrcreate(out, start, lent, m, lay::PUT)
 }

@@ -5,11 +5,10 @@ use crate::ids::Gid;
 use crate::qids;
 use crate::qids::Qid;
 use fields::lay;
-use fields::lay::Pass;
 use numbers::Place;
 use strings::Span;
 ghost use Rattle.fields.specs.Fields.{Fields};
-ghost use Rattle.fields.specs.Laying.{Laid};
+ghost use Rattle.fields.specs.Laying.{Laid, Written};
 ghost use Rattle.messages.specs.Tables.{layoutT, layoutR};
 ghost use Rattle.messages.specs.Records.{tsymlink, rsymlink, tmknod, rmknod, trename, treadlink, rreadlink, treaddir, rreaddir, tlink, tmkdir, rmkdir, trenameat, tunlinkat};
 
@@ -49,17 +48,25 @@ pub fn read_tsymlink(s: &[u8], p: Place) -> ReadTsymlink
     ReadTsymlink { value, next: p4 }
 }
 
-pub fn lay_tsymlink(out: &mut [u8], p: Place, lent: &[u8], m: Tsymlink, pass: Pass) -> Place
-    ensures { λ r. ⌜ Laid (layoutT 16) (now (lent .entry)) (tsymlink m) pass (now (out .entry)) p (now (out .exit)) r ⌝ }
+fn lay_tsymlink(out: &mut [u8], p: Place, lent: &[u8], m: Tsymlink, put: bool) -> Place
+    ensures { λ r. ⌜ Laid (layoutT 16) (now (lent .entry)) (tsymlink m) put (now (out .entry)) p (now (out .exit)) r ⌝ }
 {
     let fid = m.fid;
-    let p1 = lay::lay_u32(out, p, fid.0, pass);
+    let p1 = lay::lay_u32(out, p, fid.0, put);
     let name = m.name;
-    let p2 = lay::lay_str(out, p1, lent, name, pass);
+    let p2 = lay::lay_str(out, p1, lent, name, put);
     let symtgt = m.symtgt;
-    let p3 = lay::lay_str(out, p2, lent, symtgt, pass);
+    let p3 = lay::lay_str(out, p2, lent, symtgt, put);
     let gid = m.gid;
-    lay::lay_u32(out, p3, gid.0, pass)
+    lay::lay_u32(out, p3, gid.0, put)
+}
+
+pub fn write_tsymlink(out: &mut [u8], p: Place, lent: &[u8], m: Tsymlink) -> Place
+    ensures { λ r. ⌜ Written (layoutT 16) (now (lent .entry)) (tsymlink m) (now (out .entry)) p (now (out .exit)) r ⌝ }
+{
+    let end = lay_tsymlink(out, p, lent, m, lay::CHECK);
+    let start = lay::begun(p, end, out.len());
+    lay_tsymlink(out, start, lent, m, lay::PUT)
 }
 
 pub struct Rsymlink {
@@ -81,11 +88,19 @@ pub fn read_rsymlink(s: &[u8], p: Place) -> ReadRsymlink
     ReadRsymlink { value, next: p1 }
 }
 
-pub fn lay_rsymlink(out: &mut [u8], p: Place, lent: &[u8], m: Rsymlink, pass: Pass) -> Place
-    ensures { λ r. ⌜ Laid (layoutR 17) (now (lent .entry)) (rsymlink m) pass (now (out .entry)) p (now (out .exit)) r ⌝ }
+fn lay_rsymlink(out: &mut [u8], p: Place, lent: &[u8], m: Rsymlink, put: bool) -> Place
+    ensures { λ r. ⌜ Laid (layoutR 17) (now (lent .entry)) (rsymlink m) put (now (out .entry)) p (now (out .exit)) r ⌝ }
 {
     let qid = m.qid;
-    qids::lay_qid(out, p, lent, qid, pass)
+    qids::lay_qid(out, p, lent, qid, put)
+}
+
+pub fn write_rsymlink(out: &mut [u8], p: Place, lent: &[u8], m: Rsymlink) -> Place
+    ensures { λ r. ⌜ Written (layoutR 17) (now (lent .entry)) (rsymlink m) (now (out .entry)) p (now (out .exit)) r ⌝ }
+{
+    let end = lay_rsymlink(out, p, lent, m, lay::CHECK);
+    let start = lay::begun(p, end, out.len());
+    lay_rsymlink(out, start, lent, m, lay::PUT)
 }
 
 pub struct Tmknod {
@@ -131,18 +146,26 @@ pub fn read_tmknod(s: &[u8], p: Place) -> ReadTmknod
     ReadTmknod { value, next: p6 }
 }
 
-pub fn lay_tmknod(out: &mut [u8], p: Place, lent: &[u8], m: Tmknod, pass: Pass) -> Place
-    ensures { λ r. ⌜ Laid (layoutT 18) (now (lent .entry)) (tmknod m) pass (now (out .entry)) p (now (out .exit)) r ⌝ }
+fn lay_tmknod(out: &mut [u8], p: Place, lent: &[u8], m: Tmknod, put: bool) -> Place
+    ensures { λ r. ⌜ Laid (layoutT 18) (now (lent .entry)) (tmknod m) put (now (out .entry)) p (now (out .exit)) r ⌝ }
 {
     let dfid = m.dfid;
-    let p1 = lay::lay_u32(out, p, dfid.0, pass);
+    let p1 = lay::lay_u32(out, p, dfid.0, put);
     let name = m.name;
-    let p2 = lay::lay_str(out, p1, lent, name, pass);
-    let p3 = lay::lay_u32(out, p2, m.mode, pass);
-    let p4 = lay::lay_u32(out, p3, m.major, pass);
-    let p5 = lay::lay_u32(out, p4, m.minor, pass);
+    let p2 = lay::lay_str(out, p1, lent, name, put);
+    let p3 = lay::lay_u32(out, p2, m.mode, put);
+    let p4 = lay::lay_u32(out, p3, m.major, put);
+    let p5 = lay::lay_u32(out, p4, m.minor, put);
     let gid = m.gid;
-    lay::lay_u32(out, p5, gid.0, pass)
+    lay::lay_u32(out, p5, gid.0, put)
+}
+
+pub fn write_tmknod(out: &mut [u8], p: Place, lent: &[u8], m: Tmknod) -> Place
+    ensures { λ r. ⌜ Written (layoutT 18) (now (lent .entry)) (tmknod m) (now (out .entry)) p (now (out .exit)) r ⌝ }
+{
+    let end = lay_tmknod(out, p, lent, m, lay::CHECK);
+    let start = lay::begun(p, end, out.len());
+    lay_tmknod(out, start, lent, m, lay::PUT)
 }
 
 pub struct Rmknod {
@@ -164,11 +187,19 @@ pub fn read_rmknod(s: &[u8], p: Place) -> ReadRmknod
     ReadRmknod { value, next: p1 }
 }
 
-pub fn lay_rmknod(out: &mut [u8], p: Place, lent: &[u8], m: Rmknod, pass: Pass) -> Place
-    ensures { λ r. ⌜ Laid (layoutR 19) (now (lent .entry)) (rmknod m) pass (now (out .entry)) p (now (out .exit)) r ⌝ }
+fn lay_rmknod(out: &mut [u8], p: Place, lent: &[u8], m: Rmknod, put: bool) -> Place
+    ensures { λ r. ⌜ Laid (layoutR 19) (now (lent .entry)) (rmknod m) put (now (out .entry)) p (now (out .exit)) r ⌝ }
 {
     let qid = m.qid;
-    qids::lay_qid(out, p, lent, qid, pass)
+    qids::lay_qid(out, p, lent, qid, put)
+}
+
+pub fn write_rmknod(out: &mut [u8], p: Place, lent: &[u8], m: Rmknod) -> Place
+    ensures { λ r. ⌜ Written (layoutR 19) (now (lent .entry)) (rmknod m) (now (out .entry)) p (now (out .exit)) r ⌝ }
+{
+    let end = lay_rmknod(out, p, lent, m, lay::CHECK);
+    let start = lay::begun(p, end, out.len());
+    lay_rmknod(out, start, lent, m, lay::PUT)
 }
 
 pub struct Trename {
@@ -198,15 +229,23 @@ pub fn read_trename(s: &[u8], p: Place) -> ReadTrename
     ReadTrename { value, next: p3 }
 }
 
-pub fn lay_trename(out: &mut [u8], p: Place, lent: &[u8], m: Trename, pass: Pass) -> Place
-    ensures { λ r. ⌜ Laid (layoutT 20) (now (lent .entry)) (trename m) pass (now (out .entry)) p (now (out .exit)) r ⌝ }
+fn lay_trename(out: &mut [u8], p: Place, lent: &[u8], m: Trename, put: bool) -> Place
+    ensures { λ r. ⌜ Laid (layoutT 20) (now (lent .entry)) (trename m) put (now (out .entry)) p (now (out .exit)) r ⌝ }
 {
     let fid = m.fid;
-    let p1 = lay::lay_u32(out, p, fid.0, pass);
+    let p1 = lay::lay_u32(out, p, fid.0, put);
     let dfid = m.dfid;
-    let p2 = lay::lay_u32(out, p1, dfid.0, pass);
+    let p2 = lay::lay_u32(out, p1, dfid.0, put);
     let name = m.name;
-    lay::lay_str(out, p2, lent, name, pass)
+    lay::lay_str(out, p2, lent, name, put)
+}
+
+pub fn write_trename(out: &mut [u8], p: Place, lent: &[u8], m: Trename) -> Place
+    ensures { λ r. ⌜ Written (layoutT 20) (now (lent .entry)) (trename m) (now (out .entry)) p (now (out .exit)) r ⌝ }
+{
+    let end = lay_trename(out, p, lent, m, lay::CHECK);
+    let start = lay::begun(p, end, out.len());
+    lay_trename(out, start, lent, m, lay::PUT)
 }
 
 pub struct Treadlink {
@@ -228,11 +267,19 @@ pub fn read_treadlink(s: &[u8], p: Place) -> ReadTreadlink
     ReadTreadlink { value, next: p1 }
 }
 
-pub fn lay_treadlink(out: &mut [u8], p: Place, lent: &[u8], m: Treadlink, pass: Pass) -> Place
-    ensures { λ r. ⌜ Laid (layoutT 22) (now (lent .entry)) (treadlink m) pass (now (out .entry)) p (now (out .exit)) r ⌝ }
+fn lay_treadlink(out: &mut [u8], p: Place, lent: &[u8], m: Treadlink, put: bool) -> Place
+    ensures { λ r. ⌜ Laid (layoutT 22) (now (lent .entry)) (treadlink m) put (now (out .entry)) p (now (out .exit)) r ⌝ }
 {
     let fid = m.fid;
-    lay::lay_u32(out, p, fid.0, pass)
+    lay::lay_u32(out, p, fid.0, put)
+}
+
+pub fn write_treadlink(out: &mut [u8], p: Place, lent: &[u8], m: Treadlink) -> Place
+    ensures { λ r. ⌜ Written (layoutT 22) (now (lent .entry)) (treadlink m) (now (out .entry)) p (now (out .exit)) r ⌝ }
+{
+    let end = lay_treadlink(out, p, lent, m, lay::CHECK);
+    let start = lay::begun(p, end, out.len());
+    lay_treadlink(out, start, lent, m, lay::PUT)
 }
 
 pub struct Rreadlink {
@@ -254,11 +301,19 @@ pub fn read_rreadlink(s: &[u8], p: Place) -> ReadRreadlink
     ReadRreadlink { value, next: p1 }
 }
 
-pub fn lay_rreadlink(out: &mut [u8], p: Place, lent: &[u8], m: Rreadlink, pass: Pass) -> Place
-    ensures { λ r. ⌜ Laid (layoutR 23) (now (lent .entry)) (rreadlink m) pass (now (out .entry)) p (now (out .exit)) r ⌝ }
+fn lay_rreadlink(out: &mut [u8], p: Place, lent: &[u8], m: Rreadlink, put: bool) -> Place
+    ensures { λ r. ⌜ Laid (layoutR 23) (now (lent .entry)) (rreadlink m) put (now (out .entry)) p (now (out .exit)) r ⌝ }
 {
     let target = m.target;
-    lay::lay_str(out, p, lent, target, pass)
+    lay::lay_str(out, p, lent, target, put)
+}
+
+pub fn write_rreadlink(out: &mut [u8], p: Place, lent: &[u8], m: Rreadlink) -> Place
+    ensures { λ r. ⌜ Written (layoutR 23) (now (lent .entry)) (rreadlink m) (now (out .entry)) p (now (out .exit)) r ⌝ }
+{
+    let end = lay_rreadlink(out, p, lent, m, lay::CHECK);
+    let start = lay::begun(p, end, out.len());
+    lay_rreadlink(out, start, lent, m, lay::PUT)
 }
 
 pub struct Treaddir {
@@ -290,13 +345,21 @@ pub fn read_treaddir(s: &[u8], p: Place) -> ReadTreaddir
     ReadTreaddir { value, next: p3 }
 }
 
-pub fn lay_treaddir(out: &mut [u8], p: Place, lent: &[u8], m: Treaddir, pass: Pass) -> Place
-    ensures { λ r. ⌜ Laid (layoutT 40) (now (lent .entry)) (treaddir m) pass (now (out .entry)) p (now (out .exit)) r ⌝ }
+fn lay_treaddir(out: &mut [u8], p: Place, lent: &[u8], m: Treaddir, put: bool) -> Place
+    ensures { λ r. ⌜ Laid (layoutT 40) (now (lent .entry)) (treaddir m) put (now (out .entry)) p (now (out .exit)) r ⌝ }
 {
     let fid = m.fid;
-    let p1 = lay::lay_u32(out, p, fid.0, pass);
-    let p2 = lay::lay_u64(out, p1, m.offset, pass);
-    lay::lay_u32(out, p2, m.count, pass)
+    let p1 = lay::lay_u32(out, p, fid.0, put);
+    let p2 = lay::lay_u64(out, p1, m.offset, put);
+    lay::lay_u32(out, p2, m.count, put)
+}
+
+pub fn write_treaddir(out: &mut [u8], p: Place, lent: &[u8], m: Treaddir) -> Place
+    ensures { λ r. ⌜ Written (layoutT 40) (now (lent .entry)) (treaddir m) (now (out .entry)) p (now (out .exit)) r ⌝ }
+{
+    let end = lay_treaddir(out, p, lent, m, lay::CHECK);
+    let start = lay::begun(p, end, out.len());
+    lay_treaddir(out, start, lent, m, lay::PUT)
 }
 
 pub struct Rreaddir {
@@ -318,11 +381,19 @@ pub fn read_rreaddir(s: &[u8], p: Place) -> ReadRreaddir
     ReadRreaddir { value, next: p1 }
 }
 
-pub fn lay_rreaddir(out: &mut [u8], p: Place, lent: &[u8], m: Rreaddir, pass: Pass) -> Place
-    ensures { λ r. ⌜ Laid (layoutR 41) (now (lent .entry)) (rreaddir m) pass (now (out .entry)) p (now (out .exit)) r ⌝ }
+fn lay_rreaddir(out: &mut [u8], p: Place, lent: &[u8], m: Rreaddir, put: bool) -> Place
+    ensures { λ r. ⌜ Laid (layoutR 41) (now (lent .entry)) (rreaddir m) put (now (out .entry)) p (now (out .exit)) r ⌝ }
 {
     let data = m.data;
-    lay::lay_data(out, p, lent, data, pass)
+    lay::lay_data(out, p, lent, data, put)
+}
+
+pub fn write_rreaddir(out: &mut [u8], p: Place, lent: &[u8], m: Rreaddir) -> Place
+    ensures { λ r. ⌜ Written (layoutR 41) (now (lent .entry)) (rreaddir m) (now (out .entry)) p (now (out .exit)) r ⌝ }
+{
+    let end = lay_rreaddir(out, p, lent, m, lay::CHECK);
+    let start = lay::begun(p, end, out.len());
+    lay_rreaddir(out, start, lent, m, lay::PUT)
 }
 
 pub struct Tlink {
@@ -352,15 +423,23 @@ pub fn read_tlink(s: &[u8], p: Place) -> ReadTlink
     ReadTlink { value, next: p3 }
 }
 
-pub fn lay_tlink(out: &mut [u8], p: Place, lent: &[u8], m: Tlink, pass: Pass) -> Place
-    ensures { λ r. ⌜ Laid (layoutT 70) (now (lent .entry)) (tlink m) pass (now (out .entry)) p (now (out .exit)) r ⌝ }
+fn lay_tlink(out: &mut [u8], p: Place, lent: &[u8], m: Tlink, put: bool) -> Place
+    ensures { λ r. ⌜ Laid (layoutT 70) (now (lent .entry)) (tlink m) put (now (out .entry)) p (now (out .exit)) r ⌝ }
 {
     let dfid = m.dfid;
-    let p1 = lay::lay_u32(out, p, dfid.0, pass);
+    let p1 = lay::lay_u32(out, p, dfid.0, put);
     let fid = m.fid;
-    let p2 = lay::lay_u32(out, p1, fid.0, pass);
+    let p2 = lay::lay_u32(out, p1, fid.0, put);
     let name = m.name;
-    lay::lay_str(out, p2, lent, name, pass)
+    lay::lay_str(out, p2, lent, name, put)
+}
+
+pub fn write_tlink(out: &mut [u8], p: Place, lent: &[u8], m: Tlink) -> Place
+    ensures { λ r. ⌜ Written (layoutT 70) (now (lent .entry)) (tlink m) (now (out .entry)) p (now (out .exit)) r ⌝ }
+{
+    let end = lay_tlink(out, p, lent, m, lay::CHECK);
+    let start = lay::begun(p, end, out.len());
+    lay_tlink(out, start, lent, m, lay::PUT)
 }
 
 pub struct Tmkdir {
@@ -398,16 +477,24 @@ pub fn read_tmkdir(s: &[u8], p: Place) -> ReadTmkdir
     ReadTmkdir { value, next: p4 }
 }
 
-pub fn lay_tmkdir(out: &mut [u8], p: Place, lent: &[u8], m: Tmkdir, pass: Pass) -> Place
-    ensures { λ r. ⌜ Laid (layoutT 72) (now (lent .entry)) (tmkdir m) pass (now (out .entry)) p (now (out .exit)) r ⌝ }
+fn lay_tmkdir(out: &mut [u8], p: Place, lent: &[u8], m: Tmkdir, put: bool) -> Place
+    ensures { λ r. ⌜ Laid (layoutT 72) (now (lent .entry)) (tmkdir m) put (now (out .entry)) p (now (out .exit)) r ⌝ }
 {
     let dfid = m.dfid;
-    let p1 = lay::lay_u32(out, p, dfid.0, pass);
+    let p1 = lay::lay_u32(out, p, dfid.0, put);
     let name = m.name;
-    let p2 = lay::lay_str(out, p1, lent, name, pass);
-    let p3 = lay::lay_u32(out, p2, m.mode, pass);
+    let p2 = lay::lay_str(out, p1, lent, name, put);
+    let p3 = lay::lay_u32(out, p2, m.mode, put);
     let gid = m.gid;
-    lay::lay_u32(out, p3, gid.0, pass)
+    lay::lay_u32(out, p3, gid.0, put)
+}
+
+pub fn write_tmkdir(out: &mut [u8], p: Place, lent: &[u8], m: Tmkdir) -> Place
+    ensures { λ r. ⌜ Written (layoutT 72) (now (lent .entry)) (tmkdir m) (now (out .entry)) p (now (out .exit)) r ⌝ }
+{
+    let end = lay_tmkdir(out, p, lent, m, lay::CHECK);
+    let start = lay::begun(p, end, out.len());
+    lay_tmkdir(out, start, lent, m, lay::PUT)
 }
 
 pub struct Rmkdir {
@@ -429,11 +516,19 @@ pub fn read_rmkdir(s: &[u8], p: Place) -> ReadRmkdir
     ReadRmkdir { value, next: p1 }
 }
 
-pub fn lay_rmkdir(out: &mut [u8], p: Place, lent: &[u8], m: Rmkdir, pass: Pass) -> Place
-    ensures { λ r. ⌜ Laid (layoutR 73) (now (lent .entry)) (rmkdir m) pass (now (out .entry)) p (now (out .exit)) r ⌝ }
+fn lay_rmkdir(out: &mut [u8], p: Place, lent: &[u8], m: Rmkdir, put: bool) -> Place
+    ensures { λ r. ⌜ Laid (layoutR 73) (now (lent .entry)) (rmkdir m) put (now (out .entry)) p (now (out .exit)) r ⌝ }
 {
     let qid = m.qid;
-    qids::lay_qid(out, p, lent, qid, pass)
+    qids::lay_qid(out, p, lent, qid, put)
+}
+
+pub fn write_rmkdir(out: &mut [u8], p: Place, lent: &[u8], m: Rmkdir) -> Place
+    ensures { λ r. ⌜ Written (layoutR 73) (now (lent .entry)) (rmkdir m) (now (out .entry)) p (now (out .exit)) r ⌝ }
+{
+    let end = lay_rmkdir(out, p, lent, m, lay::CHECK);
+    let start = lay::begun(p, end, out.len());
+    lay_rmkdir(out, start, lent, m, lay::PUT)
 }
 
 pub struct Trenameat {
@@ -472,17 +567,25 @@ pub fn read_trenameat(s: &[u8], p: Place) -> ReadTrenameat
     ReadTrenameat { value, next: p4 }
 }
 
-pub fn lay_trenameat(out: &mut [u8], p: Place, lent: &[u8], m: Trenameat, pass: Pass) -> Place
-    ensures { λ r. ⌜ Laid (layoutT 74) (now (lent .entry)) (trenameat m) pass (now (out .entry)) p (now (out .exit)) r ⌝ }
+fn lay_trenameat(out: &mut [u8], p: Place, lent: &[u8], m: Trenameat, put: bool) -> Place
+    ensures { λ r. ⌜ Laid (layoutT 74) (now (lent .entry)) (trenameat m) put (now (out .entry)) p (now (out .exit)) r ⌝ }
 {
     let olddirfid = m.olddirfid;
-    let p1 = lay::lay_u32(out, p, olddirfid.0, pass);
+    let p1 = lay::lay_u32(out, p, olddirfid.0, put);
     let oldname = m.oldname;
-    let p2 = lay::lay_str(out, p1, lent, oldname, pass);
+    let p2 = lay::lay_str(out, p1, lent, oldname, put);
     let newdirfid = m.newdirfid;
-    let p3 = lay::lay_u32(out, p2, newdirfid.0, pass);
+    let p3 = lay::lay_u32(out, p2, newdirfid.0, put);
     let newname = m.newname;
-    lay::lay_str(out, p3, lent, newname, pass)
+    lay::lay_str(out, p3, lent, newname, put)
+}
+
+pub fn write_trenameat(out: &mut [u8], p: Place, lent: &[u8], m: Trenameat) -> Place
+    ensures { λ r. ⌜ Written (layoutT 74) (now (lent .entry)) (trenameat m) (now (out .entry)) p (now (out .exit)) r ⌝ }
+{
+    let end = lay_trenameat(out, p, lent, m, lay::CHECK);
+    let start = lay::begun(p, end, out.len());
+    lay_trenameat(out, start, lent, m, lay::PUT)
 }
 
 pub struct Tunlinkat {
@@ -515,12 +618,20 @@ pub fn read_tunlinkat(s: &[u8], p: Place) -> ReadTunlinkat
     ReadTunlinkat { value, next: p3 }
 }
 
-pub fn lay_tunlinkat(out: &mut [u8], p: Place, lent: &[u8], m: Tunlinkat, pass: Pass) -> Place
-    ensures { λ r. ⌜ Laid (layoutT 76) (now (lent .entry)) (tunlinkat m) pass (now (out .entry)) p (now (out .exit)) r ⌝ }
+fn lay_tunlinkat(out: &mut [u8], p: Place, lent: &[u8], m: Tunlinkat, put: bool) -> Place
+    ensures { λ r. ⌜ Laid (layoutT 76) (now (lent .entry)) (tunlinkat m) put (now (out .entry)) p (now (out .exit)) r ⌝ }
 {
     let dirfd = m.dirfd;
-    let p1 = lay::lay_u32(out, p, dirfd.0, pass);
+    let p1 = lay::lay_u32(out, p, dirfd.0, put);
     let name = m.name;
-    let p2 = lay::lay_str(out, p1, lent, name, pass);
-    lay::lay_u32(out, p2, m.flags, pass)
+    let p2 = lay::lay_str(out, p1, lent, name, put);
+    lay::lay_u32(out, p2, m.flags, put)
+}
+
+pub fn write_tunlinkat(out: &mut [u8], p: Place, lent: &[u8], m: Tunlinkat) -> Place
+    ensures { λ r. ⌜ Written (layoutT 76) (now (lent .entry)) (tunlinkat m) (now (out .entry)) p (now (out .exit)) r ⌝ }
+{
+    let end = lay_tunlinkat(out, p, lent, m, lay::CHECK);
+    let start = lay::begun(p, end, out.len());
+    lay_tunlinkat(out, start, lent, m, lay::PUT)
 }

@@ -4,7 +4,6 @@
 use crate::qids;
 use crate::qids::Qid;
 use fields::lay;
-use fields::lay::Pass;
 use numbers::Place;
 use strings::Span;
 ghost use Rattle.fields.specs.Fields.{Fields};
@@ -46,25 +45,22 @@ pub fn read_dirent(s: &[u8], p: Place) -> ReadDirent
     ReadDirent { value, next: p4 }
 }
 
-pub fn lay_dirent(out: &mut [u8], p: Place, lent: &[u8], m: Dirent, pass: Pass) -> Place
-    ensures { λ r. ⌜ Laid layoutDirent (now (lent .entry)) (dirent m) pass (now (out .entry)) p (now (out .exit)) r ⌝ }
+fn lay_dirent(out: &mut [u8], p: Place, lent: &[u8], m: Dirent, put: bool) -> Place
+    ensures { λ r. ⌜ Laid layoutDirent (now (lent .entry)) (dirent m) put (now (out .entry)) p (now (out .exit)) r ⌝ }
 {
     let qid = m.qid;
-    let p1 = qids::lay_qid(out, p, lent, qid, pass);
-    let p2 = lay::lay_u64(out, p1, m.offset, pass);
-    let p3 = lay::lay_u8(out, p2, m.ty, pass);
+    let p1 = qids::lay_qid(out, p, lent, qid, put);
+    let p2 = lay::lay_u64(out, p1, m.offset, put);
+    let p3 = lay::lay_u8(out, p2, m.ty, put);
     let name = m.name;
-    lay::lay_str(out, p3, lent, name, pass)
+    lay::lay_str(out, p3, lent, name, put)
 }
 
 // A whole entry written at a place: 9, 7, 5, 6, then 10, then 11; a refusal leaves the output as it was.
 pub fn write_dirent(out: &mut [u8], p: Place, lent: &[u8], m: Dirent) -> Place
     ensures { λ r. ⌜ Written layoutDirent (now (lent .entry)) (dirent m) (now (out .entry)) p (now (out .exit)) r ⌝ }
 {
-    let end = lay_dirent(out, p, lent, m, Pass::Check);
-    let q = lay::settled(end, out.len());
-    let Place::At(_) = q else {
-        return q;
-    };
-    lay_dirent(out, p, lent, m, Pass::Put)
+    let end = lay_dirent(out, p, lent, m, lay::CHECK);
+    let start = lay::begun(p, end, out.len());
+    lay_dirent(out, start, lent, m, lay::PUT)
 }

@@ -5,11 +5,10 @@ use crate::ids::Gid;
 use crate::qids;
 use crate::qids::Qid;
 use fields::lay;
-use fields::lay::Pass;
 use numbers::Place;
 use strings::Span;
 ghost use Rattle.fields.specs.Fields.{Fields};
-ghost use Rattle.fields.specs.Laying.{Laid};
+ghost use Rattle.fields.specs.Laying.{Laid, Written};
 ghost use Rattle.messages.specs.Tables.{layoutT, layoutR};
 ghost use Rattle.messages.specs.Records.{tlopen, rlopen, tlcreate, rlcreate, tread, rread, twrite, rwrite, tfsync, tremove};
 
@@ -38,12 +37,20 @@ pub fn read_tlopen(s: &[u8], p: Place) -> ReadTlopen
     ReadTlopen { value, next: p2 }
 }
 
-pub fn lay_tlopen(out: &mut [u8], p: Place, lent: &[u8], m: Tlopen, pass: Pass) -> Place
-    ensures { λ r. ⌜ Laid (layoutT 12) (now (lent .entry)) (tlopen m) pass (now (out .entry)) p (now (out .exit)) r ⌝ }
+fn lay_tlopen(out: &mut [u8], p: Place, lent: &[u8], m: Tlopen, put: bool) -> Place
+    ensures { λ r. ⌜ Laid (layoutT 12) (now (lent .entry)) (tlopen m) put (now (out .entry)) p (now (out .exit)) r ⌝ }
 {
     let fid = m.fid;
-    let p1 = lay::lay_u32(out, p, fid.0, pass);
-    lay::lay_u32(out, p1, m.flags, pass)
+    let p1 = lay::lay_u32(out, p, fid.0, put);
+    lay::lay_u32(out, p1, m.flags, put)
+}
+
+pub fn write_tlopen(out: &mut [u8], p: Place, lent: &[u8], m: Tlopen) -> Place
+    ensures { λ r. ⌜ Written (layoutT 12) (now (lent .entry)) (tlopen m) (now (out .entry)) p (now (out .exit)) r ⌝ }
+{
+    let end = lay_tlopen(out, p, lent, m, lay::CHECK);
+    let start = lay::begun(p, end, out.len());
+    lay_tlopen(out, start, lent, m, lay::PUT)
 }
 
 pub struct Rlopen {
@@ -71,12 +78,20 @@ pub fn read_rlopen(s: &[u8], p: Place) -> ReadRlopen
     ReadRlopen { value, next: p2 }
 }
 
-pub fn lay_rlopen(out: &mut [u8], p: Place, lent: &[u8], m: Rlopen, pass: Pass) -> Place
-    ensures { λ r. ⌜ Laid (layoutR 13) (now (lent .entry)) (rlopen m) pass (now (out .entry)) p (now (out .exit)) r ⌝ }
+fn lay_rlopen(out: &mut [u8], p: Place, lent: &[u8], m: Rlopen, put: bool) -> Place
+    ensures { λ r. ⌜ Laid (layoutR 13) (now (lent .entry)) (rlopen m) put (now (out .entry)) p (now (out .exit)) r ⌝ }
 {
     let qid = m.qid;
-    let p1 = qids::lay_qid(out, p, lent, qid, pass);
-    lay::lay_u32(out, p1, m.iounit, pass)
+    let p1 = qids::lay_qid(out, p, lent, qid, put);
+    lay::lay_u32(out, p1, m.iounit, put)
+}
+
+pub fn write_rlopen(out: &mut [u8], p: Place, lent: &[u8], m: Rlopen) -> Place
+    ensures { λ r. ⌜ Written (layoutR 13) (now (lent .entry)) (rlopen m) (now (out .entry)) p (now (out .exit)) r ⌝ }
+{
+    let end = lay_rlopen(out, p, lent, m, lay::CHECK);
+    let start = lay::begun(p, end, out.len());
+    lay_rlopen(out, start, lent, m, lay::PUT)
 }
 
 pub struct Tlcreate {
@@ -118,17 +133,25 @@ pub fn read_tlcreate(s: &[u8], p: Place) -> ReadTlcreate
     ReadTlcreate { value, next: p5 }
 }
 
-pub fn lay_tlcreate(out: &mut [u8], p: Place, lent: &[u8], m: Tlcreate, pass: Pass) -> Place
-    ensures { λ r. ⌜ Laid (layoutT 14) (now (lent .entry)) (tlcreate m) pass (now (out .entry)) p (now (out .exit)) r ⌝ }
+fn lay_tlcreate(out: &mut [u8], p: Place, lent: &[u8], m: Tlcreate, put: bool) -> Place
+    ensures { λ r. ⌜ Laid (layoutT 14) (now (lent .entry)) (tlcreate m) put (now (out .entry)) p (now (out .exit)) r ⌝ }
 {
     let fid = m.fid;
-    let p1 = lay::lay_u32(out, p, fid.0, pass);
+    let p1 = lay::lay_u32(out, p, fid.0, put);
     let name = m.name;
-    let p2 = lay::lay_str(out, p1, lent, name, pass);
-    let p3 = lay::lay_u32(out, p2, m.flags, pass);
-    let p4 = lay::lay_u32(out, p3, m.mode, pass);
+    let p2 = lay::lay_str(out, p1, lent, name, put);
+    let p3 = lay::lay_u32(out, p2, m.flags, put);
+    let p4 = lay::lay_u32(out, p3, m.mode, put);
     let gid = m.gid;
-    lay::lay_u32(out, p4, gid.0, pass)
+    lay::lay_u32(out, p4, gid.0, put)
+}
+
+pub fn write_tlcreate(out: &mut [u8], p: Place, lent: &[u8], m: Tlcreate) -> Place
+    ensures { λ r. ⌜ Written (layoutT 14) (now (lent .entry)) (tlcreate m) (now (out .entry)) p (now (out .exit)) r ⌝ }
+{
+    let end = lay_tlcreate(out, p, lent, m, lay::CHECK);
+    let start = lay::begun(p, end, out.len());
+    lay_tlcreate(out, start, lent, m, lay::PUT)
 }
 
 pub struct Rlcreate {
@@ -156,12 +179,20 @@ pub fn read_rlcreate(s: &[u8], p: Place) -> ReadRlcreate
     ReadRlcreate { value, next: p2 }
 }
 
-pub fn lay_rlcreate(out: &mut [u8], p: Place, lent: &[u8], m: Rlcreate, pass: Pass) -> Place
-    ensures { λ r. ⌜ Laid (layoutR 15) (now (lent .entry)) (rlcreate m) pass (now (out .entry)) p (now (out .exit)) r ⌝ }
+fn lay_rlcreate(out: &mut [u8], p: Place, lent: &[u8], m: Rlcreate, put: bool) -> Place
+    ensures { λ r. ⌜ Laid (layoutR 15) (now (lent .entry)) (rlcreate m) put (now (out .entry)) p (now (out .exit)) r ⌝ }
 {
     let qid = m.qid;
-    let p1 = qids::lay_qid(out, p, lent, qid, pass);
-    lay::lay_u32(out, p1, m.iounit, pass)
+    let p1 = qids::lay_qid(out, p, lent, qid, put);
+    lay::lay_u32(out, p1, m.iounit, put)
+}
+
+pub fn write_rlcreate(out: &mut [u8], p: Place, lent: &[u8], m: Rlcreate) -> Place
+    ensures { λ r. ⌜ Written (layoutR 15) (now (lent .entry)) (rlcreate m) (now (out .entry)) p (now (out .exit)) r ⌝ }
+{
+    let end = lay_rlcreate(out, p, lent, m, lay::CHECK);
+    let start = lay::begun(p, end, out.len());
+    lay_rlcreate(out, start, lent, m, lay::PUT)
 }
 
 pub struct Tread {
@@ -193,13 +224,21 @@ pub fn read_tread(s: &[u8], p: Place) -> ReadTread
     ReadTread { value, next: p3 }
 }
 
-pub fn lay_tread(out: &mut [u8], p: Place, lent: &[u8], m: Tread, pass: Pass) -> Place
-    ensures { λ r. ⌜ Laid (layoutT 116) (now (lent .entry)) (tread m) pass (now (out .entry)) p (now (out .exit)) r ⌝ }
+fn lay_tread(out: &mut [u8], p: Place, lent: &[u8], m: Tread, put: bool) -> Place
+    ensures { λ r. ⌜ Laid (layoutT 116) (now (lent .entry)) (tread m) put (now (out .entry)) p (now (out .exit)) r ⌝ }
 {
     let fid = m.fid;
-    let p1 = lay::lay_u32(out, p, fid.0, pass);
-    let p2 = lay::lay_u64(out, p1, m.offset, pass);
-    lay::lay_u32(out, p2, m.count, pass)
+    let p1 = lay::lay_u32(out, p, fid.0, put);
+    let p2 = lay::lay_u64(out, p1, m.offset, put);
+    lay::lay_u32(out, p2, m.count, put)
+}
+
+pub fn write_tread(out: &mut [u8], p: Place, lent: &[u8], m: Tread) -> Place
+    ensures { λ r. ⌜ Written (layoutT 116) (now (lent .entry)) (tread m) (now (out .entry)) p (now (out .exit)) r ⌝ }
+{
+    let end = lay_tread(out, p, lent, m, lay::CHECK);
+    let start = lay::begun(p, end, out.len());
+    lay_tread(out, start, lent, m, lay::PUT)
 }
 
 pub struct Rread {
@@ -221,11 +260,19 @@ pub fn read_rread(s: &[u8], p: Place) -> ReadRread
     ReadRread { value, next: p1 }
 }
 
-pub fn lay_rread(out: &mut [u8], p: Place, lent: &[u8], m: Rread, pass: Pass) -> Place
-    ensures { λ r. ⌜ Laid (layoutR 117) (now (lent .entry)) (rread m) pass (now (out .entry)) p (now (out .exit)) r ⌝ }
+fn lay_rread(out: &mut [u8], p: Place, lent: &[u8], m: Rread, put: bool) -> Place
+    ensures { λ r. ⌜ Laid (layoutR 117) (now (lent .entry)) (rread m) put (now (out .entry)) p (now (out .exit)) r ⌝ }
 {
     let data = m.data;
-    lay::lay_data(out, p, lent, data, pass)
+    lay::lay_data(out, p, lent, data, put)
+}
+
+pub fn write_rread(out: &mut [u8], p: Place, lent: &[u8], m: Rread) -> Place
+    ensures { λ r. ⌜ Written (layoutR 117) (now (lent .entry)) (rread m) (now (out .entry)) p (now (out .exit)) r ⌝ }
+{
+    let end = lay_rread(out, p, lent, m, lay::CHECK);
+    let start = lay::begun(p, end, out.len());
+    lay_rread(out, start, lent, m, lay::PUT)
 }
 
 pub struct Twrite {
@@ -258,14 +305,22 @@ pub fn read_twrite(s: &[u8], p: Place) -> ReadTwrite
     ReadTwrite { value, next: p3 }
 }
 
-pub fn lay_twrite(out: &mut [u8], p: Place, lent: &[u8], m: Twrite, pass: Pass) -> Place
-    ensures { λ r. ⌜ Laid (layoutT 118) (now (lent .entry)) (twrite m) pass (now (out .entry)) p (now (out .exit)) r ⌝ }
+fn lay_twrite(out: &mut [u8], p: Place, lent: &[u8], m: Twrite, put: bool) -> Place
+    ensures { λ r. ⌜ Laid (layoutT 118) (now (lent .entry)) (twrite m) put (now (out .entry)) p (now (out .exit)) r ⌝ }
 {
     let fid = m.fid;
-    let p1 = lay::lay_u32(out, p, fid.0, pass);
-    let p2 = lay::lay_u64(out, p1, m.offset, pass);
+    let p1 = lay::lay_u32(out, p, fid.0, put);
+    let p2 = lay::lay_u64(out, p1, m.offset, put);
     let data = m.data;
-    lay::lay_data(out, p2, lent, data, pass)
+    lay::lay_data(out, p2, lent, data, put)
+}
+
+pub fn write_twrite(out: &mut [u8], p: Place, lent: &[u8], m: Twrite) -> Place
+    ensures { λ r. ⌜ Written (layoutT 118) (now (lent .entry)) (twrite m) (now (out .entry)) p (now (out .exit)) r ⌝ }
+{
+    let end = lay_twrite(out, p, lent, m, lay::CHECK);
+    let start = lay::begun(p, end, out.len());
+    lay_twrite(out, start, lent, m, lay::PUT)
 }
 
 pub struct Rwrite {
@@ -286,10 +341,18 @@ pub fn read_rwrite(s: &[u8], p: Place) -> ReadRwrite
     ReadRwrite { value, next: p1 }
 }
 
-pub fn lay_rwrite(out: &mut [u8], p: Place, lent: &[u8], m: Rwrite, pass: Pass) -> Place
-    ensures { λ r. ⌜ Laid (layoutR 119) (now (lent .entry)) (rwrite m) pass (now (out .entry)) p (now (out .exit)) r ⌝ }
+fn lay_rwrite(out: &mut [u8], p: Place, lent: &[u8], m: Rwrite, put: bool) -> Place
+    ensures { λ r. ⌜ Laid (layoutR 119) (now (lent .entry)) (rwrite m) put (now (out .entry)) p (now (out .exit)) r ⌝ }
 {
-    lay::lay_u32(out, p, m.count, pass)
+    lay::lay_u32(out, p, m.count, put)
+}
+
+pub fn write_rwrite(out: &mut [u8], p: Place, lent: &[u8], m: Rwrite) -> Place
+    ensures { λ r. ⌜ Written (layoutR 119) (now (lent .entry)) (rwrite m) (now (out .entry)) p (now (out .exit)) r ⌝ }
+{
+    let end = lay_rwrite(out, p, lent, m, lay::CHECK);
+    let start = lay::begun(p, end, out.len());
+    lay_rwrite(out, start, lent, m, lay::PUT)
 }
 
 pub struct Tfsync {
@@ -317,12 +380,20 @@ pub fn read_tfsync(s: &[u8], p: Place) -> ReadTfsync
     ReadTfsync { value, next: p2 }
 }
 
-pub fn lay_tfsync(out: &mut [u8], p: Place, lent: &[u8], m: Tfsync, pass: Pass) -> Place
-    ensures { λ r. ⌜ Laid (layoutT 50) (now (lent .entry)) (tfsync m) pass (now (out .entry)) p (now (out .exit)) r ⌝ }
+fn lay_tfsync(out: &mut [u8], p: Place, lent: &[u8], m: Tfsync, put: bool) -> Place
+    ensures { λ r. ⌜ Laid (layoutT 50) (now (lent .entry)) (tfsync m) put (now (out .entry)) p (now (out .exit)) r ⌝ }
 {
     let fid = m.fid;
-    let p1 = lay::lay_u32(out, p, fid.0, pass);
-    lay::lay_u32(out, p1, m.datasync, pass)
+    let p1 = lay::lay_u32(out, p, fid.0, put);
+    lay::lay_u32(out, p1, m.datasync, put)
+}
+
+pub fn write_tfsync(out: &mut [u8], p: Place, lent: &[u8], m: Tfsync) -> Place
+    ensures { λ r. ⌜ Written (layoutT 50) (now (lent .entry)) (tfsync m) (now (out .entry)) p (now (out .exit)) r ⌝ }
+{
+    let end = lay_tfsync(out, p, lent, m, lay::CHECK);
+    let start = lay::begun(p, end, out.len());
+    lay_tfsync(out, start, lent, m, lay::PUT)
 }
 
 pub struct Tremove {
@@ -344,9 +415,17 @@ pub fn read_tremove(s: &[u8], p: Place) -> ReadTremove
     ReadTremove { value, next: p1 }
 }
 
-pub fn lay_tremove(out: &mut [u8], p: Place, lent: &[u8], m: Tremove, pass: Pass) -> Place
-    ensures { λ r. ⌜ Laid (layoutT 122) (now (lent .entry)) (tremove m) pass (now (out .entry)) p (now (out .exit)) r ⌝ }
+fn lay_tremove(out: &mut [u8], p: Place, lent: &[u8], m: Tremove, put: bool) -> Place
+    ensures { λ r. ⌜ Laid (layoutT 122) (now (lent .entry)) (tremove m) put (now (out .entry)) p (now (out .exit)) r ⌝ }
 {
     let fid = m.fid;
-    lay::lay_u32(out, p, fid.0, pass)
+    lay::lay_u32(out, p, fid.0, put)
+}
+
+pub fn write_tremove(out: &mut [u8], p: Place, lent: &[u8], m: Tremove) -> Place
+    ensures { λ r. ⌜ Written (layoutT 122) (now (lent .entry)) (tremove m) (now (out .entry)) p (now (out .exit)) r ⌝ }
+{
+    let end = lay_tremove(out, p, lent, m, lay::CHECK);
+    let start = lay::begun(p, end, out.len());
+    lay_tremove(out, start, lent, m, lay::PUT)
 }

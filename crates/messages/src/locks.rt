@@ -2,11 +2,10 @@
 
 use crate::ids::Fid;
 use fields::lay;
-use fields::lay::Pass;
 use numbers::Place;
 use strings::Span;
 ghost use Rattle.fields.specs.Fields.{Fields};
-ghost use Rattle.fields.specs.Laying.{Laid};
+ghost use Rattle.fields.specs.Laying.{Laid, Written};
 ghost use Rattle.messages.specs.Tables.{layoutT, layoutR};
 ghost use Rattle.messages.specs.Records.{tlock, rlock, tgetlock, rgetlock};
 
@@ -56,18 +55,26 @@ pub fn read_tlock(s: &[u8], p: Place) -> ReadTlock
     ReadTlock { value, next: p7 }
 }
 
-pub fn lay_tlock(out: &mut [u8], p: Place, lent: &[u8], m: Tlock, pass: Pass) -> Place
-    ensures { λ r. ⌜ Laid (layoutT 52) (now (lent .entry)) (tlock m) pass (now (out .entry)) p (now (out .exit)) r ⌝ }
+fn lay_tlock(out: &mut [u8], p: Place, lent: &[u8], m: Tlock, put: bool) -> Place
+    ensures { λ r. ⌜ Laid (layoutT 52) (now (lent .entry)) (tlock m) put (now (out .entry)) p (now (out .exit)) r ⌝ }
 {
     let fid = m.fid;
-    let p1 = lay::lay_u32(out, p, fid.0, pass);
-    let p2 = lay::lay_u8(out, p1, m.type_, pass);
-    let p3 = lay::lay_u32(out, p2, m.flags, pass);
-    let p4 = lay::lay_u64(out, p3, m.start, pass);
-    let p5 = lay::lay_u64(out, p4, m.length, pass);
-    let p6 = lay::lay_u32(out, p5, m.proc_id, pass);
+    let p1 = lay::lay_u32(out, p, fid.0, put);
+    let p2 = lay::lay_u8(out, p1, m.type_, put);
+    let p3 = lay::lay_u32(out, p2, m.flags, put);
+    let p4 = lay::lay_u64(out, p3, m.start, put);
+    let p5 = lay::lay_u64(out, p4, m.length, put);
+    let p6 = lay::lay_u32(out, p5, m.proc_id, put);
     let client_id = m.client_id;
-    lay::lay_str(out, p6, lent, client_id, pass)
+    lay::lay_str(out, p6, lent, client_id, put)
+}
+
+pub fn write_tlock(out: &mut [u8], p: Place, lent: &[u8], m: Tlock) -> Place
+    ensures { λ r. ⌜ Written (layoutT 52) (now (lent .entry)) (tlock m) (now (out .entry)) p (now (out .exit)) r ⌝ }
+{
+    let end = lay_tlock(out, p, lent, m, lay::CHECK);
+    let start = lay::begun(p, end, out.len());
+    lay_tlock(out, start, lent, m, lay::PUT)
 }
 
 pub struct Rlock {
@@ -88,10 +95,18 @@ pub fn read_rlock(s: &[u8], p: Place) -> ReadRlock
     ReadRlock { value, next: p1 }
 }
 
-pub fn lay_rlock(out: &mut [u8], p: Place, lent: &[u8], m: Rlock, pass: Pass) -> Place
-    ensures { λ r. ⌜ Laid (layoutR 53) (now (lent .entry)) (rlock m) pass (now (out .entry)) p (now (out .exit)) r ⌝ }
+fn lay_rlock(out: &mut [u8], p: Place, lent: &[u8], m: Rlock, put: bool) -> Place
+    ensures { λ r. ⌜ Laid (layoutR 53) (now (lent .entry)) (rlock m) put (now (out .entry)) p (now (out .exit)) r ⌝ }
 {
-    lay::lay_u8(out, p, m.status, pass)
+    lay::lay_u8(out, p, m.status, put)
+}
+
+pub fn write_rlock(out: &mut [u8], p: Place, lent: &[u8], m: Rlock) -> Place
+    ensures { λ r. ⌜ Written (layoutR 53) (now (lent .entry)) (rlock m) (now (out .entry)) p (now (out .exit)) r ⌝ }
+{
+    let end = lay_rlock(out, p, lent, m, lay::CHECK);
+    let start = lay::begun(p, end, out.len());
+    lay_rlock(out, start, lent, m, lay::PUT)
 }
 
 pub struct Tgetlock {
@@ -136,17 +151,25 @@ pub fn read_tgetlock(s: &[u8], p: Place) -> ReadTgetlock
     ReadTgetlock { value, next: p6 }
 }
 
-pub fn lay_tgetlock(out: &mut [u8], p: Place, lent: &[u8], m: Tgetlock, pass: Pass) -> Place
-    ensures { λ r. ⌜ Laid (layoutT 54) (now (lent .entry)) (tgetlock m) pass (now (out .entry)) p (now (out .exit)) r ⌝ }
+fn lay_tgetlock(out: &mut [u8], p: Place, lent: &[u8], m: Tgetlock, put: bool) -> Place
+    ensures { λ r. ⌜ Laid (layoutT 54) (now (lent .entry)) (tgetlock m) put (now (out .entry)) p (now (out .exit)) r ⌝ }
 {
     let fid = m.fid;
-    let p1 = lay::lay_u32(out, p, fid.0, pass);
-    let p2 = lay::lay_u8(out, p1, m.type_, pass);
-    let p3 = lay::lay_u64(out, p2, m.start, pass);
-    let p4 = lay::lay_u64(out, p3, m.length, pass);
-    let p5 = lay::lay_u32(out, p4, m.proc_id, pass);
+    let p1 = lay::lay_u32(out, p, fid.0, put);
+    let p2 = lay::lay_u8(out, p1, m.type_, put);
+    let p3 = lay::lay_u64(out, p2, m.start, put);
+    let p4 = lay::lay_u64(out, p3, m.length, put);
+    let p5 = lay::lay_u32(out, p4, m.proc_id, put);
     let client_id = m.client_id;
-    lay::lay_str(out, p5, lent, client_id, pass)
+    lay::lay_str(out, p5, lent, client_id, put)
+}
+
+pub fn write_tgetlock(out: &mut [u8], p: Place, lent: &[u8], m: Tgetlock) -> Place
+    ensures { λ r. ⌜ Written (layoutT 54) (now (lent .entry)) (tgetlock m) (now (out .entry)) p (now (out .exit)) r ⌝ }
+{
+    let end = lay_tgetlock(out, p, lent, m, lay::CHECK);
+    let start = lay::begun(p, end, out.len());
+    lay_tgetlock(out, start, lent, m, lay::PUT)
 }
 
 pub struct Rgetlock {
@@ -186,13 +209,21 @@ pub fn read_rgetlock(s: &[u8], p: Place) -> ReadRgetlock
     ReadRgetlock { value, next: p5 }
 }
 
-pub fn lay_rgetlock(out: &mut [u8], p: Place, lent: &[u8], m: Rgetlock, pass: Pass) -> Place
-    ensures { λ r. ⌜ Laid (layoutR 55) (now (lent .entry)) (rgetlock m) pass (now (out .entry)) p (now (out .exit)) r ⌝ }
+fn lay_rgetlock(out: &mut [u8], p: Place, lent: &[u8], m: Rgetlock, put: bool) -> Place
+    ensures { λ r. ⌜ Laid (layoutR 55) (now (lent .entry)) (rgetlock m) put (now (out .entry)) p (now (out .exit)) r ⌝ }
 {
-    let p1 = lay::lay_u8(out, p, m.type_, pass);
-    let p2 = lay::lay_u64(out, p1, m.start, pass);
-    let p3 = lay::lay_u64(out, p2, m.length, pass);
-    let p4 = lay::lay_u32(out, p3, m.proc_id, pass);
+    let p1 = lay::lay_u8(out, p, m.type_, put);
+    let p2 = lay::lay_u64(out, p1, m.start, put);
+    let p3 = lay::lay_u64(out, p2, m.length, put);
+    let p4 = lay::lay_u32(out, p3, m.proc_id, put);
     let client_id = m.client_id;
-    lay::lay_str(out, p4, lent, client_id, pass)
+    lay::lay_str(out, p4, lent, client_id, put)
+}
+
+pub fn write_rgetlock(out: &mut [u8], p: Place, lent: &[u8], m: Rgetlock) -> Place
+    ensures { λ r. ⌜ Written (layoutR 55) (now (lent .entry)) (rgetlock m) (now (out .entry)) p (now (out .exit)) r ⌝ }
+{
+    let end = lay_rgetlock(out, p, lent, m, lay::CHECK);
+    let start = lay::begun(p, end, out.len());
+    lay_rgetlock(out, start, lent, m, lay::PUT)
 }

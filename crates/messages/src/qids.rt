@@ -1,7 +1,6 @@
 // Qids: ty[1] version[4] path[8], 13 bytes.
 
 use fields::lay;
-use fields::lay::Pass;
 use numbers::Place;
 ghost use Rattle.fields.specs.Layouts.{q};
 ghost use Rattle.fields.specs.Fields.{Fields};
@@ -38,10 +37,10 @@ pub fn read_qid(s: &[u8], p: Place) -> ReadQid
     ReadQid { value, next: p3 }
 }
 
-pub fn lay_qid(out: &mut [u8], p: Place, lent: &[u8], v: Qid, pass: Pass) -> Place
-    ensures { λ r. ⌜ Laid q (now (lent .entry)) (qid v) pass (now (out .entry)) p (now (out .exit)) r ⌝ }
+pub fn lay_qid(out: &mut [u8], p: Place, lent: &[u8], v: Qid, put: bool) -> Place
+    ensures { λ r. ⌜ Laid q (now (lent .entry)) (qid v) put (now (out .entry)) p (now (out .exit)) r ⌝ }
 {
-    let p1 = lay::lay_u8(out, p, v.ty, pass);
-    let p2 = lay::lay_u32(out, p1, v.version, pass);
-    lay::lay_u64(out, p2, v.path, pass)
+    let p1 = lay::lay_u8(out, p, v.ty, put);
+    let p2 = lay::lay_u32(out, p1, v.version, put);
+    lay::lay_u64(out, p2, v.path, put)
 }

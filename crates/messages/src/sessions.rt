@@ -5,11 +5,10 @@ use crate::ids::Tag;
 use crate::qids;
 use crate::qids::Qid;
 use fields::lay;
-use fields::lay::Pass;
 use numbers::Place;
 use strings::Span;
 ghost use Rattle.fields.specs.Fields.{Fields};
-ghost use Rattle.fields.specs.Laying.{Laid};
+ghost use Rattle.fields.specs.Laying.{Laid, Written};
 ghost use Rattle.messages.specs.Tables.{layoutT, layoutR};
 ghost use Rattle.messages.specs.Records.{tversion, rversion, tauth, rauth, tattach, rattach, tflush, tclunk, rlerror};
 
@@ -38,12 +37,20 @@ pub fn read_tversion(s: &[u8], p: Place) -> ReadTversion
     ReadTversion { value, next: p2 }
 }
 
-pub fn lay_tversion(out: &mut [u8], p: Place, lent: &[u8], m: Tversion, pass: Pass) -> Place
-    ensures { λ r. ⌜ Laid (layoutT 100) (now (lent .entry)) (tversion m) pass (now (out .entry)) p (now (out .exit)) r ⌝ }
+fn lay_tversion(out: &mut [u8], p: Place, lent: &[u8], m: Tversion, put: bool) -> Place
+    ensures { λ r. ⌜ Laid (layoutT 100) (now (lent .entry)) (tversion m) put (now (out .entry)) p (now (out .exit)) r ⌝ }
 {
-    let p1 = lay::lay_u32(out, p, m.msize, pass);
+    let p1 = lay::lay_u32(out, p, m.msize, put);
     let version = m.version;
-    lay::lay_str(out, p1, lent, version, pass)
+    lay::lay_str(out, p1, lent, version, put)
+}
+
+pub fn write_tversion(out: &mut [u8], p: Place, lent: &[u8], m: Tversion) -> Place
+    ensures { λ r. ⌜ Written (layoutT 100) (now (lent .entry)) (tversion m) (now (out .entry)) p (now (out .exit)) r ⌝ }
+{
+    let end = lay_tversion(out, p, lent, m, lay::CHECK);
+    let start = lay::begun(p, end, out.len());
+    lay_tversion(out, start, lent, m, lay::PUT)
 }
 
 pub struct Rversion {
@@ -71,12 +78,20 @@ pub fn read_rversion(s: &[u8], p: Place) -> ReadRversion
     ReadRversion { value, next: p2 }
 }
 
-pub fn lay_rversion(out: &mut [u8], p: Place, lent: &[u8], m: Rversion, pass: Pass) -> Place
-    ensures { λ r. ⌜ Laid (layoutR 101) (now (lent .entry)) (rversion m) pass (now (out .entry)) p (now (out .exit)) r ⌝ }
+fn lay_rversion(out: &mut [u8], p: Place, lent: &[u8], m: Rversion, put: bool) -> Place
+    ensures { λ r. ⌜ Laid (layoutR 101) (now (lent .entry)) (rversion m) put (now (out .entry)) p (now (out .exit)) r ⌝ }
 {
-    let p1 = lay::lay_u32(out, p, m.msize, pass);
+    let p1 = lay::lay_u32(out, p, m.msize, put);
     let version = m.version;
-    lay::lay_str(out, p1, lent, version, pass)
+    lay::lay_str(out, p1, lent, version, put)
+}
+
+pub fn write_rversion(out: &mut [u8], p: Place, lent: &[u8], m: Rversion) -> Place
+    ensures { λ r. ⌜ Written (layoutR 101) (now (lent .entry)) (rversion m) (now (out .entry)) p (now (out .exit)) r ⌝ }
+{
+    let end = lay_rversion(out, p, lent, m, lay::CHECK);
+    let start = lay::begun(p, end, out.len());
+    lay_rversion(out, start, lent, m, lay::PUT)
 }
 
 pub struct Tauth {
@@ -114,16 +129,24 @@ pub fn read_tauth(s: &[u8], p: Place) -> ReadTauth
     ReadTauth { value, next: p4 }
 }
 
-pub fn lay_tauth(out: &mut [u8], p: Place, lent: &[u8], m: Tauth, pass: Pass) -> Place
-    ensures { λ r. ⌜ Laid (layoutT 102) (now (lent .entry)) (tauth m) pass (now (out .entry)) p (now (out .exit)) r ⌝ }
+fn lay_tauth(out: &mut [u8], p: Place, lent: &[u8], m: Tauth, put: bool) -> Place
+    ensures { λ r. ⌜ Laid (layoutT 102) (now (lent .entry)) (tauth m) put (now (out .entry)) p (now (out .exit)) r ⌝ }
 {
     let afid = m.afid;
-    let p1 = lay::lay_u32(out, p, afid.0, pass);
+    let p1 = lay::lay_u32(out, p, afid.0, put);
     let uname = m.uname;
-    let p2 = lay::lay_str(out, p1, lent, uname, pass);
+    let p2 = lay::lay_str(out, p1, lent, uname, put);
     let aname = m.aname;
-    let p3 = lay::lay_str(out, p2, lent, aname, pass);
-    lay::lay_u32(out, p3, m.n_uname, pass)
+    let p3 = lay::lay_str(out, p2, lent, aname, put);
+    lay::lay_u32(out, p3, m.n_uname, put)
+}
+
+pub fn write_tauth(out: &mut [u8], p: Place, lent: &[u8], m: Tauth) -> Place
+    ensures { λ r. ⌜ Written (layoutT 102) (now (lent .entry)) (tauth m) (now (out .entry)) p (now (out .exit)) r ⌝ }
+{
+    let end = lay_tauth(out, p, lent, m, lay::CHECK);
+    let start = lay::begun(p, end, out.len());
+    lay_tauth(out, start, lent, m, lay::PUT)
 }
 
 pub struct Rauth {
@@ -145,11 +168,19 @@ pub fn read_rauth(s: &[u8], p: Place) -> ReadRauth
     ReadRauth { value, next: p1 }
 }
 
-pub fn lay_rauth(out: &mut [u8], p: Place, lent: &[u8], m: Rauth, pass: Pass) -> Place
-    ensures { λ r. ⌜ Laid (layoutR 103) (now (lent .entry)) (rauth m) pass (now (out .entry)) p (now (out .exit)) r ⌝ }
+fn lay_rauth(out: &mut [u8], p: Place, lent: &[u8], m: Rauth, put: bool) -> Place
+    ensures { λ r. ⌜ Laid (layoutR 103) (now (lent .entry)) (rauth m) put (now (out .entry)) p (now (out .exit)) r ⌝ }
 {
     let aqid = m.aqid;
-    qids::lay_qid(out, p, lent, aqid, pass)
+    qids::lay_qid(out, p, lent, aqid, put)
+}
+
+pub fn write_rauth(out: &mut [u8], p: Place, lent: &[u8], m: Rauth) -> Place
+    ensures { λ r. ⌜ Written (layoutR 103) (now (lent .entry)) (rauth m) (now (out .entry)) p (now (out .exit)) r ⌝ }
+{
+    let end = lay_rauth(out, p, lent, m, lay::CHECK);
+    let start = lay::begun(p, end, out.len());
+    lay_rauth(out, start, lent, m, lay::PUT)
 }
 
 pub struct Tattach {
@@ -192,18 +223,26 @@ pub fn read_tattach(s: &[u8], p: Place) -> ReadTattach
     ReadTattach { value, next: p5 }
 }
 
-pub fn lay_tattach(out: &mut [u8], p: Place, lent: &[u8], m: Tattach, pass: Pass) -> Place
-    ensures { λ r. ⌜ Laid (layoutT 104) (now (lent .entry)) (tattach m) pass (now (out .entry)) p (now (out .exit)) r ⌝ }
+fn lay_tattach(out: &mut [u8], p: Place, lent: &[u8], m: Tattach, put: bool) -> Place
+    ensures { λ r. ⌜ Laid (layoutT 104) (now (lent .entry)) (tattach m) put (now (out .entry)) p (now (out .exit)) r ⌝ }
 {
     let fid = m.fid;
-    let p1 = lay::lay_u32(out, p, fid.0, pass);
+    let p1 = lay::lay_u32(out, p, fid.0, put);
     let afid = m.afid;
-    let p2 = lay::lay_u32(out, p1, afid.0, pass);
+    let p2 = lay::lay_u32(out, p1, afid.0, put);
     let uname = m.uname;
-    let p3 = lay::lay_str(out, p2, lent, uname, pass);
+    let p3 = lay::lay_str(out, p2, lent, uname, put);
     let aname = m.aname;
-    let p4 = lay::lay_str(out, p3, lent, aname, pass);
-    lay::lay_u32(out, p4, m.n_uname, pass)
+    let p4 = lay::lay_str(out, p3, lent, aname, put);
+    lay::lay_u32(out, p4, m.n_uname, put)
+}
+
+pub fn write_tattach(out: &mut [u8], p: Place, lent: &[u8], m: Tattach) -> Place
+    ensures { λ r. ⌜ Written (layoutT 104) (now (lent .entry)) (tattach m) (now (out .entry)) p (now (out .exit)) r ⌝ }
+{
+    let end = lay_tattach(out, p, lent, m, lay::CHECK);
+    let start = lay::begun(p, end, out.len());
+    lay_tattach(out, start, lent, m, lay::PUT)
 }
 
 pub struct Rattach {
@@ -225,11 +264,19 @@ pub fn read_rattach(s: &[u8], p: Place) -> ReadRattach
     ReadRattach { value, next: p1 }
 }
 
-pub fn lay_rattach(out: &mut [u8], p: Place, lent: &[u8], m: Rattach, pass: Pass) -> Place
-    ensures { λ r. ⌜ Laid (layoutR 105) (now (lent .entry)) (rattach m) pass (now (out .entry)) p (now (out .exit)) r ⌝ }
+fn lay_rattach(out: &mut [u8], p: Place, lent: &[u8], m: Rattach, put: bool) -> Place
+    ensures { λ r. ⌜ Laid (layoutR 105) (now (lent .entry)) (rattach m) put (now (out .entry)) p (now (out .exit)) r ⌝ }
 {
     let qid = m.qid;
-    qids::lay_qid(out, p, lent, qid, pass)
+    qids::lay_qid(out, p, lent, qid, put)
+}
+
+pub fn write_rattach(out: &mut [u8], p: Place, lent: &[u8], m: Rattach) -> Place
+    ensures { λ r. ⌜ Written (layoutR 105) (now (lent .entry)) (rattach m) (now (out .entry)) p (now (out .exit)) r ⌝ }
+{
+    let end = lay_rattach(out, p, lent, m, lay::CHECK);
+    let start = lay::begun(p, end, out.len());
+    lay_rattach(out, start, lent, m, lay::PUT)
 }
 
 pub struct Tflush {
@@ -251,11 +298,19 @@ pub fn read_tflush(s: &[u8], p: Place) -> ReadTflush
     ReadTflush { value, next: p1 }
 }
 
-pub fn lay_tflush(out: &mut [u8], p: Place, lent: &[u8], m: Tflush, pass: Pass) -> Place
-    ensures { λ r. ⌜ Laid (layoutT 108) (now (lent .entry)) (tflush m) pass (now (out .entry)) p (now (out .exit)) r ⌝ }
+fn lay_tflush(out: &mut [u8], p: Place, lent: &[u8], m: Tflush, put: bool) -> Place
+    ensures { λ r. ⌜ Laid (layoutT 108) (now (lent .entry)) (tflush m) put (now (out .entry)) p (now (out .exit)) r ⌝ }
 {
     let oldtag = m.oldtag;
-    lay::lay_u16(out, p, oldtag.0, pass)
+    lay::lay_u16(out, p, oldtag.0, put)
+}
+
+pub fn write_tflush(out: &mut [u8], p: Place, lent: &[u8], m: Tflush) -> Place
+    ensures { λ r. ⌜ Written (layoutT 108) (now (lent .entry)) (tflush m) (now (out .entry)) p (now (out .exit)) r ⌝ }
+{
+    let end = lay_tflush(out, p, lent, m, lay::CHECK);
+    let start = lay::begun(p, end, out.len());
+    lay_tflush(out, start, lent, m, lay::PUT)
 }
 
 pub struct Tclunk {
@@ -277,11 +332,19 @@ pub fn read_tclunk(s: &[u8], p: Place) -> ReadTclunk
     ReadTclunk { value, next: p1 }
 }
 
-pub fn lay_tclunk(out: &mut [u8], p: Place, lent: &[u8], m: Tclunk, pass: Pass) -> Place
-    ensures { λ r. ⌜ Laid (layoutT 120) (now (lent .entry)) (tclunk m) pass (now (out .entry)) p (now (out .exit)) r ⌝ }
+fn lay_tclunk(out: &mut [u8], p: Place, lent: &[u8], m: Tclunk, put: bool) -> Place
+    ensures { λ r. ⌜ Laid (layoutT 120) (now (lent .entry)) (tclunk m) put (now (out .entry)) p (now (out .exit)) r ⌝ }
 {
     let fid = m.fid;
-    lay::lay_u32(out, p, fid.0, pass)
+    lay::lay_u32(out, p, fid.0, put)
+}
+
+pub fn write_tclunk(out: &mut [u8], p: Place, lent: &[u8], m: Tclunk) -> Place
+    ensures { λ r. ⌜ Written (layoutT 120) (now (lent .entry)) (tclunk m) (now (out .entry)) p (now (out .exit)) r ⌝ }
+{
+    let end = lay_tclunk(out, p, lent, m, lay::CHECK);
+    let start = lay::begun(p, end, out.len());
+    lay_tclunk(out, start, lent, m, lay::PUT)
 }
 
 pub struct Rlerror {
@@ -302,8 +365,16 @@ pub fn read_rlerror(s: &[u8], p: Place) -> ReadRlerror
     ReadRlerror { value, next: p1 }
 }
 
-pub fn lay_rlerror(out: &mut [u8], p: Place, lent: &[u8], m: Rlerror, pass: Pass) -> Place
-    ensures { λ r. ⌜ Laid (layoutR 7) (now (lent .entry)) (rlerror m) pass (now (out .entry)) p (now (out .exit)) r ⌝ }
+fn lay_rlerror(out: &mut [u8], p: Place, lent: &[u8], m: Rlerror, put: bool) -> Place
+    ensures { λ r. ⌜ Laid (layoutR 7) (now (lent .entry)) (rlerror m) put (now (out .entry)) p (now (out .exit)) r ⌝ }
 {
-    lay::lay_u32(out, p, m.ecode, pass)
+    lay::lay_u32(out, p, m.ecode, put)
+}
+
+pub fn write_rlerror(out: &mut [u8], p: Place, lent: &[u8], m: Rlerror) -> Place
+    ensures { λ r. ⌜ Written (layoutR 7) (now (lent .entry)) (rlerror m) (now (out .entry)) p (now (out .exit)) r ⌝ }
+{
+    let end = lay_rlerror(out, p, lent, m, lay::CHECK);
+    let start = lay::begun(p, end, out.len());
+    lay_rlerror(out, start, lent, m, lay::PUT)
 }

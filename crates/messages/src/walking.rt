@@ -3,10 +3,9 @@
 use crate::ids::Fid;
 use fields::Part;
 use fields::lay;
-use fields::lay::Pass;
 use numbers::Place;
 ghost use Rattle.fields.specs.Fields.{Fields};
-ghost use Rattle.fields.specs.Laying.{Laid};
+ghost use Rattle.fields.specs.Laying.{Laid, Written};
 ghost use Rattle.messages.specs.Tables.{layoutT, layoutR};
 ghost use Rattle.messages.specs.Records.{twalk, rwalk};
 
@@ -41,15 +40,23 @@ pub fn read_twalk(s: &[u8], p: Place) -> ReadTwalk
     ReadTwalk { value, next: p3 }
 }
 
-pub fn lay_twalk(out: &mut [u8], p: Place, lent: &[u8], m: Twalk, pass: Pass) -> Place
-    ensures { λ r. ⌜ Laid (layoutT 110) (now (lent .entry)) (twalk m) pass (now (out .entry)) p (now (out .exit)) r ⌝ }
+fn lay_twalk(out: &mut [u8], p: Place, lent: &[u8], m: Twalk, put: bool) -> Place
+    ensures { λ r. ⌜ Laid (layoutT 110) (now (lent .entry)) (twalk m) put (now (out .entry)) p (now (out .exit)) r ⌝ }
 {
     let fid = m.fid;
-    let p1 = lay::lay_u32(out, p, fid.0, pass);
+    let p1 = lay::lay_u32(out, p, fid.0, put);
     let newfid = m.newfid;
-    let p2 = lay::lay_u32(out, p1, newfid.0, pass);
+    let p2 = lay::lay_u32(out, p1, newfid.0, put);
     let wnames = m.wnames;
-    lay::lay_names(out, p2, lent, wnames, pass)
+    lay::lay_names(out, p2, lent, wnames, put)
+}
+
+pub fn write_twalk(out: &mut [u8], p: Place, lent: &[u8], m: Twalk) -> Place
+    ensures { λ r. ⌜ Written (layoutT 110) (now (lent .entry)) (twalk m) (now (out .entry)) p (now (out .exit)) r ⌝ }
+{
+    let end = lay_twalk(out, p, lent, m, lay::CHECK);
+    let start = lay::begun(p, end, out.len());
+    lay_twalk(out, start, lent, m, lay::PUT)
 }
 
 pub struct Rwalk {
@@ -71,9 +78,17 @@ pub fn read_rwalk(s: &[u8], p: Place) -> ReadRwalk
     ReadRwalk { value, next: p1 }
 }
 
-pub fn lay_rwalk(out: &mut [u8], p: Place, lent: &[u8], m: Rwalk, pass: Pass) -> Place
-    ensures { λ r. ⌜ Laid (layoutR 111) (now (lent .entry)) (rwalk m) pass (now (out .entry)) p (now (out .exit)) r ⌝ }
+fn lay_rwalk(out: &mut [u8], p: Place, lent: &[u8], m: Rwalk, put: bool) -> Place
+    ensures { λ r. ⌜ Laid (layoutR 111) (now (lent .entry)) (rwalk m) put (now (out .entry)) p (now (out .exit)) r ⌝ }
 {
     let wqids = m.wqids;
-    lay::lay_qids(out, p, lent, wqids, pass)
+    lay::lay_qids(out, p, lent, wqids, put)
+}
+
+pub fn write_rwalk(out: &mut [u8], p: Place, lent: &[u8], m: Rwalk) -> Place
+    ensures { λ r. ⌜ Written (layoutR 111) (now (lent .entry)) (rwalk m) (now (out .entry)) p (now (out .exit)) r ⌝ }
+{
+    let end = lay_rwalk(out, p, lent, m, lay::CHECK);
+    let start = lay::begun(p, end, out.len());
+    lay_rwalk(out, start, lent, m, lay::PUT)
 }

@@ -1,7 +1,6 @@
 // The 29 replies in one enum: a body read by its type number, and written by its case.
 
 use fields::lay;
-use fields::lay::Pass;
 use messages::attributes;
 use messages::attributes::Rgetattr;
 use messages::attributes::Rstatfs;
@@ -30,7 +29,7 @@ use messages::walking::Rwalk;
 use numbers::Place;
 use numbers::Refusal;
 ghost use mathlib.Core.Path.{_≡_};
-ghost use Rattle.fields.specs.Laying.{Laid, Written};
+ghost use Rattle.fields.specs.Laying.{Written};
 ghost use Rattle.messages.specs.Tables.{tableR, layoutR};
 ghost use Rattle.messages.specs.Bodies.{readBody, finishAt};
 ghost use Rattle.replies.specs.Views.{typeR, valuesR, viewR};
@@ -252,50 +251,39 @@ pub fn type_of(m: Rmessage) -> u8
     }
 }
 
-pub fn lay_rmessage(out: &mut [u8], p: Place, lent: &[u8], m: Rmessage, pass: Pass) -> Place
-    ensures { λ r. ⌜ Laid (layoutR (typeR m)) (now (lent .entry)) (valuesR m) pass (now (out .entry)) p (now (out .exit)) r ⌝ }
-{
-    match m {
-        Rmessage::Version(x) => sessions::lay_rversion(out, p, lent, x, pass),
-        Rmessage::Flush => p,
-        Rmessage::Walk(x) => walking::lay_rwalk(out, p, lent, x, pass),
-        Rmessage::Read(x) => files::lay_rread(out, p, lent, x, pass),
-        Rmessage::Write(x) => files::lay_rwrite(out, p, lent, x, pass),
-        Rmessage::Clunk => p,
-        Rmessage::Remove => p,
-        Rmessage::Attach(x) => sessions::lay_rattach(out, p, lent, x, pass),
-        Rmessage::Auth(x) => sessions::lay_rauth(out, p, lent, x, pass),
-        Rmessage::Statfs(x) => attributes::lay_rstatfs(out, p, lent, x, pass),
-        Rmessage::Lopen(x) => files::lay_rlopen(out, p, lent, x, pass),
-        Rmessage::Lcreate(x) => files::lay_rlcreate(out, p, lent, x, pass),
-        Rmessage::Symlink(x) => directories::lay_rsymlink(out, p, lent, x, pass),
-        Rmessage::Mknod(x) => directories::lay_rmknod(out, p, lent, x, pass),
-        Rmessage::Rename => p,
-        Rmessage::Readlink(x) => directories::lay_rreadlink(out, p, lent, x, pass),
-        Rmessage::GetAttr(x) => attributes::lay_rgetattr(out, p, lent, x, pass),
-        Rmessage::SetAttr => p,
-        Rmessage::XattrWalk(x) => attributes::lay_rxattrwalk(out, p, lent, x, pass),
-        Rmessage::XattrCreate => p,
-        Rmessage::Readdir(x) => directories::lay_rreaddir(out, p, lent, x, pass),
-        Rmessage::Fsync => p,
-        Rmessage::Lock(x) => locks::lay_rlock(out, p, lent, x, pass),
-        Rmessage::GetLock(x) => locks::lay_rgetlock(out, p, lent, x, pass),
-        Rmessage::Link => p,
-        Rmessage::Mkdir(x) => directories::lay_rmkdir(out, p, lent, x, pass),
-        Rmessage::RenameAt => p,
-        Rmessage::UnlinkAt => p,
-        Rmessage::Lerror(x) => sessions::lay_rlerror(out, p, lent, x, pass),
-    }
-}
-
 // A body written at a place: its fields' refusals in order, then 10, then 11; a refusal leaves the output as it was.
 pub fn write_rmessage(out: &mut [u8], p: Place, lent: &[u8], m: Rmessage) -> Place
     ensures { λ r. ⌜ Written (layoutR (typeR m)) (now (lent .entry)) (valuesR m) (now (out .entry)) p (now (out .exit)) r ⌝ }
 {
-    let end = lay_rmessage(out, p, lent, m, Pass::Check);
-    let q = lay::settled(end, out.len());
-    let Place::At(_) = q else {
-        return q;
-    };
-    lay_rmessage(out, p, lent, m, Pass::Put)
+    match m {
+        Rmessage::Version(x) => sessions::write_rversion(out, p, lent, x),
+        Rmessage::Flush => lay::begun(p, p, out.len()),
+        Rmessage::Walk(x) => walking::write_rwalk(out, p, lent, x),
+        Rmessage::Read(x) => files::write_rread(out, p, lent, x),
+        Rmessage::Write(x) => files::write_rwrite(out, p, lent, x),
+        Rmessage::Clunk => lay::begun(p, p, out.len()),
+        Rmessage::Remove => lay::begun(p, p, out.len()),
+        Rmessage::Attach(x) => sessions::write_rattach(out, p, lent, x),
+        Rmessage::Auth(x) => sessions::write_rauth(out, p, lent, x),
+        Rmessage::Statfs(x) => attributes::write_rstatfs(out, p, lent, x),
+        Rmessage::Lopen(x) => files::write_rlopen(out, p, lent, x),
+        Rmessage::Lcreate(x) => files::write_rlcreate(out, p, lent, x),
+        Rmessage::Symlink(x) => directories::write_rsymlink(out, p, lent, x),
+        Rmessage::Mknod(x) => directories::write_rmknod(out, p, lent, x),
+        Rmessage::Rename => lay::begun(p, p, out.len()),
+        Rmessage::Readlink(x) => directories::write_rreadlink(out, p, lent, x),
+        Rmessage::GetAttr(x) => attributes::write_rgetattr(out, p, lent, x),
+        Rmessage::SetAttr => lay::begun(p, p, out.len()),
+        Rmessage::XattrWalk(x) => attributes::write_rxattrwalk(out, p, lent, x),
+        Rmessage::XattrCreate => lay::begun(p, p, out.len()),
+        Rmessage::Readdir(x) => directories::write_rreaddir(out, p, lent, x),
+        Rmessage::Fsync => lay::begun(p, p, out.len()),
+        Rmessage::Lock(x) => locks::write_rlock(out, p, lent, x),
+        Rmessage::GetLock(x) => locks::write_rgetlock(out, p, lent, x),
+        Rmessage::Link => lay::begun(p, p, out.len()),
+        Rmessage::Mkdir(x) => directories::write_rmkdir(out, p, lent, x),
+        Rmessage::RenameAt => lay::begun(p, p, out.len()),
+        Rmessage::UnlinkAt => lay::begun(p, p, out.len()),
+        Rmessage::Lerror(x) => sessions::write_rlerror(out, p, lent, x),
+    }
 }

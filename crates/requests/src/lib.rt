@@ -1,7 +1,5 @@
 // The 28 requests in one enum: a body read by its type number, and written by its case.
 
-use fields::lay;
-use fields::lay::Pass;
 use messages::attributes;
 use messages::attributes::Tgetattr;
 use messages::attributes::Tsetattr;
@@ -39,7 +37,7 @@ use messages::walking::Twalk;
 use numbers::Place;
 use numbers::Refusal;
 ghost use mathlib.Core.Path.{_≡_};
-ghost use Rattle.fields.specs.Laying.{Laid, Written};
+ghost use Rattle.fields.specs.Laying.{Written};
 ghost use Rattle.messages.specs.Tables.{tableT, layoutT};
 ghost use Rattle.messages.specs.Bodies.{readBody, finishAt};
 ghost use Rattle.requests.specs.Views.{typeT, valuesT, viewT};
@@ -303,49 +301,38 @@ pub fn type_of(m: Tmessage) -> u8
     }
 }
 
-pub fn lay_tmessage(out: &mut [u8], p: Place, lent: &[u8], m: Tmessage, pass: Pass) -> Place
-    ensures { λ r. ⌜ Laid (layoutT (typeT m)) (now (lent .entry)) (valuesT m) pass (now (out .entry)) p (now (out .exit)) r ⌝ }
-{
-    match m {
-        Tmessage::Version(x) => sessions::lay_tversion(out, p, lent, x, pass),
-        Tmessage::Flush(x) => sessions::lay_tflush(out, p, lent, x, pass),
-        Tmessage::Walk(x) => walking::lay_twalk(out, p, lent, x, pass),
-        Tmessage::Read(x) => files::lay_tread(out, p, lent, x, pass),
-        Tmessage::Write(x) => files::lay_twrite(out, p, lent, x, pass),
-        Tmessage::Clunk(x) => sessions::lay_tclunk(out, p, lent, x, pass),
-        Tmessage::Remove(x) => files::lay_tremove(out, p, lent, x, pass),
-        Tmessage::Attach(x) => sessions::lay_tattach(out, p, lent, x, pass),
-        Tmessage::Auth(x) => sessions::lay_tauth(out, p, lent, x, pass),
-        Tmessage::Statfs(x) => attributes::lay_tstatfs(out, p, lent, x, pass),
-        Tmessage::Lopen(x) => files::lay_tlopen(out, p, lent, x, pass),
-        Tmessage::Lcreate(x) => files::lay_tlcreate(out, p, lent, x, pass),
-        Tmessage::Symlink(x) => directories::lay_tsymlink(out, p, lent, x, pass),
-        Tmessage::Mknod(x) => directories::lay_tmknod(out, p, lent, x, pass),
-        Tmessage::Rename(x) => directories::lay_trename(out, p, lent, x, pass),
-        Tmessage::Readlink(x) => directories::lay_treadlink(out, p, lent, x, pass),
-        Tmessage::GetAttr(x) => attributes::lay_tgetattr(out, p, lent, x, pass),
-        Tmessage::SetAttr(x) => attributes::lay_tsetattr(out, p, lent, x, pass),
-        Tmessage::XattrWalk(x) => attributes::lay_txattrwalk(out, p, lent, x, pass),
-        Tmessage::XattrCreate(x) => attributes::lay_txattrcreate(out, p, lent, x, pass),
-        Tmessage::Readdir(x) => directories::lay_treaddir(out, p, lent, x, pass),
-        Tmessage::Fsync(x) => files::lay_tfsync(out, p, lent, x, pass),
-        Tmessage::Lock(x) => locks::lay_tlock(out, p, lent, x, pass),
-        Tmessage::GetLock(x) => locks::lay_tgetlock(out, p, lent, x, pass),
-        Tmessage::Link(x) => directories::lay_tlink(out, p, lent, x, pass),
-        Tmessage::Mkdir(x) => directories::lay_tmkdir(out, p, lent, x, pass),
-        Tmessage::RenameAt(x) => directories::lay_trenameat(out, p, lent, x, pass),
-        Tmessage::UnlinkAt(x) => directories::lay_tunlinkat(out, p, lent, x, pass),
-    }
-}
-
 // A body written at a place: its fields' refusals in order, then 10, then 11; a refusal leaves the output as it was.
 pub fn write_tmessage(out: &mut [u8], p: Place, lent: &[u8], m: Tmessage) -> Place
     ensures { λ r. ⌜ Written (layoutT (typeT m)) (now (lent .entry)) (valuesT m) (now (out .entry)) p (now (out .exit)) r ⌝ }
 {
-    let end = lay_tmessage(out, p, lent, m, Pass::Check);
-    let q = lay::settled(end, out.len());
-    let Place::At(_) = q else {
-        return q;
-    };
-    lay_tmessage(out, p, lent, m, Pass::Put)
+    match m {
+        Tmessage::Version(x) => sessions::write_tversion(out, p, lent, x),
+        Tmessage::Flush(x) => sessions::write_tflush(out, p, lent, x),
+        Tmessage::Walk(x) => walking::write_twalk(out, p, lent, x),
+        Tmessage::Read(x) => files::write_tread(out, p, lent, x),
+        Tmessage::Write(x) => files::write_twrite(out, p, lent, x),
+        Tmessage::Clunk(x) => sessions::write_tclunk(out, p, lent, x),
+        Tmessage::Remove(x) => files::write_tremove(out, p, lent, x),
+        Tmessage::Attach(x) => sessions::write_tattach(out, p, lent, x),
+        Tmessage::Auth(x) => sessions::write_tauth(out, p, lent, x),
+        Tmessage::Statfs(x) => attributes::write_tstatfs(out, p, lent, x),
+        Tmessage::Lopen(x) => files::write_tlopen(out, p, lent, x),
+        Tmessage::Lcreate(x) => files::write_tlcreate(out, p, lent, x),
+        Tmessage::Symlink(x) => directories::write_tsymlink(out, p, lent, x),
+        Tmessage::Mknod(x) => directories::write_tmknod(out, p, lent, x),
+        Tmessage::Rename(x) => directories::write_trename(out, p, lent, x),
+        Tmessage::Readlink(x) => directories::write_treadlink(out, p, lent, x),
+        Tmessage::GetAttr(x) => attributes::write_tgetattr(out, p, lent, x),
+        Tmessage::SetAttr(x) => attributes::write_tsetattr(out, p, lent, x),
+        Tmessage::XattrWalk(x) => attributes::write_txattrwalk(out, p, lent, x),
+        Tmessage::XattrCreate(x) => attributes::write_txattrcreate(out, p, lent, x),
+        Tmessage::Readdir(x) => directories::write_treaddir(out, p, lent, x),
+        Tmessage::Fsync(x) => files::write_tfsync(out, p, lent, x),
+        Tmessage::Lock(x) => locks::write_tlock(out, p, lent, x),
+        Tmessage::GetLock(x) => locks::write_tgetlock(out, p, lent, x),
+        Tmessage::Link(x) => directories::write_tlink(out, p, lent, x),
+        Tmessage::Mkdir(x) => directories::write_tmkdir(out, p, lent, x),
+        Tmessage::RenameAt(x) => directories::write_trenameat(out, p, lent, x),
+        Tmessage::UnlinkAt(x) => directories::write_tunlinkat(out, p, lent, x),
+    }
 }

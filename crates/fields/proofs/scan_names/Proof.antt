@@ -1,23 +1,20 @@
--- The outer invariant: what is left to scan comes to what was asked. The inner one: what is left of the text is UTF-8 exactly if all of it is.
+-- The outer invariant: what is left to scan comes to what was asked. The inner one: what is left of the text is what all of it is.
 use Prim.Native.Nat.{_≤_, _-_, _+_}
 use mathlib.Core.Path.{_≡_, refl, sym, _∙_}
 use native.Mathlib.Omega.{arith}
 use borrow.Author.Needs.{needs}
 use lib.ListN.{length, drop}
-use lib.Seq.{length-take-le}
 use Rattle.numbers.specs.Places.{restAt}
-use Rattle.strings.specs.Utf8.{utf8}
-use Rattle.strings.specs.Utf8Laws.{zero-text, full-text, char-in, char-turn, char-lost, chars-over}
 use Rattle.fields.specs.Layouts.{readMany}
-use Rattle.fields.proofs.Names.{Left, the-name, name-length, none-left, count-cut, bytes-cut, text-lost, text-empty, one-off, looks}
+use Rattle.fields.proofs.Names.{Left, Same, from-front, plain-byte, all-good, the-name, name-length, none-left, count-cut, bytes-cut, text-bad, one-off}
 use Rattle.fields.proofs.scan_names.Statement.{statement}
 use Rattle.fields.proofs.scan_names.Tie as tie
 
 abbrev Inv-loop : tie.InvT-loop
-Inv-loop s from count at n start len end name e i₀ i = (i ≤ len) × (utf8 (drop i name) ≡ utf8 name)
+Inv-loop s from count at n start len end name i₀ i = (i ≤ len) × (length name ≡ len) × Same name i
 
 abbrev μ-loop : tie.MeasureT-loop
-μ-loop s from count at n start len end name e i₀ i = len - i
+μ-loop s from count at n start len end name i₀ i = len - i
 
 abbrev Inv-names : tie.InvT-names
 Inv-names s from count at₀ n₀ at n = (at ≤ length s) × Left s at n (restAt (length s) (readMany count (drop from s)))
@@ -54,40 +51,38 @@ part-name-end c = search needs
 
 loop-holds : tie.Need-loop-holds Inv-loop μ-loop Inv-names μ-names
 loop-holds c =
-    let a = c .before .before .before .before .before .before .before in
+    let a = c .before .before .before .before .before in
     let r = a .before .before in
     let s = r .before .before .before .before .args .s .now in
-    looks _ _ _ _ (c .before .extremes-of .ensures .1) (name-length s (r .read-u16 .result .value) (a .a .given .0 .0) (omega arith)) (c .first-to-look-at .ensures)
+    (omega arith, name-length s (r .read-u16 .result .value) (a .a .given .0 .0) (omega arith), from-front _)
+
+shared-slice-read-is-plain : tie.Need-shared-slice-read-is-plain Inv-loop μ-loop Inv-names μ-names
+shared-slice-read-is-plain c = omega (arith, c .before .before .loop .inv .1)
 
 add-i : tie.Need-add-i Inv-loop μ-loop Inv-names μ-names
-add-i c =
-    let l = c .before .before .before in
-    let a = l .before .before .before .before .before .before .before .before in
-    let r = a .before .before in
-    let s = r .before .before .before .before .args .s .now in
-    let n = name-length s (r .read-u16 .result .value) (a .a .given .0 .0) (omega arith) in
-    let k = char-in (c .before .char-at .ensures) (omega arith) in
-    omega arith
+add-i c = search needs
 
 loop-less : tie.Need-loop-less Inv-loop μ-loop Inv-names μ-names
-loop-less c =
-    let l = c .before .before .before in
-    let a = l .before .before .before .before .before .before .before .before in
-    let r = a .before .before in
-    let s = r .before .before .before .before .args .s .now in
-    let n = name-length s (r .read-u16 .result .value) (a .a .given .0 .0) (omega arith) in
-    let k = char-in (c .before .char-at .ensures) (omega arith) in
-    omega arith
+loop-less c = omega arith
 
 loop-again : tie.Need-loop-again Inv-loop μ-loop Inv-names μ-names
 loop-again c =
-    let l = c .before .before .before in
-    let a = l .before .before .before .before .before .before .before .before in
-    let r = a .before .before in
-    let s = r .before .before .before .before .args .s .now in
-    let n = name-length s (r .read-u16 .result .value) (a .a .given .0 .0) (omega arith) in
-    let k = char-in (c .before .char-at .ensures) (omega arith) in
-    (omega arith, char-turn (c .before .char-at .ensures) (c .if4 .left) (l .loop .inv .1))
+    let l = c .before .before .before .before .loop in
+    (omega arith, l .inv .1, plain-byte _ (l .i) (omega (arith, l .inv .1)) (c .before .is-plain .ensures) (c .if4 .taken) (l .inv .2))
+
+enum-told-2 : tie.Need-enum-told-2 Inv-loop μ-loop Inv-names μ-names
+enum-told-2 c = search needs
+
+enum-told-3 : tie.Need-enum-told-3 Inv-loop μ-loop Inv-names μ-names
+enum-told-3 c = search needs
+
+loop-less-2 : tie.Need-loop-less-2 Inv-loop μ-loop Inv-names μ-names
+loop-less-2 c = omega arith
+
+loop-again-2 : tie.Need-loop-again-2 Inv-loop μ-loop Inv-names μ-names
+loop-again-2 c =
+    let l = c .before .before .before .before .before .before .before .loop in
+    (omega arith, l .inv .1, all-good _ _ (l .inv .1) (c .before .before .check-text .ensures) (c .enum-told2 .given .1))
 
 sub-n : tie.Need-sub-n Inv-loop μ-loop Inv-names μ-names
 sub-n c = search needs
@@ -97,15 +92,11 @@ names-less c = omega arith
 
 names-again : tie.Need-names-again Inv-loop μ-loop Inv-names μ-names
 names-again c =
-    let l = c .before .before .before in
-    let a = l .before .before .before .before .before .before .before .before in
+    let l = c .before .loop in
+    let a = c .before .before .before .before .before .before .before in
     let r = a .before .before in
-    let s = r .before .before .before .before .args .s .now in
-    let n = name-length s (r .read-u16 .result .value) (a .a .given .0 .0) (omega arith) in
     let m = the-name (r .read-u16 .ensures) (a .a .given .1) (omega arith) in
-    let u = chars-over _ (l .loop .i) (omega arith) (l .loop .inv .1) in
-    let x = c .before .before .before .before .before .extremes-of .ensures .0 in
-    (m .lies, one-off (r .before .if1 .left) m u (full-text _ (λ e. c .if5 .left (x ∙ e))) (r .before .before .names .inv .1))
+    (m .lies, one-off (r .before .if1 .left) m (omega (arith, l .inv .1)) (l .inv .2) (r .before .before .names .inv .1))
 
 returns : tie.Need-returns Inv-loop μ-loop Inv-names μ-names
 returns c =
@@ -130,25 +121,10 @@ returns-4 c =
 
 returns-5 : tie.Need-returns-5 Inv-loop μ-loop Inv-names μ-names
 returns-5 c =
-    let l = c .before .before .before in
-    let a = l .before .before .before .before .before .before .before .before in
+    let a = c .before .before .before .before .before .before .before .before .before .before .before .before .before in
     let r = a .before .before in
-    let s = r .before .before .before .before .args .s .now in
-    let n = name-length s (r .read-u16 .result .value) (a .a .given .0 .0) (omega arith) in
     let m = the-name (r .read-u16 .ensures) (a .a .given .1) (omega arith) in
-    record { next = text-lost (r .before .if1 .left) m (char-lost (c .before .char-at .ensures) (omega arith) (c .if4 .taken) (l .loop .inv .1)) (r .before .before .names .inv .1) }
-
-returns-6 : tie.Need-returns-6 Inv-loop μ-loop Inv-names μ-names
-returns-6 c =
-    let l = c .before .before .before in
-    let a = l .before .before .before .before .before .before .before .before in
-    let r = a .before .before in
-    let s = r .before .before .before .before .args .s .now in
-    let n = name-length s (r .read-u16 .result .value) (a .a .given .0 .0) (omega arith) in
-    let m = the-name (r .read-u16 .ensures) (a .a .given .1) (omega arith) in
-    let u = chars-over _ (l .loop .i) (omega arith) (l .loop .inv .1) in
-    let x = c .before .before .before .before .before .extremes-of .ensures .0 in
-    record { next = text-empty (r .before .if1 .left) m u (zero-text _ (sym x ∙ c .if5 .taken)) (r .before .before .names .inv .1) }
+    record { next = text-bad (r .before .if1 .left) m (c .before .before .check-text .ensures) (c .enum-told3 .given .1) (r .before .before .names .inv .1) }
 
 pub scan-names-spec : {M : Type 1} → statement M
 scan-names-spec =
@@ -168,13 +144,17 @@ scan-names-spec =
     sub-name
     part-name-start
     part-name-end
-    (λ _ _. tt)
-    (λ _ _. tt)
     loop-holds
+    shared-slice-read-is-plain
     (λ _ _. tt)
     add-i
     loop-less
     loop-again
+    (λ _ _. tt)
+    enum-told-2
+    enum-told-3
+    loop-less-2
+    loop-again-2
     sub-n
     names-less
     names-again
@@ -182,5 +162,4 @@ scan-names-spec =
     returns-2
     returns-3
     returns-4
-    returns-5
-    returns-6)
+    returns-5)

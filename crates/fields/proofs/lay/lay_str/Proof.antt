@@ -5,35 +5,18 @@ use Rattle.fields.proofs.Lays.{in-pass, put-laid, check-laid, sized, st
 use Rattle.fields.proofs.lay.lay_str.Statement.{statement}
 use Rattle.fields.proofs.lay.lay_str.Tie as tie
 
-enum-told : tie.Need-enum-told
-enum-told c = search needs
-
-enum-told-2 : tie.Need-enum-told-2
-enum-told-2 c = search needs
-
-returns : tie.Need-returns
-returns c =
-    let d = c .before .before in
-    let b = bytes-all (d .before .before .before .before .before .args .lent .now) (λ i. d .before .before .before .shared-slice-known .given i .fits) in
-    in-pass (d .before .enum-told .given .1) (check-laid (sized tt b) (str-check (d .check-str .ensures)) (c .before .advanced .ensures) (c .advanced2 .ensures))
-
 same-length : tie.Need-same-length
 same-length c = search needs
 
+returns : tie.Need-returns
+returns c =
+    in-pass (c .before .before .before .before .if1 .taken) (put-laid str _ tt (c .before .before .put-counted .ensures))
+
 returns-2 : tie.Need-returns-2
 returns-2 c =
-    in-pass (c .before .before .before .before .enum-told2 .given .1) (put-laid str _ tt (c .before .before .put-counted .ensures))
+    let d = c .before .before in
+    let b = bytes-all (d .before .before .before .before .args .lent .now) (λ i. d .before .before .shared-slice-known .given i .fits) in
+    in-pass (d .before .if1 .left) (check-laid (sized tt b) (str-check (d .check-str .ensures)) (c .before .advanced .ensures) (c .advanced2 .ensures))
 
 pub lay-str-spec : {M : Type 1} → statement M
-lay-str-spec =
-    tie.close
-    (tie.spec
-    enum-told
-    (λ _ _. tt)
-    (λ _ _. tt)
-    (λ _ _. tt)
-    enum-told-2
-    (λ _ _. tt)
-    returns
-    same-length
-    returns-2)
+lay-str-spec = tie.close (tie.spec (λ _ _. tt) same-length returns (λ _ _. tt) (λ _ _. tt) (λ _ _. tt) returns-2)

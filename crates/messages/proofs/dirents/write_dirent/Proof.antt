@@ -1,43 +1,18 @@
 use borrow.Author.Needs.{needs}
 use Rattle.numbers.specs.Numbers.{bytes-all}
-use Rattle.fields.specs.WritingLaws.{written-not, written-put}
+use Rattle.fields.specs.WritingLaws.{written}
 use Rattle.messages.proofs.dirents.write_dirent.Statement.{statement}
 use Rattle.messages.proofs.dirents.write_dirent.Tie as tie
-
-enum-told : tie.Need-enum-told
-enum-told c = search needs
-
-enum-told-2 : tie.Need-enum-told-2
-enum-told-2 c = search needs
 
 same-length : tie.Need-same-length
 same-length c = search needs
 
 returns : tie.Need-returns
 returns c =
-    let d = c .before .before in written-not (d .before .before .before .lay-dirent .ensures) (d .settled .ensures) (c .enum-told2 .given .1)
-
-same-length-2 : tie.Need-same-length-2
-same-length-2 c = search needs
-
-returns-2 : tie.Need-returns-2
-returns-2 c =
     let d = c .before .before .before .before in
-    let e = d .before .before in
-    let f = e .before .before .before in
-    let b = bytes-all (f .before .before .before .before .args .lent .now) (λ i. f .before .before .shared-slice-known .given i .fits) in
-    written-put b (f .lay-dirent .ensures) (e .settled .ensures) (d .enum-told .given .1) (c .before .before .lay-dirent2 .ensures)
+    let e = d .before .before .before in
+    let b = bytes-all (e .before .before .before .before .args .lent .now) (λ i. e .before .before .shared-slice-known .given i .fits) in
+    written b (e .lay-dirent .ensures) (d .begun .ensures) (c .before .before .lay-dirent2 .ensures)
 
 pub write-dirent-spec : {M : Type 1} → statement M
-write-dirent-spec =
-    tie.close
-    (tie.spec
-    (λ _ _. tt)
-    (λ _ _. tt)
-    enum-told
-    enum-told-2
-    same-length
-    returns
-    (λ _ _. tt)
-    same-length-2
-    returns-2)
+write-dirent-spec = tie.close (tie.spec (λ _ _. tt) (λ _ _. tt) (λ _ _. tt) same-length returns)
