@@ -94,14 +94,20 @@ extern "C" {
         room: usize,
         lent: *const u8,
         count: usize,
-        frame: FlatT,
+        refusal: u8,
+        ty: u8,
+        tag: u16,
+        values: *const [u64; 10],
     ) -> Wrote;
     pub fn sheafsledge_write_rframe(
         out: *mut u8,
         room: usize,
         lent: *const u8,
         count: usize,
-        frame: FlatR,
+        refusal: u8,
+        ty: u8,
+        tag: u16,
+        values: *const [u64; 22],
     ) -> Wrote;
     pub fn sheafsledge_read_dirent(bytes: *const u8, count: usize, at: usize) -> FlatDirent;
     pub fn sheafsledge_write_dirent(

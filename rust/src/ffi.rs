@@ -51,16 +51,27 @@ pub fn answers(request_ty: u8, request_tag: u16, reply_ty: u8, reply_tag: u16) -
     unsafe { sheafsledge_answers(request_ty, request_tag, reply_ty, reply_tag) }
 }
 
-pub fn write_t(out: &mut [u8], lent: &[u8], frame: FlatT) -> Result<usize, Refusal> {
-    let (to, room) = (out.as_mut_ptr(), out.len());
-    // SAFETY: as for `read_t`; the output is borrowed alone, so that it overlaps nothing.
-    unsafe { sheafsledge_write_tframe(to, room, lent.as_ptr(), lent.len(), frame) }.told()
+pub fn write_t(
+    out: &mut [u8],
+    lent: &[u8],
+    (ty, tag): (u8, u16),
+    values: &[u64; 10],
+) -> Result<usize, Refusal> {
+    let (to, room, from, count) = (out.as_mut_ptr(), out.len(), lent.as_ptr(), lent.len());
+    // SAFETY: as for `read_t`; the output is borrowed alone, so that it overlaps nothing, and the
+    // values are as many as the function takes.
+    unsafe { sheafsledge_write_tframe(to, room, from, count, 0, ty, tag, values) }.told()
 }
 
-pub fn write_r(out: &mut [u8], lent: &[u8], frame: FlatR) -> Result<usize, Refusal> {
-    let (to, room) = (out.as_mut_ptr(), out.len());
+pub fn write_r(
+    out: &mut [u8],
+    lent: &[u8],
+    (ty, tag): (u8, u16),
+    values: &[u64; 22],
+) -> Result<usize, Refusal> {
+    let (to, room, from, count) = (out.as_mut_ptr(), out.len(), lent.as_ptr(), lent.len());
     // SAFETY: as for `write_t`.
-    unsafe { sheafsledge_write_rframe(to, room, lent.as_ptr(), lent.len(), frame) }.told()
+    unsafe { sheafsledge_write_rframe(to, room, from, count, 0, ty, tag, values) }.told()
 }
 
 pub fn write_dirent(

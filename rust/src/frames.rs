@@ -62,18 +62,9 @@ impl<'a> Tframe<'a> {
         let msg = self.msg.map_err(|_| Refusal::HoldsRefusal)?;
         let mut put = Put::default();
         msg.put(&mut put);
-        let mut values = [0; 10];
-        values.copy_from_slice(&put.values[..10]);
+        let values = put.values.first_chunk().expect("10 of 22");
         with_lent(put.lent, |lent| {
-            let flat = FlatT {
-                refusal: 0,
-                ty: msg.ty(),
-                tag: self.tag,
-                tagged: true,
-                used: 0,
-                values,
-            };
-            ffi::write_t(out, lent, flat)
+            ffi::write_t(out, lent, (msg.ty(), self.tag), values)
         })
     }
 }
@@ -103,16 +94,8 @@ impl<'a> Rframe<'a> {
     pub fn encode(&self, out: &mut [u8]) -> Result<usize, Refusal> {
         let mut put = Put::default();
         self.msg.put(&mut put);
-        let values = put.values;
         with_lent(put.lent, |lent| {
-            let flat = FlatR {
-                refusal: 0,
-                ty: self.msg.ty(),
-                tag: self.tag,
-                used: 0,
-                values,
-            };
-            ffi::write_r(out, lent, flat)
+            ffi::write_r(out, lent, (self.msg.ty(), self.tag), &put.values)
         })
     }
 }

@@ -1,7 +1,7 @@
 -- What the flat structs say: a frame that was read, and what writing one from its values leaves and answers.
 use Prim.Native.Nat.{ℕ}
 use mathlib.Core.Path.{_≡_}
-use mathlib.Core.Bool.{true, false, cond}
+use mathlib.Core.Bool.{Bool, true, false, cond}
 use mathlib.Core.List.{List, []}
 use mathlib.Core.Option.{Option, none, some}
 use lib.Dec.{eqb}
@@ -24,11 +24,19 @@ use Rattle.exports.specs.declared.Wrote.{Wrote}
 
 -- ---- reading
 
+abbrev pub refusedT : Refusal → ℕ → Bool → FlatT
+refusedT k tag tagged = record { refusal = numberOf k; ty = 0; tag = tag; tagged = tagged; used = 0; values = flat 10 [] }
+
 -- "In the T direction a frame is a tag beside either a message or a refusal": the tag stands beside both, with `tagged`
 abbrev pub flatT : Frame → FlatT
-flatT (headless k) = record { refusal = numberOf k; ty = 0; tag = 0; tagged = false; used = 0; values = flat 10 [] }
-flatT (framed tag (refused k)) = record { refusal = numberOf k; ty = 0; tag = tag; tagged = true; used = 0; values = flat 10 [] }
+flatT (headless k) = refusedT k 0 false
+flatT (framed tag (refused k)) = refusedT k tag true
 flatT (framed tag (accepted ty vs n)) = record { refusal = 0; ty = ty; tag = tag; tagged = true; used = n; values = flat 10 vs }
+
+-- the same of a body that was read flat: its numbers, and the place behind it
+abbrev pub flatBodyT : ℕ → ℕ → List ℕ → Place → FlatT
+flatBodyT ty tag ns (At n) = record { refusal = 0; ty = ty; tag = tag; tagged = true; used = n; values = ns }
+flatBodyT ty tag ns (Refused k) = refusedT k tag true
 
 abbrev pub refusedR : Refusal → FlatR
 refusedR k = record { refusal = numberOf k; ty = 0; tag = 0; used = 0; values = flat 22 [] }

@@ -1,4 +1,5 @@
 pub mod Flats
+pub mod ReadingLaws
 pub mod WritingLaws
 pub mod Answers
 pub mod Dirents

@@ -1,5 +1,6 @@
 -- A record's values one behind the other, and a layout's values taken from such a run of numbers.
 use Prim.Native.Nat.{ℕ, zero, suc, _+_, _^_, _%_, max}
+use mathlib.Core.Path.{_≡_}
 use mathlib.Core.Bool.{cond}
 use mathlib.Core.List.{List, [], _∷_, _++_}
 use mathlib.Core.Option.{Option, none, some}
@@ -7,9 +8,12 @@ use lib.ListN.{getD}
 use lib.Dec.{ltb}
 use Rattle.fields.specs.Layouts.{num, str, dat, strs, quids, Layout}
 use Rattle.fields.specs.Values.{Value, val, span, part}
+use Rattle.fields.specs.Fields.{valuesAt, pastFields}
 use Rattle.messages.specs.Tables.{Row, row}
 use Rattle.messages.specs.Bodies.{Answer, accepted, refused}
 use Rattle.numbers.specs.declared.Refusal.the-variants as R
+use Rattle.numbers.specs.declared.Place.{Place}
+use Rattle.numbers.specs.declared.Place.the-variants.{Refused}
 
 -- ---- out of the values
 
@@ -53,6 +57,20 @@ fieldValues l ns = valuesFrom 0 l ns
 abbrev pub bodyFrom : Option Layout → ℕ → List ℕ → ℕ → Answer
 bodyFrom none ty ns used = refused R.UnknownType
 bodyFrom (some l) ty ns used = accepted ty (fieldValues l ns) used
+
+-- ---- a body read flat: the values of the type's row in n places, as far as they could be read, and the place behind its fields
+
+abbrev pub valuesIn : Option Layout → List ℕ → Place → List Value
+valuesIn none s p = []
+valuesIn (some l) s p = valuesAt l s p
+
+abbrev pub pastIn : Option Layout → List ℕ → Place → Place
+pastIn none s p = Refused R.UnknownType
+pastIn (some l) s p = pastFields l s p
+
+pub record FlatRead (n : ℕ) (l : Option Layout) (s : List ℕ) (p : Place) (ns : List ℕ) (q : Place) : Type 0 where
+  pub values : ns ≡ flat n (valuesIn l s p)
+  pub next : q ≡ pastIn l s p
 
 -- ---- how many numbers there are
 

@@ -2,16 +2,21 @@
 use Prim.Native.Nat.{ℕ, _^_, _%_, _≤_, _<_}
 use native.Mathlib.Nat.{mod-eq-of-lt}
 use native.Mathlib.Omega.{arith}
-use mathlib.Core.Path.{_≡_, refl, sym, ap}
-use mathlib.Core.List.{List}
+use mathlib.Core.Path.{_≡_, refl, sym, ap, _∙_}
+use mathlib.Core.List.{List, []}
+use mathlib.Core.Option.{some}
 use borrow.Author.Tests.{lt-ltb, le-ltb}
 use Rattle.numbers.specs.ReadingLaws.{or-else}
 use Rattle.numbers.specs.declared.Refusal.the-variants as R
+use Rattle.numbers.specs.declared.Place.{Place}
+use Rattle.numbers.specs.declared.Place.the-variants.{Refused}
+use Rattle.fields.specs.Layouts.{Layout}
 use Rattle.fields.specs.Values.{Value}
+use Rattle.fields.specs.Fields.{Fields}
 use Rattle.messages.specs.Tables.{Row, lookup, tableT, tableR}
 use Rattle.messages.specs.Bodies.{accepted, refused}
 use Rattle.messages.specs.BodyLaws.{Nots, no-row}
-use Rattle.flat.specs.Flat.{low, bodyFrom, widest}
+use Rattle.flat.specs.Flat.{flat, low, bodyFrom, FlatRead, widest}
 
 -- 10 values hold any request and 22 any reply, and no fewer would
 pub enough : (widest tableT ≡ 10) × (widest tableR ≡ 22)
@@ -27,3 +32,11 @@ known-from {used = used} ty e = ap (λ vs. accepted ty vs used) e
 
 pub unknown-from : (rs : List Row) (ty : ℕ) (ns : List ℕ) (used : ℕ) → Nots (Unit {0}) rs ty → refused R.UnknownType ≡ bodyFrom (lookup rs ty) ty ns used
 unknown-from rs ty ns used h = rw (no-row rs (Unit {0}) ty h .0)
+
+-- ---- a body that is read flat
+
+pub flat-known : {n : ℕ} {l : Layout} {s : List ℕ} {p e : Place} {vs : List Value} {ns : List ℕ} → Fields l s p vs e → ns ≡ flat n vs → FlatRead n (some l) s p ns e
+flat-known {n} f g = record { values = g ∙ ap (flat n) (f .values); next = f .next }
+
+pub flat-unknown : {n : ℕ} {s ns : List ℕ} {p q : Place} (rs : List Row) (ty : ℕ) → Nots (Unit {0}) rs ty → ns ≡ flat n [] → q ≡ Refused R.UnknownType → FlatRead n (lookup rs ty) s p ns q
+flat-unknown rs ty h e f = let g = no-row rs (Unit {0}) ty h .0 in record { values = rw g e; next = rw g f }

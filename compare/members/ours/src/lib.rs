@@ -23,7 +23,7 @@ pub struct Flat {
 /// in their time.
 pub trait Crossing: Copy {
     fn read(bytes: &[u8]) -> Self;
-    fn write(self, out: &mut [u8], lent: &[u8]) -> Wrote;
+    fn write(&self, out: &mut [u8], lent: &[u8]) -> Wrote;
 }
 
 impl Crossing for FlatT {
@@ -35,10 +35,17 @@ impl Crossing for FlatT {
     }
 
     #[inline]
-    fn write(self, out: &mut [u8], lent: &[u8]) -> Wrote {
-        let (to, room) = (out.as_mut_ptr(), out.len());
+    fn write(&self, out: &mut [u8], lent: &[u8]) -> Wrote {
+        let (to, room, from, count) = (out.as_mut_ptr(), out.len(), lent.as_ptr(), lent.len());
+        let Self {
+            refusal,
+            ty,
+            tag,
+            values,
+            ..
+        } = self;
         // SAFETY: as in reading; the output is borrowed alone, so it overlaps nothing.
-        unsafe { sheafsledge_write_tframe(to, room, lent.as_ptr(), lent.len(), self) }
+        unsafe { sheafsledge_write_tframe(to, room, from, count, *refusal, *ty, *tag, values) }
     }
 }
 
@@ -50,10 +57,17 @@ impl Crossing for FlatR {
     }
 
     #[inline]
-    fn write(self, out: &mut [u8], lent: &[u8]) -> Wrote {
-        let (to, room) = (out.as_mut_ptr(), out.len());
+    fn write(&self, out: &mut [u8], lent: &[u8]) -> Wrote {
+        let (to, room, from, count) = (out.as_mut_ptr(), out.len(), lent.as_ptr(), lent.len());
+        let Self {
+            refusal,
+            ty,
+            tag,
+            values,
+            ..
+        } = self;
         // SAFETY: as for a request.
-        unsafe { sheafsledge_write_rframe(to, room, lent.as_ptr(), lent.len(), self) }
+        unsafe { sheafsledge_write_rframe(to, room, from, count, *refusal, *ty, *tag, values) }
     }
 }
 
