@@ -2,6 +2,8 @@
 
 mod clock;
 mod frames;
+mod stretch;
+mod texts;
 
 use std::hint::black_box;
 use std::process::ExitCode;
@@ -20,7 +22,9 @@ fn main() -> ExitCode {
     let mut requests = requests.iter();
     let mut replies = replies.iter();
     let done = requests.all(|(name, frame)| rows::<FlatT, Tframe>(name, frame))
-        && replies.all(|(name, frame)| rows::<FlatR, Rframe>(name, frame));
+        && replies.all(|(name, frame)| rows::<FlatR, Rframe>(name, frame))
+        && stretch::row_of_a_million()
+        && texts::rows();
     match done {
         true => ExitCode::SUCCESS,
         false => ExitCode::FAILURE,
@@ -78,7 +82,6 @@ fn write(name: &str, frame: &[u8], flat: impl Crossing, record: &impl WireFormat
         let out = output.at(place);
         for _ in 0..turns {
             let (to, lent) = (black_box(&mut *out), black_box(frame));
-            // Nothing stands between the record and the call, or it would be copied twice.
             black_box(&black_box(&flat).write(to, lent));
         }
     };
