@@ -1,7 +1,6 @@
 //! One frame, read from bytes and written into bytes. Nothing is allocated, and what is read
 //! borrows from the bytes.
 
-use crate::boundary::{FlatR, FlatT};
 use crate::ffi;
 use crate::fields::{Put, Taken, LONGEST_STRING};
 use crate::{Refusal, Rmessage, Tmessage};
