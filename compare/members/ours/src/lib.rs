@@ -26,50 +26,31 @@ pub trait Crossing: Copy {
     fn write(&self, out: &mut [u8], lent: &[u8]) -> Wrote;
 }
 
-impl Crossing for FlatT {
-    #[inline]
-    fn read(bytes: &[u8]) -> Self {
-        // SAFETY: the pointer and the count are a slice's, which the library reads and does not
-        // keep.
-        unsafe { sheafsledge_read_tframe(bytes.as_ptr(), bytes.len()) }
-    }
+macro_rules! crossing {
+    ($flat:ident $read:ident $write:ident) => {
+        impl Crossing for $flat {
+            #[inline]
+            fn read(bytes: &[u8]) -> Self {
+                // SAFETY: the pointer and the count are a slice's, which the library reads and
+                // does not keep.
+                unsafe { $read(bytes.as_ptr(), bytes.len()) }
+            }
 
-    #[inline]
-    fn write(&self, out: &mut [u8], lent: &[u8]) -> Wrote {
-        let (to, room, from, count) = (out.as_mut_ptr(), out.len(), lent.as_ptr(), lent.len());
-        let Self {
-            refusal,
-            ty,
-            tag,
-            values,
-            ..
-        } = self;
-        // SAFETY: as in reading; the output is borrowed alone, so it overlaps nothing.
-        unsafe { sheafsledge_write_tframe(to, room, from, count, *refusal, *ty, *tag, values) }
-    }
+            #[inline]
+            fn write(&self, out: &mut [u8], lent: &[u8]) -> Wrote {
+                let (to, room, from, count) =
+                    (out.as_mut_ptr(), out.len(), lent.as_ptr(), lent.len());
+                let (refusal, ty, tag, values) = (self.refusal, self.ty, self.tag, &self.values);
+                // SAFETY: as in reading; the output is borrowed alone, so it overlaps nothing, and
+                // the values are as many as the function takes.
+                unsafe { $write(to, room, from, count, refusal, ty, tag, values) }
+            }
+        }
+    };
 }
 
-impl Crossing for FlatR {
-    #[inline]
-    fn read(bytes: &[u8]) -> Self {
-        // SAFETY: as for a request.
-        unsafe { sheafsledge_read_rframe(bytes.as_ptr(), bytes.len()) }
-    }
-
-    #[inline]
-    fn write(&self, out: &mut [u8], lent: &[u8]) -> Wrote {
-        let (to, room, from, count) = (out.as_mut_ptr(), out.len(), lent.as_ptr(), lent.len());
-        let Self {
-            refusal,
-            ty,
-            tag,
-            values,
-            ..
-        } = self;
-        // SAFETY: as for a request.
-        unsafe { sheafsledge_write_rframe(to, room, from, count, *refusal, *ty, *tag, values) }
-    }
-}
+crossing!(FlatT sheafsledge_read_tframe sheafsledge_write_tframe);
+crossing!(FlatR sheafsledge_read_rframe sheafsledge_write_rframe);
 
 pub fn read(direction: Direction, bytes: &[u8]) -> Flat {
     match direction {
