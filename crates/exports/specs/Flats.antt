@@ -47,6 +47,10 @@ flatR (headless k) = refusedR k
 flatR (framed tag (refused k)) = refusedR k
 flatR (framed tag (accepted ty vs n)) = record { refusal = 0; ty = ty; tag = tag; used = n; values = flat 22 vs }
 
+abbrev pub flatBodyR : ℕ → ℕ → List ℕ → Place → FlatR
+flatBodyR ty tag ns (At n) = record { refusal = 0; ty = ty; tag = tag; used = n; values = ns }
+flatBodyR ty tag ns (Refused k) = refusedR k
+
 -- ---- writing
 
 abbrev pub wroteOf : Place → Wrote

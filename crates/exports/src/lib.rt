@@ -7,7 +7,6 @@ pub mod texts;
 pub mod walks;
 
 use frames::Head;
-use frames::ReadRframe;
 use frames::Rframe;
 use frames::Tframe;
 use messages::ids::Tag;
@@ -18,8 +17,7 @@ use requests::Tbody;
 ghost use mathlib.Core.Path.{_≡_};
 ghost use Rattle.messages.specs.Tables.{tableT, tableR};
 ghost use Rattle.frames.specs.Frames.{readFrame, refusedWhole};
-ghost use Rattle.frames.specs.Views.{viewRframe};
-ghost use Rattle.exports.specs.Flats.{refusedT, flatT, flatBodyT, flatR, wroteOf, FlatWritten};
+ghost use Rattle.exports.specs.Flats.{refusedT, flatT, flatBodyT, refusedR, flatR, flatBodyR, wroteOf, FlatWritten};
 
 // A request: 0 with its type, tag, bytes used and values; or its refusal, with the tag if the header could be read.
 #[repr(C)]
@@ -80,38 +78,36 @@ fn flat_tbody(ty: u8, tag: u16, values: [u64; 10], next: Place) -> FlatT
     }
 }
 
-fn flat_rframe(f: ReadRframe) -> FlatR
-    ensures { λ r. ⌜ r ≡ flatR (viewRframe f) ⌝ }
+fn refused_r(k: Refusal) -> FlatR
+    ensures { λ r. ⌜ r ≡ refusedR k ⌝ }
 {
-    match f {
-        ReadRframe::Frame(t, used) => {
-            let tag = t.tag;
-            let msg = t.msg;
-            let ty = replies::type_of(msg);
-            let values = flat_replies::flat_rmessage(msg);
-            FlatR {
-                refusal: 0,
-                ty,
-                tag: tag.0,
-                used,
-                values,
-            }
-        }
-        ReadRframe::Refused(k) => {
-            let refusal = numbers::number(k);
-            let values = [0u64; 22];
-            FlatR {
-                refusal,
-                ty: 0,
-                tag: 0,
-                used: 0,
-                values,
-            }
-        }
+    let refusal = numbers::number(k);
+    let values = [0u64; 22];
+    FlatR {
+        refusal,
+        ty: 0,
+        tag: 0,
+        used: 0,
+        values,
     }
 }
 
-// A request's record goes flat as it is read: what `frames::read_tframe` answers, laid flat, in half the time.
+fn flat_rbody(ty: u8, tag: u16, values: [u64; 22], next: Place) -> FlatR
+    ensures { λ r. ⌜ r ≡ flatBodyR ty tag values next ⌝ }
+{
+    match next {
+        Place::At(used) => FlatR {
+            refusal: 0,
+            ty,
+            tag,
+            used,
+            values,
+        },
+        Place::Refused(k) => refused_r(k),
+    }
+}
+
+// A record goes flat as it is read: what `frames::read_tframe` and `read_rframe` answer, laid flat, in half the time.
 #[no_mangle]
 pub extern "C" fn sheafsledge_read_tframe(bytes: &[u8]) -> FlatT
     ensures { λ r. ⌜ r ≡ flatT (readFrame tableT (now (bytes .entry))) ⌝ }
@@ -132,7 +128,16 @@ pub extern "C" fn sheafsledge_read_tframe(bytes: &[u8]) -> FlatT
 pub extern "C" fn sheafsledge_read_rframe(bytes: &[u8]) -> FlatR
     ensures { λ r. ⌜ r ≡ flatR (refusedWhole (readFrame tableR (now (bytes .entry)))) ⌝ }
 {
-    flat_rframe(frames::read_rframe(bytes))
+    let head = frames::read_header(bytes);
+    match head {
+        Head::Held(n, ty, tag) => {
+            let body = flat_replies::read_flat(&bytes[..n], ty, Place::At(7));
+            let values = body.values;
+            let next = body.next;
+            flat_rbody(ty, tag, values, next)
+        }
+        Head::Refused(k) => refused_r(k),
+    }
 }
 
 fn wrote_of(p: Place) -> Wrote

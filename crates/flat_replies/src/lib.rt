@@ -1,4 +1,4 @@
-// The 29 replies laid flat, and put together again by their type number.
+// The 29 replies laid flat, read flat, and put together again by their type number.
 
 use flat::attributes;
 use flat::directories;
@@ -6,13 +6,15 @@ use flat::files;
 use flat::locks;
 use flat::sessions;
 use flat::walking;
+use numbers::Place;
 use numbers::Refusal;
 use replies::Rbody;
 use replies::Rmessage;
 ghost use mathlib.Core.Path.{_≡_};
+ghost use mathlib.Core.List.{[]};
 ghost use Rattle.messages.specs.Tables.{lookup, tableR};
 ghost use Rattle.replies.specs.Views.{valuesR, viewR};
-ghost use Rattle.flat.specs.Flat.{flat, bodyFrom};
+ghost use Rattle.flat.specs.Flat.{flat, bodyFrom, FlatRead};
 
 pub fn flat_rmessage(m: Rmessage) -> [u64; 22]
     ensures { λ r. ⌜ r ≡ flat 22 (valuesR m) ⌝ }
@@ -85,5 +87,172 @@ pub fn rbody_of(ty: u8, v: [u64; 22], used: usize) -> Rbody
         121 => Rbody::Message(Rmessage::Clunk, used),
         123 => Rbody::Message(Rmessage::Remove, used),
         _ => Rbody::Refused(Refusal::UnknownType),
+    }
+}
+
+// A body that was read, laid flat: its values, 0 from a refused field on, and the place behind its fields or the refusal.
+pub struct FlatBody {
+    pub values: [u64; 22],
+    pub next: Place,
+}
+
+// A body that ends where it begins, or is refused: no values.
+fn no_values(next: Place) -> FlatBody
+    ensures { λ r. ⌜ (r .values ≡ flat 22 []) × (r .next ≡ next) ⌝ }
+{
+    let values = [0u64; 22];
+    FlatBody { values, next }
+}
+
+// The type decides the body, as in `replies::read_rmessage`; but its record goes flat at once, and through no enum that would have to
+// be told apart again.
+pub fn read_flat(s: &[u8], ty: u8, p: Place) -> FlatBody
+    ensures { λ r. ⌜ FlatRead 22 (lookup tableR ty) (now (s .entry)) p (r .values) (r .next) ⌝ }
+{
+    match ty {
+        7 => {
+            let r = messages::sessions::read_rlerror(s, p);
+            let m = r.value;
+            let next = r.next;
+            let values = sessions::flat_rlerror(m);
+            FlatBody { values, next }
+        }
+        9 => {
+            let r = messages::attributes::read_rstatfs(s, p);
+            let m = r.value;
+            let next = r.next;
+            let values = attributes::flat_rstatfs(m);
+            FlatBody { values, next }
+        }
+        13 => {
+            let r = messages::files::read_rlopen(s, p);
+            let m = r.value;
+            let next = r.next;
+            let values = files::flat_rlopen(m);
+            FlatBody { values, next }
+        }
+        15 => {
+            let r = messages::files::read_rlcreate(s, p);
+            let m = r.value;
+            let next = r.next;
+            let values = files::flat_rlcreate(m);
+            FlatBody { values, next }
+        }
+        17 => {
+            let r = messages::directories::read_rsymlink(s, p);
+            let m = r.value;
+            let next = r.next;
+            let values = directories::flat_rsymlink(m);
+            FlatBody { values, next }
+        }
+        19 => {
+            let r = messages::directories::read_rmknod(s, p);
+            let m = r.value;
+            let next = r.next;
+            let values = directories::flat_rmknod(m);
+            FlatBody { values, next }
+        }
+        21 => no_values(p),
+        23 => {
+            let r = messages::directories::read_rreadlink(s, p);
+            let m = r.value;
+            let next = r.next;
+            let values = directories::flat_rreadlink(m);
+            FlatBody { values, next }
+        }
+        25 => {
+            let r = messages::attributes::read_rgetattr(s, p);
+            let m = r.value;
+            let next = r.next;
+            let values = attributes::flat_rgetattr(m);
+            FlatBody { values, next }
+        }
+        27 => no_values(p),
+        31 => {
+            let r = messages::attributes::read_rxattrwalk(s, p);
+            let m = r.value;
+            let next = r.next;
+            let values = attributes::flat_rxattrwalk(m);
+            FlatBody { values, next }
+        }
+        33 => no_values(p),
+        41 => {
+            let r = messages::directories::read_rreaddir(s, p);
+            let m = r.value;
+            let next = r.next;
+            let values = directories::flat_rreaddir(m);
+            FlatBody { values, next }
+        }
+        51 => no_values(p),
+        53 => {
+            let r = messages::locks::read_rlock(s, p);
+            let m = r.value;
+            let next = r.next;
+            let values = locks::flat_rlock(m);
+            FlatBody { values, next }
+        }
+        55 => {
+            let r = messages::locks::read_rgetlock(s, p);
+            let m = r.value;
+            let next = r.next;
+            let values = locks::flat_rgetlock(m);
+            FlatBody { values, next }
+        }
+        71 => no_values(p),
+        73 => {
+            let r = messages::directories::read_rmkdir(s, p);
+            let m = r.value;
+            let next = r.next;
+            let values = directories::flat_rmkdir(m);
+            FlatBody { values, next }
+        }
+        75 => no_values(p),
+        77 => no_values(p),
+        101 => {
+            let r = messages::sessions::read_rversion(s, p);
+            let m = r.value;
+            let next = r.next;
+            let values = sessions::flat_rversion(m);
+            FlatBody { values, next }
+        }
+        103 => {
+            let r = messages::sessions::read_rauth(s, p);
+            let m = r.value;
+            let next = r.next;
+            let values = sessions::flat_rauth(m);
+            FlatBody { values, next }
+        }
+        105 => {
+            let r = messages::sessions::read_rattach(s, p);
+            let m = r.value;
+            let next = r.next;
+            let values = sessions::flat_rattach(m);
+            FlatBody { values, next }
+        }
+        109 => no_values(p),
+        111 => {
+            let r = messages::walking::read_rwalk(s, p);
+            let m = r.value;
+            let next = r.next;
+            let values = walking::flat_rwalk(m);
+            FlatBody { values, next }
+        }
+        117 => {
+            let r = messages::files::read_rread(s, p);
+            let m = r.value;
+            let next = r.next;
+            let values = files::flat_rread(m);
+            FlatBody { values, next }
+        }
+        119 => {
+            let r = messages::files::read_rwrite(s, p);
+            let m = r.value;
+            let next = r.next;
+            let values = files::flat_rwrite(m);
+            FlatBody { values, next }
+        }
+        121 => no_values(p),
+        123 => no_values(p),
+        _ => no_values(Place::Refused(Refusal::UnknownType)),
     }
 }

@@ -1,10 +1,34 @@
-use mathlib.Core.Path.{ap, _∙_}
-use Rattle.exports.specs.Flats.{flatR}
+use borrow.Author.Needs.{needs}
+use mathlib.Core.Path.{sym, _∙_}
+use lib.Seq.{length-take-le}
+use Rattle.numbers.specs.Numbers.{bytes-all}
+use Rattle.frames.specs.FrameLaws.{head-yes}
+use Rattle.exports.specs.ReadingLaws.{reply-headless, reply-flat}
 use Rattle.exports.proofs.sheafsledge_read_rframe.Statement.{statement}
 use Rattle.exports.proofs.sheafsledge_read_rframe.Tie as tie
 
+enum-known-head : tie.Need-enum-known-head
+enum-known-head c = search needs
+
+enum-known-head-2 : tie.Need-enum-known-head-2
+enum-known-head-2 c = search needs
+
+slice-aggregate-read-flat : tie.Need-slice-aggregate-read-flat
+slice-aggregate-read-flat c =
+    let d = c .before .before in
+    sym (length-take-le _ _ (head-yes _ (d .before .before .read-header .ensures) (d .head .given .1) .held))
+
 returns : tie.Need-returns
-returns c = c .flat-rframe .ensures ∙ ap flatR (c .before .read-rframe .ensures)
+returns c =
+    let d = c .before .before .before .before .before in
+    let e = d .before .before in
+    let b = bytes-all (e .before .before .args .bytes .now) (λ i. e .before .shared-slice-known .given i .fits) in
+    c .flat-rbody .ensures ∙ reply-flat _ b (e .read-header .ensures) (d .head .given .1) (c .before .before .read-flat .ensures)
+
+returns-2 : tie.Need-returns-2
+returns-2 c = c .refused-r .ensures ∙ reply-headless _ (c .before .before .before .before .read-header .ensures) (c .before .before .head2 .given .1)
 
 pub sheafsledge-read-rframe-spec : {M : Type 1} → statement M
-sheafsledge-read-rframe-spec = tie.close (tie.spec (λ _ _. tt) (λ _ _. tt) returns)
+sheafsledge-read-rframe-spec =
+    tie.close
+    (tie.spec (λ _ _. tt) enum-known-head slice-aggregate-read-flat (λ _ _. tt) (λ _ _. tt) enum-known-head-2 (λ _ _. tt) returns returns-2)
