@@ -1,5 +1,5 @@
-// The functions that Rust calls: one frame read into a flat answer, or written from one. Nothing is decided here: an answer of `frames`
-// is taken apart, and a record for it is put together.
+// The functions that Rust calls: those of one frame here, the others in the modules. Nothing is decided in them: what the crates below
+// answer is taken apart and laid flat, and what they take is put together.
 
 pub mod dirents;
 pub mod stretches;
@@ -107,7 +107,7 @@ fn flat_rbody(ty: u8, tag: u16, values: [u64; 22], next: Place) -> FlatR
     }
 }
 
-// A record goes flat as it is read: what `frames::read_tframe` and `read_rframe` answer, laid flat, in half the time.
+// What `frames::read_tframe` and `read_rframe` answer, laid flat. A record goes flat in the arm that reads it, and through no enum.
 #[no_mangle]
 pub extern "C" fn sheafsledge_read_tframe(bytes: &[u8]) -> FlatT
     ensures { λ r. ⌜ r ≡ flatT (readFrame tableT (now (bytes .entry))) ⌝ }
