@@ -1,27 +1,26 @@
 //! What the proved library's functions are to C: src/lib.rt of the crate `exports`, declared once
 //! for this crate and for the comparison.
 
-/// A request as it crosses the boundary.
+/// A request as it crosses the boundary. Its values are where the caller has room for them, and all
+/// 0 where it is refused.
 #[repr(C)]
-#[derive(Clone, Copy)]
+#[derive(Clone, Copy, Debug, Default, PartialEq, Eq)]
 pub struct FlatT {
     pub refusal: u8,
     pub ty: u8,
     pub tag: u16,
     pub tagged: bool,
     pub used: usize,
-    pub values: [u64; 10],
 }
 
-/// A reply as it crosses the boundary.
+/// A reply as it crosses the boundary, in the same way.
 #[repr(C)]
-#[derive(Clone, Copy)]
+#[derive(Clone, Copy, Debug, Default, PartialEq, Eq)]
 pub struct FlatR {
     pub refusal: u8,
     pub ty: u8,
     pub tag: u16,
     pub used: usize,
-    pub values: [u64; 22],
 }
 
 #[repr(C)]
@@ -69,26 +68,22 @@ pub struct FlatQid {
     pub qid: Qid,
 }
 
-/// What is at a position of a stretch: a frame, whose body may be refused (`body`); the end; or a
-/// refusal.
+/// What is at a position of a stretch: a frame, up to the next position; the end; or a refusal.
 #[repr(C)]
 #[derive(Clone, Copy, Debug, Default, PartialEq, Eq)]
 pub struct FlatStep {
     pub refusal: u8,
     pub end: bool,
     pub ty: u8,
-    pub body: u8,
     pub tag: u16,
-    pub at: usize,
-    pub size: usize,
-    pub tail: usize,
     pub next: usize,
-    pub values: [u64; 22],
 }
 
 extern "C" {
-    pub fn sheafsledge_read_tframe(bytes: *const u8, count: usize) -> FlatT;
-    pub fn sheafsledge_read_rframe(bytes: *const u8, count: usize) -> FlatR;
+    pub fn sheafsledge_read_tframe(bytes: *const u8, count: usize, values: *mut [u64; 10])
+        -> FlatT;
+    pub fn sheafsledge_read_rframe(bytes: *const u8, count: usize, values: *mut [u64; 22])
+        -> FlatR;
     pub fn sheafsledge_write_tframe(
         out: *mut u8,
         room: usize,

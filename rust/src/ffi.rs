@@ -3,15 +3,15 @@
 use crate::boundary::*;
 use crate::{Refusal, WalkHead};
 
-pub fn read_t(bytes: &[u8]) -> FlatT {
-    // SAFETY: pointer and count are a slice's. The library is proved to touch nothing else, and
-    // keeps neither (its contract speaks of `bytes` alone).
-    unsafe { sheafsledge_read_tframe(bytes.as_ptr(), bytes.len()) }
+pub fn read_t(bytes: &[u8], values: &mut [u64; 10]) -> FlatT {
+    // SAFETY: pointer and count are a slice's, and the values are borrowed alone. The library is
+    // proved to touch nothing else, and keeps neither (its contract speaks of the two alone).
+    unsafe { sheafsledge_read_tframe(bytes.as_ptr(), bytes.len(), values) }
 }
 
-pub fn read_r(bytes: &[u8]) -> FlatR {
+pub fn read_r(bytes: &[u8], values: &mut [u64; 22]) -> FlatR {
     // SAFETY: as for `read_t`.
-    unsafe { sheafsledge_read_rframe(bytes.as_ptr(), bytes.len()) }
+    unsafe { sheafsledge_read_rframe(bytes.as_ptr(), bytes.len(), values) }
 }
 
 pub fn frame_at(bytes: &[u8], position: usize) -> FlatStep {

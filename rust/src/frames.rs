@@ -40,13 +40,13 @@ impl<'a> Tframe<'a> {
     /// # Ok::<(), sheafsledge::Refusal>(())
     /// ```
     pub fn decode(bytes: &'a [u8]) -> Result<Decoded<Self>, Refusal> {
-        let flat = ffi::read_t(bytes);
+        let mut values = [0; 10];
+        let flat = ffi::read_t(bytes, &mut values);
         let msg = match Refusal::of(flat.refusal) {
             Some(refusal) if !flat.tagged => return Err(refusal),
             Some(refusal) => Err(refusal),
             None => {
-                let values = flat.values.iter();
-                let frame = bytes;
+                let (values, frame) = (values.iter(), bytes);
                 Tmessage::take(flat.ty, &mut Taken { values, frame }).ok_or(Refusal::UnknownType)
             }
         };
@@ -71,12 +71,12 @@ impl<'a> Tframe<'a> {
 impl<'a> Rframe<'a> {
     /// Reads the reply at the front of some bytes; no byte behind its declared size is looked at.
     pub fn decode(bytes: &'a [u8]) -> Result<Decoded<Self>, Refusal> {
-        let flat = ffi::read_r(bytes);
+        let mut values = [0; 22];
+        let flat = ffi::read_r(bytes, &mut values);
         if let Some(refusal) = Refusal::of(flat.refusal) {
             return Err(refusal);
         }
-        let values = flat.values.iter();
-        let frame = bytes;
+        let (values, frame) = (values.iter(), bytes);
         let msg = Rmessage::take(flat.ty, &mut Taken { values, frame });
         let frame = Self {
             tag: flat.tag,

@@ -4,9 +4,7 @@
 use std::fmt;
 use std::iter::FusedIterator;
 
-use crate::boundary::FlatStep;
-use crate::fields::{shown, Taken};
-use crate::{ffi, Refusal, Rmessage, Tmessage};
+use crate::{ffi, Refusal, Rframe, Rmessage, Tframe, Tmessage};
 
 /// What a frame holds: a request if its type is even, else a reply.
 #[derive(Clone, Copy, Debug, PartialEq, Eq)]
@@ -93,48 +91,56 @@ impl<'a> Iterator for Stretch<'a> {
     type Item = Result<Listed<'a>, Stop>;
 
     fn next(&mut self) -> Option<Self::Item> {
-        let step = ffi::frame_at(self.bytes, self.position?);
-        self.position = None;
+        let at = self.position.take()?;
+        let step = ffi::frame_at(self.bytes, at);
         if step.end {
             return None;
         }
         if let Some(refusal) = Refusal::of(step.refusal) {
-            let at = step.at;
             return Some(Err(Stop { at, refusal }));
         }
-        self.position = Some(step.next);
-        let frame = shown(self.bytes, step.at, step.size);
-        Some(Ok(Listed::taken(&step, frame)))
+        let next = step.next;
+        self.position = Some(next);
+        let frame = &self.bytes[at..next];
+        let (body, tail) = Body::read(step.ty, frame);
+        Some(Ok(Listed {
+            at,
+            size: frame.len(),
+            ty: step.ty,
+            tag: step.tag,
+            body,
+            tail,
+            next,
+        }))
     }
 }
 
 impl FusedIterator for Stretch<'_> {}
 
-impl<'a> Listed<'a> {
-    fn taken(step: &FlatStep, frame: &'a [u8]) -> Self {
-        let values = step.values.iter();
-        let taken = &mut Taken { values, frame };
-        let refusal = Refusal::of(step.body);
-        let unknown = Refusal::UnknownType;
-        let body = match step.ty % 2 {
-            0 => Body::Request(match refusal {
-                Some(refusal) => Err(refusal),
-                None => Tmessage::take(step.ty, taken).ok_or(unknown),
-            }),
-            _ => Body::Reply(match refusal {
-                Some(refusal) => Err(refusal),
-                None => Rmessage::take(step.ty, taken).ok_or(unknown),
-            }),
-        };
-        Self {
-            at: step.at,
-            size: step.size,
-            ty: step.ty,
-            tag: step.tag,
-            body,
-            tail: step.tail,
-            next: step.next,
+impl<'a> Body<'a> {
+    /// What a frame of exactly these bytes holds, and how many of them stand behind its last field.
+    fn read(ty: u8, frame: &'a [u8]) -> (Self, usize) {
+        let size = frame.len();
+        match ty % 2 {
+            0 => {
+                let read = Tframe::decode(frame).and_then(|read| Ok((read.frame.msg?, read.used)));
+                let (msg, tail) = with_tail(read, size);
+                (Self::Request(msg), tail)
+            }
+            _ => {
+                let read = Rframe::decode(frame).map(|read| (read.frame.msg, read.used));
+                let (msg, tail) = with_tail(read, size);
+                (Self::Reply(msg), tail)
+            }
         }
+    }
+}
+
+/// A message with what is left of its frame's size in place of the bytes used.
+fn with_tail<M>(read: Result<(M, usize), Refusal>, size: usize) -> (Result<M, Refusal>, usize) {
+    match read {
+        Ok((msg, used)) => (Ok(msg), size - used),
+        Err(refusal) => (Err(refusal), 0),
     }
 }
 

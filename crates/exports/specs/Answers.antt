@@ -3,13 +3,18 @@ use Prim.Native.Nat.{ℕ}
 use mathlib.Core.Path.{_≡_, ap, ap₂, _∙_}
 use mathlib.Core.List.{List}
 use Rattle.numbers.specs.PlaceLaws.{one-answer}
+use Rattle.numbers.specs.Refusals.{numberOf}
 use Rattle.numbers.specs.declared.Place.{Place}
+use Rattle.numbers.specs.declared.Place.the-variants.{At, Refused}
 use Rattle.fields.specs.Layouts.{Layout}
 use Rattle.fields.specs.Values.{Value}
 use Rattle.fields.specs.Fields.{Fields, valuesAt, pastFields}
 use Rattle.flat.specs.Flat.{flatValues}
-use Rattle.exports.specs.Flats.{wroteOf}
 use Rattle.exports.specs.declared.Wrote.{Wrote}
+
+abbrev pub wroteOf : Place → Wrote
+wroteOf (At n) = record { refusal = 0; len = n }
+wroteOf (Refused k) = record { refusal = numberOf k; len = 0 }
 
 -- the output that is left, and the place that is answered
 pub record Leaves (out : List ℕ) (past : Place) (o' : List ℕ) (w : Wrote) : Type 0 where

@@ -15,8 +15,7 @@ use Rattle.fields.specs.Layouts.{Item}
 use Rattle.fields.specs.Values.{Value, val, span, shows}
 use Rattle.fields.specs.Laying.{writtenOut, writtenPast, Written}
 use Rattle.messages.specs.Tables.{layoutDirent}
-use Rattle.exports.specs.Flats.{wroteOf}
-use Rattle.exports.specs.Answers.{Leaves, leaves}
+use Rattle.exports.specs.Answers.{wroteOf, Leaves, leaves}
 use Rattle.exports.specs.declared.Wrote.{Wrote}
 use Rattle.exports.specs.declared.dirents.FlatDirent.{FlatDirent}
 

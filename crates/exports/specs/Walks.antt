@@ -12,8 +12,7 @@ use Rattle.fields.specs.Values.{Value, startOf, lenOf, shows}
 use Rattle.messages.specs.declared.qids.Qid.{Qid}
 use Rattle.frames.specs.Writing.{frameOut, framePast}
 use Rattle.frames.specs.Tables.{TableWritten, fromTable, walkFields, walkValues, qidItems}
-use Rattle.exports.specs.Flats.{wroteOf}
-use Rattle.exports.specs.Answers.{Leaves, leaves}
+use Rattle.exports.specs.Answers.{wroteOf, Leaves, leaves}
 use Rattle.exports.specs.declared.Wrote.{Wrote}
 use Rattle.exports.specs.declared.walks.FlatSpan.{FlatSpan}
 use Rattle.exports.specs.declared.walks.FlatQid.{FlatQid}

@@ -5,7 +5,6 @@ use mathlib.Core.Path.{_≡_, refl, sym, ap, _∙_}
 use mathlib.Core.List.{List}
 use mathlib.Core.Option.{Option, none, some}
 use borrow.Author.Tests.{ne-eqb}
-use Rattle.numbers.specs.PlaceLaws.{one-answer}
 use Rattle.numbers.specs.declared.Refusal.{Refusal}
 use Rattle.numbers.specs.declared.Refusal.the-variants as R
 use Rattle.numbers.specs.declared.Place.{Place}
@@ -26,13 +25,14 @@ use Rattle.frames.specs.Writing.{frameOut, framePast, FrameWritten}
 use Rattle.frames.specs.Views.{TbodyWritten, TframeWritten}
 use Rattle.frames.specs.declared.Tframe.{Tframe}
 use Rattle.flat.specs.Flat.{fieldValues, bodyFrom}
-use Rattle.exports.specs.Flats.{wroteOf, FlatWritten}
+use Rattle.exports.specs.Answers.{wroteOf, leaves, leaves-one}
+use Rattle.exports.specs.Flats.{FlatWritten}
 use Rattle.exports.specs.declared.Wrote.{Wrote}
 
 pub holds-refusal : {rows : List Row} {refusal ty tag : ℕ} {ns lent o : List ℕ} {w : Wrote} → (refusal ≡ 0 → ⊥) → w ≡ wroteOf (Refused R.HoldsRefusal)
     → FlatWritten rows refusal ty tag ns lent o o w
 unfolding frameOut framePast
-holds-refusal {refusal = refusal} h e = let f = ne-eqb refusal 0 h in record { bytes = rw f; wrote = rw f e }
+holds-refusal {refusal = refusal} h e = let f = ne-eqb refusal 0 h in record { is = rw f (leaves refl refl e) }
 
 pub type-unknown : {rows : List Row} {refusal ty tag : ℕ} {ns lent o : List ℕ} {w : Wrote} {k : Refusal} (used : ℕ) → refusal ≡ 0
     → refused k ≡ bodyFrom (lookup rows ty) ty ns used → w ≡ wroteOf (Refused k) → FlatWritten rows refusal ty tag ns lent o o w
@@ -40,7 +40,7 @@ unfolding frameOut framePast
 type-unknown {rows} {refusal} {ty} {tag} {ns} {lent} {o} {w} {k} used z e x = rw z (go (lookup rows ty) refl e)
   where
     go : (l : Option Layout) → lookup rows ty ≡ l → refused k ≡ bodyFrom l ty ns used → FlatWritten rows 0 ty tag ns lent o o w
-    go none f g = let a : k ≡ R.UnknownType = cc g in record { bytes = rw f; wrote = rw f (x ∙ ap (λ j. wroteOf (Refused j)) a) }
+    go none f g = let a : k ≡ R.UnknownType = cc g in record { is = rw f (leaves refl (ap Refused a) x) }
     go (some l) f g = absurd (let b : _≡_ {A = ℕ} 0 1 = cc g in omega arith)
 
 pub record-written : {rows : List Row} {refusal ty tag t n : ℕ} {ns lent o o' : List ℕ} {vs : List Value} {q : Place} {w : Wrote} (used : ℕ) → refusal ≡ 0
@@ -54,7 +54,7 @@ record-written {rows} {refusal} {ty} {tag} {t} {n} {ns} {lent} {o} {o'} {vs} {q}
         let a : t ≡ ty = cc g in
         let b : vs ≡ fieldValues l ns = cc g in
         let k : FrameWritten l ty tag lent (fieldValues l ns) o o' q = rw (a, f, b) at h in
-        record { bytes = rw f (k .bytes); wrote = rw f (x ∙ ap wroteOf (k .next)) }
+        record { is = rw f (leaves (k .bytes) (k .next) x) }
 
 -- ---- by the direction
 
@@ -83,4 +83,4 @@ reply-written used z f e h x = record-written used z (rw f at e) h x
 -- any two answers that the promise allows are equal
 pub flat-one : {rows : List Row} {refusal ty tag : ℕ} {ns lent o o1 o2 : List ℕ} {w w' : Wrote} → FlatWritten rows refusal ty tag ns lent o o1 w → FlatWritten rows refusal ty tag ns lent o o2 w'
     → (o1 ≡ o2) × (w ≡ w')
-flat-one a b = (one-answer (a .bytes) (b .bytes), one-answer (a .wrote) (b .wrote))
+flat-one a b = leaves-one (a .is) (b .is)

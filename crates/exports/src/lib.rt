@@ -15,11 +15,15 @@ use numbers::Refusal;
 use replies::Rbody;
 use requests::Tbody;
 ghost use mathlib.Core.Path.{_≡_};
+ghost use mathlib.Core.List.{[]};
+ghost use Rattle.flat.specs.Flat.{flat};
 ghost use Rattle.messages.specs.Tables.{tableT, tableR};
 ghost use Rattle.frames.specs.Frames.{readFrame, refusedWhole};
-ghost use Rattle.exports.specs.Flats.{refusedT, flatT, flatBodyT, refusedR, flatR, flatBodyR, wroteOf, FlatWritten};
+ghost use Rattle.exports.specs.Flats.{refusedT, flatT, flatBodyT, refusedR, flatR, flatBodyR, valuesIn, kept, FlatWritten};
+ghost use Rattle.exports.specs.Answers.{wroteOf};
 
-// A request: 0 with its type, tag, bytes used and values; or its refusal, with the tag if the header could be read.
+// A request: 0 with its type, tag and bytes used; or its refusal, with the tag if the header could be read. Its values go to where the
+// caller has room for them; where it is refused, they are 0.
 #[repr(C)]
 pub struct FlatT {
     pub refusal: u8,
@@ -27,17 +31,15 @@ pub struct FlatT {
     pub tag: u16,
     pub tagged: bool,
     pub used: usize,
-    pub values: [u64; 10],
 }
 
-// A reply: 0 with its type, tag, bytes used and values; or its refusal.
+// A reply: 0 with its type, tag and bytes used; or its refusal.
 #[repr(C)]
 pub struct FlatR {
     pub refusal: u8,
     pub ty: u8,
     pub tag: u16,
     pub used: usize,
-    pub values: [u64; 22],
 }
 
 // What writing answers: 0 and the frame's length; or the refusal.
@@ -47,23 +49,24 @@ pub struct Wrote {
     pub len: usize,
 }
 
-fn refused_t(k: Refusal, tag: u16, tagged: bool) -> FlatT
+fn refused_t(k: Refusal, tag: u16, tagged: bool, values: &mut [u64; 10]) -> FlatT
     ensures { λ r. ⌜ r ≡ refusedT k tag tagged ⌝ }
+    ensures { λ r. ⌜ now (values .exit) ≡ flat 10 [] ⌝ }
 {
+    *values = [0u64; 10];
     let refusal = numbers::number(k);
-    let values = [0u64; 10];
     FlatT {
         refusal,
         ty: 0,
         tag,
         tagged,
         used: 0,
-        values,
     }
 }
 
-fn flat_tbody(ty: u8, tag: u16, values: [u64; 10], next: Place) -> FlatT
-    ensures { λ r. ⌜ r ≡ flatBodyT ty tag values next ⌝ }
+fn flat_tbody(ty: u8, tag: u16, next: Place, values: &mut [u64; 10]) -> FlatT
+    ensures { λ r. ⌜ r ≡ flatBodyT ty tag next ⌝ }
+    ensures { λ r. ⌜ now (values .exit) ≡ kept 10 next (now (values .entry)) ⌝ }
 {
     match next {
         Place::At(used) => FlatT {
@@ -72,28 +75,28 @@ fn flat_tbody(ty: u8, tag: u16, values: [u64; 10], next: Place) -> FlatT
             tag,
             tagged: true,
             used,
-            values,
         },
-        Place::Refused(k) => refused_t(k, tag, true),
+        Place::Refused(k) => refused_t(k, tag, true, values),
     }
 }
 
-fn refused_r(k: Refusal) -> FlatR
+fn refused_r(k: Refusal, values: &mut [u64; 22]) -> FlatR
     ensures { λ r. ⌜ r ≡ refusedR k ⌝ }
+    ensures { λ r. ⌜ now (values .exit) ≡ flat 22 [] ⌝ }
 {
+    *values = [0u64; 22];
     let refusal = numbers::number(k);
-    let values = [0u64; 22];
     FlatR {
         refusal,
         ty: 0,
         tag: 0,
         used: 0,
-        values,
     }
 }
 
-fn flat_rbody(ty: u8, tag: u16, values: [u64; 22], next: Place) -> FlatR
-    ensures { λ r. ⌜ r ≡ flatBodyR ty tag values next ⌝ }
+fn flat_rbody(ty: u8, tag: u16, next: Place, values: &mut [u64; 22]) -> FlatR
+    ensures { λ r. ⌜ r ≡ flatBodyR ty tag next ⌝ }
+    ensures { λ r. ⌜ now (values .exit) ≡ kept 22 next (now (values .entry)) ⌝ }
 {
     match next {
         Place::At(used) => FlatR {
@@ -101,42 +104,39 @@ fn flat_rbody(ty: u8, tag: u16, values: [u64; 22], next: Place) -> FlatR
             ty,
             tag,
             used,
-            values,
         },
-        Place::Refused(k) => refused_r(k),
+        Place::Refused(k) => refused_r(k, values),
     }
 }
 
 // What `frames::read_tframe` and `read_rframe` answer, laid flat. A record goes flat in the arm that reads it, and through no enum.
 #[no_mangle]
-pub extern "C" fn sheafsledge_read_tframe(bytes: &[u8]) -> FlatT
+pub extern "C" fn sheafsledge_read_tframe(bytes: &[u8], values: &mut [u64; 10]) -> FlatT
     ensures { λ r. ⌜ r ≡ flatT (readFrame tableT (now (bytes .entry))) ⌝ }
+    ensures { λ r. ⌜ now (values .exit) ≡ flat 10 (valuesIn (readFrame tableT (now (bytes .entry)))) ⌝ }
 {
     let head = frames::read_header(bytes);
     match head {
         Head::Held(n, ty, tag) => {
-            let body = flat_requests::read_flat(&bytes[..n], ty, Place::At(7));
-            let values = body.values;
-            let next = body.next;
-            flat_tbody(ty, tag, values, next)
+            let next = flat_requests::read_flat(&bytes[..n], ty, values);
+            flat_tbody(ty, tag, next, values)
         }
-        Head::Refused(k) => refused_t(k, 0, false),
+        Head::Refused(k) => refused_t(k, 0, false, values),
     }
 }
 
 #[no_mangle]
-pub extern "C" fn sheafsledge_read_rframe(bytes: &[u8]) -> FlatR
+pub extern "C" fn sheafsledge_read_rframe(bytes: &[u8], values: &mut [u64; 22]) -> FlatR
     ensures { λ r. ⌜ r ≡ flatR (refusedWhole (readFrame tableR (now (bytes .entry)))) ⌝ }
+    ensures { λ r. ⌜ now (values .exit) ≡ flat 22 (valuesIn (readFrame tableR (now (bytes .entry)))) ⌝ }
 {
     let head = frames::read_header(bytes);
     match head {
         Head::Held(n, ty, tag) => {
-            let body = flat_replies::read_flat(&bytes[..n], ty, Place::At(7));
-            let values = body.values;
-            let next = body.next;
-            flat_rbody(ty, tag, values, next)
+            let next = flat_replies::read_flat(&bytes[..n], ty, values);
+            flat_rbody(ty, tag, next, values)
         }
-        Head::Refused(k) => refused_r(k),
+        Head::Refused(k) => refused_r(k, values),
     }
 }
 

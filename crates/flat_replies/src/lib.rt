@@ -1,4 +1,4 @@
-// The 29 replies laid flat, read flat, and put together again by their type number.
+// The 29 replies read flat, and put together by their type number.
 
 use flat::attributes;
 use flat::directories;
@@ -12,45 +12,10 @@ use replies::Rbody;
 use replies::Rmessage;
 ghost use mathlib.Core.Path.{_≡_};
 ghost use mathlib.Core.List.{[]};
+ghost use Rattle.numbers.specs.declared.Place.the-variants.{At};
 ghost use Rattle.messages.specs.Tables.{lookup, tableR};
-ghost use Rattle.replies.specs.Views.{valuesR, viewR};
+ghost use Rattle.replies.specs.Views.{viewR};
 ghost use Rattle.flat.specs.Flat.{flat, bodyFrom, FlatRead};
-
-pub fn flat_rmessage(m: Rmessage) -> [u64; 22]
-    ensures { λ r. ⌜ r ≡ flat 22 (valuesR m) ⌝ }
-{
-    match m {
-        Rmessage::Version(m) => sessions::flat_rversion(m),
-        Rmessage::Flush => [0u64; 22],
-        Rmessage::Walk(m) => walking::flat_rwalk(m),
-        Rmessage::Read(m) => files::flat_rread(m),
-        Rmessage::Write(m) => files::flat_rwrite(m),
-        Rmessage::Clunk => [0u64; 22],
-        Rmessage::Remove => [0u64; 22],
-        Rmessage::Attach(m) => sessions::flat_rattach(m),
-        Rmessage::Auth(m) => sessions::flat_rauth(m),
-        Rmessage::Statfs(m) => attributes::flat_rstatfs(m),
-        Rmessage::Lopen(m) => files::flat_rlopen(m),
-        Rmessage::Lcreate(m) => files::flat_rlcreate(m),
-        Rmessage::Symlink(m) => directories::flat_rsymlink(m),
-        Rmessage::Mknod(m) => directories::flat_rmknod(m),
-        Rmessage::Rename => [0u64; 22],
-        Rmessage::Readlink(m) => directories::flat_rreadlink(m),
-        Rmessage::GetAttr(m) => attributes::flat_rgetattr(m),
-        Rmessage::SetAttr => [0u64; 22],
-        Rmessage::XattrWalk(m) => attributes::flat_rxattrwalk(m),
-        Rmessage::XattrCreate => [0u64; 22],
-        Rmessage::Readdir(m) => directories::flat_rreaddir(m),
-        Rmessage::Fsync => [0u64; 22],
-        Rmessage::Lock(m) => locks::flat_rlock(m),
-        Rmessage::GetLock(m) => locks::flat_rgetlock(m),
-        Rmessage::Link => [0u64; 22],
-        Rmessage::Mkdir(m) => directories::flat_rmkdir(m),
-        Rmessage::RenameAt => [0u64; 22],
-        Rmessage::UnlinkAt => [0u64; 22],
-        Rmessage::Lerror(m) => sessions::flat_rlerror(m),
-    }
-}
 
 // The body of a type, put together from its values; 3 where the type is not known.
 pub fn rbody_of(ty: u8, v: [u64; 22], used: usize) -> Rbody
@@ -90,169 +55,166 @@ pub fn rbody_of(ty: u8, v: [u64; 22], used: usize) -> Rbody
     }
 }
 
-// A body that was read, laid flat: its values, 0 from a refused field on, and the place behind its fields or the refusal.
-pub struct FlatBody {
-    pub values: [u64; 22],
-    pub next: Place,
+// The values of a body that has none.
+fn no_values(next: Place, values: &mut [u64; 22]) -> Place
+    ensures { λ r. ⌜ r ≡ next ⌝ }
+    ensures { λ r. ⌜ now (values .exit) ≡ flat 22 [] ⌝ }
+{
+    *values = [0u64; 22];
+    next
 }
 
-// A body that ends where it begins, or is refused: no values.
-fn no_values(next: Place) -> FlatBody
-    ensures { λ r. ⌜ (r .values ≡ flat 22 []) × (r .next ≡ next) ⌝ }
+// A frame's body read flat: its values, 0 from a refused field on, go to where the caller has room for them; the place behind its
+// fields is answered, or the refusal. The type decides the body, as in `replies::read_rmessage`; but its record goes flat at once, and
+// through no enum that would have to be told apart again.
+pub fn read_flat(s: &[u8], ty: u8, values: &mut [u64; 22]) -> Place
+    ensures { λ r. ⌜ FlatRead 22 (lookup tableR ty) (now (s .entry)) (At 7) (now (values .exit)) r ⌝ }
 {
-    let values = [0u64; 22];
-    FlatBody { values, next }
-}
-
-// The type decides the body, as in `replies::read_rmessage`; but its record goes flat at once, and through no enum that would have to
-// be told apart again.
-pub fn read_flat(s: &[u8], ty: u8, p: Place) -> FlatBody
-    ensures { λ r. ⌜ FlatRead 22 (lookup tableR ty) (now (s .entry)) p (r .values) (r .next) ⌝ }
-{
+    let p = Place::At(7);
     match ty {
         7 => {
             let r = messages::sessions::read_rlerror(s, p);
             let m = r.value;
             let next = r.next;
-            let values = sessions::flat_rlerror(m);
-            FlatBody { values, next }
+            *values = sessions::flat_rlerror(m);
+            next
         }
         9 => {
             let r = messages::attributes::read_rstatfs(s, p);
             let m = r.value;
             let next = r.next;
-            let values = attributes::flat_rstatfs(m);
-            FlatBody { values, next }
+            *values = attributes::flat_rstatfs(m);
+            next
         }
         13 => {
             let r = messages::files::read_rlopen(s, p);
             let m = r.value;
             let next = r.next;
-            let values = files::flat_rlopen(m);
-            FlatBody { values, next }
+            *values = files::flat_rlopen(m);
+            next
         }
         15 => {
             let r = messages::files::read_rlcreate(s, p);
             let m = r.value;
             let next = r.next;
-            let values = files::flat_rlcreate(m);
-            FlatBody { values, next }
+            *values = files::flat_rlcreate(m);
+            next
         }
         17 => {
             let r = messages::directories::read_rsymlink(s, p);
             let m = r.value;
             let next = r.next;
-            let values = directories::flat_rsymlink(m);
-            FlatBody { values, next }
+            *values = directories::flat_rsymlink(m);
+            next
         }
         19 => {
             let r = messages::directories::read_rmknod(s, p);
             let m = r.value;
             let next = r.next;
-            let values = directories::flat_rmknod(m);
-            FlatBody { values, next }
+            *values = directories::flat_rmknod(m);
+            next
         }
-        21 => no_values(p),
+        21 => no_values(p, values),
         23 => {
             let r = messages::directories::read_rreadlink(s, p);
             let m = r.value;
             let next = r.next;
-            let values = directories::flat_rreadlink(m);
-            FlatBody { values, next }
+            *values = directories::flat_rreadlink(m);
+            next
         }
         25 => {
             let r = messages::attributes::read_rgetattr(s, p);
             let m = r.value;
             let next = r.next;
-            let values = attributes::flat_rgetattr(m);
-            FlatBody { values, next }
+            *values = attributes::flat_rgetattr(m);
+            next
         }
-        27 => no_values(p),
+        27 => no_values(p, values),
         31 => {
             let r = messages::attributes::read_rxattrwalk(s, p);
             let m = r.value;
             let next = r.next;
-            let values = attributes::flat_rxattrwalk(m);
-            FlatBody { values, next }
+            *values = attributes::flat_rxattrwalk(m);
+            next
         }
-        33 => no_values(p),
+        33 => no_values(p, values),
         41 => {
             let r = messages::directories::read_rreaddir(s, p);
             let m = r.value;
             let next = r.next;
-            let values = directories::flat_rreaddir(m);
-            FlatBody { values, next }
+            *values = directories::flat_rreaddir(m);
+            next
         }
-        51 => no_values(p),
+        51 => no_values(p, values),
         53 => {
             let r = messages::locks::read_rlock(s, p);
             let m = r.value;
             let next = r.next;
-            let values = locks::flat_rlock(m);
-            FlatBody { values, next }
+            *values = locks::flat_rlock(m);
+            next
         }
         55 => {
             let r = messages::locks::read_rgetlock(s, p);
             let m = r.value;
             let next = r.next;
-            let values = locks::flat_rgetlock(m);
-            FlatBody { values, next }
+            *values = locks::flat_rgetlock(m);
+            next
         }
-        71 => no_values(p),
+        71 => no_values(p, values),
         73 => {
             let r = messages::directories::read_rmkdir(s, p);
             let m = r.value;
             let next = r.next;
-            let values = directories::flat_rmkdir(m);
-            FlatBody { values, next }
+            *values = directories::flat_rmkdir(m);
+            next
         }
-        75 => no_values(p),
-        77 => no_values(p),
+        75 => no_values(p, values),
+        77 => no_values(p, values),
         101 => {
             let r = messages::sessions::read_rversion(s, p);
             let m = r.value;
             let next = r.next;
-            let values = sessions::flat_rversion(m);
-            FlatBody { values, next }
+            *values = sessions::flat_rversion(m);
+            next
         }
         103 => {
             let r = messages::sessions::read_rauth(s, p);
             let m = r.value;
             let next = r.next;
-            let values = sessions::flat_rauth(m);
-            FlatBody { values, next }
+            *values = sessions::flat_rauth(m);
+            next
         }
         105 => {
             let r = messages::sessions::read_rattach(s, p);
             let m = r.value;
             let next = r.next;
-            let values = sessions::flat_rattach(m);
-            FlatBody { values, next }
+            *values = sessions::flat_rattach(m);
+            next
         }
-        109 => no_values(p),
+        109 => no_values(p, values),
         111 => {
             let r = messages::walking::read_rwalk(s, p);
             let m = r.value;
             let next = r.next;
-            let values = walking::flat_rwalk(m);
-            FlatBody { values, next }
+            *values = walking::flat_rwalk(m);
+            next
         }
         117 => {
             let r = messages::files::read_rread(s, p);
             let m = r.value;
             let next = r.next;
-            let values = files::flat_rread(m);
-            FlatBody { values, next }
+            *values = files::flat_rread(m);
+            next
         }
         119 => {
             let r = messages::files::read_rwrite(s, p);
             let m = r.value;
             let next = r.next;
-            let values = files::flat_rwrite(m);
-            FlatBody { values, next }
+            *values = files::flat_rwrite(m);
+            next
         }
-        121 => no_values(p),
-        123 => no_values(p),
-        _ => no_values(Place::Refused(Refusal::UnknownType)),
+        121 => no_values(p, values),
+        123 => no_values(p, values),
+        _ => no_values(Place::Refused(Refusal::UnknownType), values),
     }
 }

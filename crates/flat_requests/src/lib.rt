@@ -1,4 +1,4 @@
-// The 28 requests laid flat, read flat, and put together again by their type number.
+// The 28 requests read flat, and put together by their type number.
 
 use flat::attributes;
 use flat::directories;
@@ -11,44 +11,10 @@ use numbers::Refusal;
 use requests::Tbody;
 use requests::Tmessage;
 ghost use mathlib.Core.Path.{_≡_};
+ghost use Rattle.numbers.specs.declared.Place.the-variants.{At};
 ghost use Rattle.messages.specs.Tables.{lookup, tableT};
-ghost use Rattle.requests.specs.Views.{valuesT, viewT};
-ghost use Rattle.flat.specs.Flat.{flat, bodyFrom, FlatRead};
-
-pub fn flat_tmessage(m: Tmessage) -> [u64; 10]
-    ensures { λ r. ⌜ r ≡ flat 10 (valuesT m) ⌝ }
-{
-    match m {
-        Tmessage::Version(m) => sessions::flat_tversion(m),
-        Tmessage::Flush(m) => sessions::flat_tflush(m),
-        Tmessage::Walk(m) => walking::flat_twalk(m),
-        Tmessage::Read(m) => files::flat_tread(m),
-        Tmessage::Write(m) => files::flat_twrite(m),
-        Tmessage::Clunk(m) => sessions::flat_tclunk(m),
-        Tmessage::Remove(m) => files::flat_tremove(m),
-        Tmessage::Attach(m) => sessions::flat_tattach(m),
-        Tmessage::Auth(m) => sessions::flat_tauth(m),
-        Tmessage::Statfs(m) => attributes::flat_tstatfs(m),
-        Tmessage::Lopen(m) => files::flat_tlopen(m),
-        Tmessage::Lcreate(m) => files::flat_tlcreate(m),
-        Tmessage::Symlink(m) => directories::flat_tsymlink(m),
-        Tmessage::Mknod(m) => directories::flat_tmknod(m),
-        Tmessage::Rename(m) => directories::flat_trename(m),
-        Tmessage::Readlink(m) => directories::flat_treadlink(m),
-        Tmessage::GetAttr(m) => attributes::flat_tgetattr(m),
-        Tmessage::SetAttr(m) => attributes::flat_tsetattr(m),
-        Tmessage::XattrWalk(m) => attributes::flat_txattrwalk(m),
-        Tmessage::XattrCreate(m) => attributes::flat_txattrcreate(m),
-        Tmessage::Readdir(m) => directories::flat_treaddir(m),
-        Tmessage::Fsync(m) => files::flat_tfsync(m),
-        Tmessage::Lock(m) => locks::flat_tlock(m),
-        Tmessage::GetLock(m) => locks::flat_tgetlock(m),
-        Tmessage::Link(m) => directories::flat_tlink(m),
-        Tmessage::Mkdir(m) => directories::flat_tmkdir(m),
-        Tmessage::RenameAt(m) => directories::flat_trenameat(m),
-        Tmessage::UnlinkAt(m) => directories::flat_tunlinkat(m),
-    }
-}
+ghost use Rattle.requests.specs.Views.{viewT};
+ghost use Rattle.flat.specs.Flat.{bodyFrom, FlatRead};
 
 // The body of a type, put together from its values; 3 where the type is not known.
 pub fn tbody_of(ty: u8, v: [u64; 10], used: usize) -> Tbody
@@ -87,220 +53,213 @@ pub fn tbody_of(ty: u8, v: [u64; 10], used: usize) -> Tbody
     }
 }
 
-// A body that was read, laid flat: its values, 0 from a refused field on, and the place behind its fields or the refusal.
-pub struct FlatBody {
-    pub values: [u64; 10],
-    pub next: Place,
-}
-
-// The type decides the body, as in `requests::read_tmessage`; but its record goes flat at once, and through no enum that would have to
-// be told apart again.
-pub fn read_flat(s: &[u8], ty: u8, p: Place) -> FlatBody
-    ensures { λ r. ⌜ FlatRead 10 (lookup tableT ty) (now (s .entry)) p (r .values) (r .next) ⌝ }
+// A frame's body read flat: its values, 0 from a refused field on, go to where the caller has room for them; the place behind its
+// fields is answered, or the refusal. The type decides the body, as in `requests::read_tmessage`; but its record goes flat at once, and
+// through no enum that would have to be told apart again.
+pub fn read_flat(s: &[u8], ty: u8, values: &mut [u64; 10]) -> Place
+    ensures { λ r. ⌜ FlatRead 10 (lookup tableT ty) (now (s .entry)) (At 7) (now (values .exit)) r ⌝ }
 {
+    let p = Place::At(7);
     match ty {
         8 => {
             let r = messages::attributes::read_tstatfs(s, p);
             let m = r.value;
             let next = r.next;
-            let values = attributes::flat_tstatfs(m);
-            FlatBody { values, next }
+            *values = attributes::flat_tstatfs(m);
+            next
         }
         12 => {
             let r = messages::files::read_tlopen(s, p);
             let m = r.value;
             let next = r.next;
-            let values = files::flat_tlopen(m);
-            FlatBody { values, next }
+            *values = files::flat_tlopen(m);
+            next
         }
         14 => {
             let r = messages::files::read_tlcreate(s, p);
             let m = r.value;
             let next = r.next;
-            let values = files::flat_tlcreate(m);
-            FlatBody { values, next }
+            *values = files::flat_tlcreate(m);
+            next
         }
         16 => {
             let r = messages::directories::read_tsymlink(s, p);
             let m = r.value;
             let next = r.next;
-            let values = directories::flat_tsymlink(m);
-            FlatBody { values, next }
+            *values = directories::flat_tsymlink(m);
+            next
         }
         18 => {
             let r = messages::directories::read_tmknod(s, p);
             let m = r.value;
             let next = r.next;
-            let values = directories::flat_tmknod(m);
-            FlatBody { values, next }
+            *values = directories::flat_tmknod(m);
+            next
         }
         20 => {
             let r = messages::directories::read_trename(s, p);
             let m = r.value;
             let next = r.next;
-            let values = directories::flat_trename(m);
-            FlatBody { values, next }
+            *values = directories::flat_trename(m);
+            next
         }
         22 => {
             let r = messages::directories::read_treadlink(s, p);
             let m = r.value;
             let next = r.next;
-            let values = directories::flat_treadlink(m);
-            FlatBody { values, next }
+            *values = directories::flat_treadlink(m);
+            next
         }
         24 => {
             let r = messages::attributes::read_tgetattr(s, p);
             let m = r.value;
             let next = r.next;
-            let values = attributes::flat_tgetattr(m);
-            FlatBody { values, next }
+            *values = attributes::flat_tgetattr(m);
+            next
         }
         26 => {
             let r = messages::attributes::read_tsetattr(s, p);
             let m = r.value;
             let next = r.next;
-            let values = attributes::flat_tsetattr(m);
-            FlatBody { values, next }
+            *values = attributes::flat_tsetattr(m);
+            next
         }
         30 => {
             let r = messages::attributes::read_txattrwalk(s, p);
             let m = r.value;
             let next = r.next;
-            let values = attributes::flat_txattrwalk(m);
-            FlatBody { values, next }
+            *values = attributes::flat_txattrwalk(m);
+            next
         }
         32 => {
             let r = messages::attributes::read_txattrcreate(s, p);
             let m = r.value;
             let next = r.next;
-            let values = attributes::flat_txattrcreate(m);
-            FlatBody { values, next }
+            *values = attributes::flat_txattrcreate(m);
+            next
         }
         40 => {
             let r = messages::directories::read_treaddir(s, p);
             let m = r.value;
             let next = r.next;
-            let values = directories::flat_treaddir(m);
-            FlatBody { values, next }
+            *values = directories::flat_treaddir(m);
+            next
         }
         50 => {
             let r = messages::files::read_tfsync(s, p);
             let m = r.value;
             let next = r.next;
-            let values = files::flat_tfsync(m);
-            FlatBody { values, next }
+            *values = files::flat_tfsync(m);
+            next
         }
         52 => {
             let r = messages::locks::read_tlock(s, p);
             let m = r.value;
             let next = r.next;
-            let values = locks::flat_tlock(m);
-            FlatBody { values, next }
+            *values = locks::flat_tlock(m);
+            next
         }
         54 => {
             let r = messages::locks::read_tgetlock(s, p);
             let m = r.value;
             let next = r.next;
-            let values = locks::flat_tgetlock(m);
-            FlatBody { values, next }
+            *values = locks::flat_tgetlock(m);
+            next
         }
         70 => {
             let r = messages::directories::read_tlink(s, p);
             let m = r.value;
             let next = r.next;
-            let values = directories::flat_tlink(m);
-            FlatBody { values, next }
+            *values = directories::flat_tlink(m);
+            next
         }
         72 => {
             let r = messages::directories::read_tmkdir(s, p);
             let m = r.value;
             let next = r.next;
-            let values = directories::flat_tmkdir(m);
-            FlatBody { values, next }
+            *values = directories::flat_tmkdir(m);
+            next
         }
         74 => {
             let r = messages::directories::read_trenameat(s, p);
             let m = r.value;
             let next = r.next;
-            let values = directories::flat_trenameat(m);
-            FlatBody { values, next }
+            *values = directories::flat_trenameat(m);
+            next
         }
         76 => {
             let r = messages::directories::read_tunlinkat(s, p);
             let m = r.value;
             let next = r.next;
-            let values = directories::flat_tunlinkat(m);
-            FlatBody { values, next }
+            *values = directories::flat_tunlinkat(m);
+            next
         }
         100 => {
             let r = messages::sessions::read_tversion(s, p);
             let m = r.value;
             let next = r.next;
-            let values = sessions::flat_tversion(m);
-            FlatBody { values, next }
+            *values = sessions::flat_tversion(m);
+            next
         }
         102 => {
             let r = messages::sessions::read_tauth(s, p);
             let m = r.value;
             let next = r.next;
-            let values = sessions::flat_tauth(m);
-            FlatBody { values, next }
+            *values = sessions::flat_tauth(m);
+            next
         }
         104 => {
             let r = messages::sessions::read_tattach(s, p);
             let m = r.value;
             let next = r.next;
-            let values = sessions::flat_tattach(m);
-            FlatBody { values, next }
+            *values = sessions::flat_tattach(m);
+            next
         }
         108 => {
             let r = messages::sessions::read_tflush(s, p);
             let m = r.value;
             let next = r.next;
-            let values = sessions::flat_tflush(m);
-            FlatBody { values, next }
+            *values = sessions::flat_tflush(m);
+            next
         }
         110 => {
             let r = messages::walking::read_twalk(s, p);
             let m = r.value;
             let next = r.next;
-            let values = walking::flat_twalk(m);
-            FlatBody { values, next }
+            *values = walking::flat_twalk(m);
+            next
         }
         116 => {
             let r = messages::files::read_tread(s, p);
             let m = r.value;
             let next = r.next;
-            let values = files::flat_tread(m);
-            FlatBody { values, next }
+            *values = files::flat_tread(m);
+            next
         }
         118 => {
             let r = messages::files::read_twrite(s, p);
             let m = r.value;
             let next = r.next;
-            let values = files::flat_twrite(m);
-            FlatBody { values, next }
+            *values = files::flat_twrite(m);
+            next
         }
         120 => {
             let r = messages::sessions::read_tclunk(s, p);
             let m = r.value;
             let next = r.next;
-            let values = sessions::flat_tclunk(m);
-            FlatBody { values, next }
+            *values = sessions::flat_tclunk(m);
+            next
         }
         122 => {
             let r = messages::files::read_tremove(s, p);
             let m = r.value;
             let next = r.next;
-            let values = files::flat_tremove(m);
-            FlatBody { values, next }
+            *values = files::flat_tremove(m);
+            next
         }
         _ => {
-            let values = [0u64; 10];
-            FlatBody {
-                values,
-                next: Place::Refused(Refusal::UnknownType),
-            }
+            *values = [0u64; 10];
+            Place::Refused(Refusal::UnknownType)
         }
     }
 }

@@ -24,7 +24,7 @@ use Rattle.frames.specs.FrameLaws.{frame-is}
 use Rattle.frames.specs.Views.{Headed}
 use Rattle.frames.specs.Local.{sizeIn}
 use Rattle.stretch.specs.Stretch.{typeIn, tagIn, tableFor, answerIn, answerOf, tailIn, frame, end, stop, frameOf, front, frameAt}
-use Rattle.stretch.specs.Views.{viewBody, BodyOf, Leaves, ListedAs, viewStep, Asked}
+use Rattle.stretch.specs.Views.{viewBody, BodyOf, Leaves, between, Whole, CutAt, ListedAs, viewStep, Asked}
 use Rattle.requests.specs.Views.{viewT}
 use Rattle.requests.specs.declared.Tmessage.{Tmessage}
 use Rattle.requests.specs.declared.Tbody.{Tbody}
@@ -35,6 +35,8 @@ use Rattle.replies.specs.declared.Rbody.{Rbody}
 use Rattle.replies.specs.declared.Rbody.the-variants as Q
 use Rattle.stretch.specs.declared.Body.{Body}
 use Rattle.stretch.specs.declared.Body.the-variants as B
+use Rattle.stretch.specs.declared.Cut.{Cut}
+use Rattle.stretch.specs.declared.Cut.the-variants as C
 use Rattle.stretch.specs.declared.Listed.{Listed}
 use Rattle.stretch.specs.declared.Step.the-variants as S
 
@@ -116,27 +118,73 @@ pub answer-is : (ts rs : List Row) (f : List ℕ) → Bytes f → 7 ≤ length f
 unfolding answerOf
 answer-is ts rs f b h e = ap answerIn (rw (take-length f) at (frame-is (tableFor ts rs (typeIn f)) b (whole-header f h e)))
 
-frame-same : {a a' b b' c c' d d' t t' n n' : ℕ} {x x' : Answer} → a ≡ a' → b ≡ b' → c ≡ c' → d ≡ d' → x ≡ x' → t ≡ t' → n ≡ n' → frame a b c d x t n ≡ frame a' b' c' d' x' t' n'
+pub frame-same : {a a' b b' c c' d d' t t' n n' : ℕ} {x x' : Answer} → a ≡ a' → b ≡ b' → c ≡ c' → d ≡ d' → x ≡ x' → t ≡ t' → n ≡ n' → frame a b c d x t n ≡ frame a' b' c' d' x' t' n'
 frame-same e1 e2 e3 e4 e5 e6 e7 = rw (e1, e2, e3, e4, e5, e6, e7)
 
-pub at-frame : {s : List ℕ} {p x e : ℕ} {q : Place} {t : Bool} (l : Listed) → Bytes s → NumRead 4 s (At p) x q → q ≡ At e → 7 ≤ x → Within p x (length s) t → t ≡ true
-    → ListedAs (take (p + x - p) (drop p s)) p (p + x) l → Asked s p (S.Frame l)
-unfolding viewStep
-at-frame {s} {p} {x} l b r e h w g m =
+-- what the size, the type and the tag that are read there make of it
+pub whole-cut : {s : List ℕ} {p x e ty tag : ℕ} {q q' q'' : Place} {t : Bool} → NumRead 4 s (At p) x q → q ≡ At e → 7 ≤ x → Within p x (length s) t → t ≡ true
+    → NumRead 1 (between p (p + x) s) (At 4) ty q' → NumRead 2 (between p (p + x) s) (At 5) tag q'' → CutAt s p (C.Whole ty tag (p + x))
+unfolding CutAt
+whole-cut {s} {p} {x} r e h w g a b =
     let n : p + x - p ≡ x = omega arith in
     let i = inside w g in
     let f : List ℕ = take x (drop p s) in
-    let k : ListedAs f p (p + x) l = rw n at m in
     let d = length-drop p s in
     let z : length f ≡ x = length-take-le x (drop p s) (omega arith) in
-    let v : sizeIn f ≡ length f = ap fromLE (take-take 4 x (drop p s) (omega arith)) ∙ size-held r e .1 ∙ sym z in
-    let ety : l .ty ≡ typeIn f = k .ty ∙ number-is 1 4 f (omega arith) in
-    let etag : l .tag .0 ≡ tagIn f = k .tag ∙ number-is 2 5 f (omega arith) in
-    let ea : viewBody (l .body) ≡ answerOf tableT tableR f = (rw ety at (k .body)) ∙ answer-is tableT tableR f (bytes-take x (drop p s) (bytes-drop p s b)) (omega arith) v in
+    let y : NumRead 1 f (At 4) _ _ = rw n at a in
+    let u : NumRead 2 f (At 5) _ _ = rw n at b in
     record {
-      is = frame-same (k .at) (k .size) ety etag ea (k .tail ∙ ap (tailIn (length f)) ea) (k .next ∙ (let y = z in omega arith)) ∙ at-whole tableT tableR s p r e h i;
+      seven = omega arith;
+      held = i;
+      size = rw n (ap fromLE (take-take 4 x (drop p s) (omega arith)) ∙ size-held r e .1);
+      ty = rw n (y .value ∙ number-is 1 4 f (omega arith));
+      tag = rw n (u .value ∙ number-is 2 5 f (omega arith));
+      is = rw n (at-whole tableT tableR s p r e h i);
+    }
+
+pub length-whole : {s : List ℕ} {p ty tag e : ℕ} → Whole s p ty tag e → length (between p e s) ≡ e - p
+length-whole {s} {p} {e = e} w =
+    let h = w .held in
+    let d = length-drop p s in
+    length-take-le (e - p) (drop p s) (omega arith)
+
+pub at-frame : {s : List ℕ} {p ty tag e : ℕ} (l : Listed) → Bytes s → Whole s p ty tag e → ListedAs (between p e s) ty tag p e l → Asked s p (S.Frame l)
+unfolding viewStep
+at-frame {s} {p} {ty} {tag} {e} l b w k =
+    let f : List ℕ = between p e s in
+    let h = w .seven in
+    let z : length f ≡ e - p = length-whole w in
+    let ety : l .ty ≡ typeIn f = k .ty ∙ w .ty in
+    let etag : l .tag .0 ≡ tagIn f = k .tag ∙ w .tag in
+    let ea : viewBody (l .body) ≡ answerOf tableT tableR f =
+    (rw ety at (k .body)) ∙ answer-is tableT tableR f (bytes-take (e - p) (drop p s) (bytes-drop p s b)) (omega arith) (w .size ∙ sym z) in
+    record {
+      is = frame-same (k .at) (k .size) ety etag ea (k .tail ∙ ap (tailIn (length f)) ea) (k .next ∙ (let y = z in omega arith)) ∙ w .is;
       way = k .way;
     }
+
+-- ---- the ways of a cut
+
+module _ (s : List ℕ) (p : ℕ) where
+  pub ends-there : end p ≡ frameAt tableT tableR s p → CutAt s p C.End
+  unfolding CutAt
+  ends-there e = e
+
+  pub stops-there : {k : Refusal} → stop k p ≡ frameAt tableT tableR s p → CutAt s p (C.Refused k)
+  unfolding CutAt
+  stops-there e = e
+
+  pub cut-whole : {g : Cut} {ty tag e : ℕ} → CutAt s p g → g ≡ C.Whole ty tag e → Whole s p ty tag e
+  unfolding CutAt
+  cut-whole h e = rw e at h
+
+  pub cut-end : {g : Cut} → CutAt s p g → g ≡ C.End → end p ≡ frameAt tableT tableR s p
+  unfolding CutAt
+  cut-end h e = rw e at h
+
+  pub cut-stop : {g : Cut} {k : Refusal} → CutAt s p g → g ≡ C.Refused k → stop k p ≡ frameAt tableT tableR s p
+  unfolding CutAt
+  cut-stop h e = rw e at h
 
 -- ---- bodies
 

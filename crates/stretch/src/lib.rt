@@ -8,7 +8,7 @@ use requests::Tbody;
 ghost use mathlib.Core.Path.{_≡_};
 ghost use Prim.Native.Nat.{_-_};
 ghost use Rattle.messages.specs.Tables.{tableT};
-ghost use Rattle.stretch.specs.Views.{BodyOf, Leaves, viewBody, ListedAs, Asked};
+ghost use Rattle.stretch.specs.Views.{BodyOf, Leaves, viewBody, ListedAs, CutAt, Asked};
 ghost use Rattle.stretch.specs.Pairs.{knows, pairs};
 
 // What a frame's body comes to: that of a request if the type is even, else that of a reply.
@@ -69,19 +69,17 @@ fn less(a: usize, b: usize) -> usize
     a - b
 }
 
-// A frame of exactly these bytes: its type, its tag, and what the reader of its direction says of its body.
-fn whole_frame(frame: &[u8], at: usize, next: usize) -> Listed
-    ensures { λ r. ⌜ ListedAs (now (frame .entry)) at next r ⌝ }
+// A frame of exactly these bytes: what the reader of its direction says of its body.
+fn whole_frame(frame: &[u8], ty: u8, tag: u16, at: usize, next: usize) -> Listed
+    ensures { λ r. ⌜ ListedAs (now (frame .entry)) ty tag at next r ⌝ }
 {
-    let ty = numbers::read_u8(frame, Place::At(4));
-    let tag = numbers::read_u16(frame, Place::At(5));
-    let body = read_body(frame, ty.value);
+    let body = read_body(frame, ty);
     let tail = less(frame.len(), used_of(frame.len(), body));
-    let tag = Tag(tag.value);
+    let tag = Tag(tag);
     Listed {
         at,
         size: frame.len(),
-        ty: ty.value,
+        ty,
         tag,
         body,
         tail,
@@ -89,30 +87,54 @@ fn whole_frame(frame: &[u8], at: usize, next: usize) -> Listed
     }
 }
 
-// One frame and the next position; or the end; or 12, 13 with the position.
-pub fn frame_at(bytes: &[u8], position: usize) -> Step
-    ensures { λ r. ⌜ Asked (now (bytes .entry)) position r ⌝ }
+// How a stretch is cut at a position: a whole frame, told by its type, its tag and the next position; the end; or 12, 13. Its body is
+// not looked at.
+pub enum Cut {
+    Whole(u8, u16, usize),
+    End,
+    Refused(Refusal),
+}
+
+pub fn cut_at(bytes: &[u8], position: usize) -> Cut
+    ensures { λ r. ⌜ CutAt (now (bytes .entry)) position r ⌝ }
 {
     if bytes.len() < position {
-        return Step::Refused(Refusal::StretchCut, position);
+        return Cut::Refused(Refusal::StretchCut);
     }
     if bytes.len() == position {
-        return Step::End(position);
+        return Cut::End;
     }
     let size = numbers::read_u32(bytes, Place::At(position));
     let a = size.next;
     let Place::At(_) = a else {
-        return Step::Refused(Refusal::StretchCut, position);
+        return Cut::Refused(Refusal::StretchCut);
     };
     if size.value < 7 {
-        return Step::Refused(Refusal::StretchSize, position);
+        return Cut::Refused(Refusal::StretchSize);
     }
     let len = size.value as usize;
     if numbers::within(position, len, bytes.len()) {
         let next = position + len;
-        return Step::Frame(whole_frame(&bytes[position..next], position, next));
+        let frame = &bytes[position..next];
+        let ty = numbers::read_u8(frame, Place::At(4));
+        let tag = numbers::read_u16(frame, Place::At(5));
+        return Cut::Whole(ty.value, tag.value, next);
     }
-    Step::Refused(Refusal::StretchCut, position)
+    Cut::Refused(Refusal::StretchCut)
+}
+
+// One frame and the next position; or the end; or 12, 13 with the position.
+pub fn frame_at(bytes: &[u8], position: usize) -> Step
+    ensures { λ r. ⌜ Asked (now (bytes .entry)) position r ⌝ }
+{
+    let cut = cut_at(bytes, position);
+    match cut {
+        Cut::Whole(ty, tag, next) => {
+            Step::Frame(whole_frame(&bytes[position..next], ty, tag, position, next))
+        }
+        Cut::End => Step::End(position),
+        Cut::Refused(k) => Step::Refused(k, position),
+    }
 }
 
 // What a pair is told by.

@@ -8,7 +8,7 @@ mod texts;
 use std::hint::black_box;
 use std::process::ExitCode;
 
-use ours::{Crossing, FlatR, FlatT, Wrote};
+use ours::{CrossedR, CrossedT, Crossing, Wrote};
 use p9::protocol::{Rframe, Tframe, WireFormat};
 
 use clock::{least, Output, Place};
@@ -21,8 +21,8 @@ fn main() -> ExitCode {
     let (requests, replies) = (frames::requests(), frames::replies());
     let mut requests = requests.iter();
     let mut replies = replies.iter();
-    let done = requests.all(|(name, frame)| rows::<FlatT, Tframe>(name, frame))
-        && replies.all(|(name, frame)| rows::<FlatR, Rframe>(name, frame))
+    let done = requests.all(|(name, frame)| rows::<CrossedT, Tframe>(name, frame))
+        && replies.all(|(name, frame)| rows::<CrossedR, Rframe>(name, frame))
         && stretch::row_of_a_million()
         && texts::rows();
     match done {
@@ -34,7 +34,8 @@ fn main() -> ExitCode {
 /// The rows of a frame. There are none, and the answer is `false`, unless both libraries read
 /// it and write it again.
 fn rows<Ours: Crossing, Theirs: WireFormat>(name: &str, frame: &[u8]) -> bool {
-    let flat = Ours::read(frame);
+    let mut flat = Ours::default();
+    flat.read(frame);
     let mut out = vec![0; frame.len()];
     let wrote = flat.write(&mut out, frame);
     let whole = Wrote {
@@ -61,9 +62,10 @@ fn rows<Ours: Crossing, Theirs: WireFormat>(name: &str, frame: &[u8]) -> bool {
 }
 
 fn read<Ours: Crossing, Theirs: WireFormat>(name: &str, frame: &[u8]) {
+    let mut flat = Ours::default();
     let mut ours = |turns, _: Place| {
         for _ in 0..turns {
-            black_box(&Ours::read(black_box(frame)));
+            black_box(&mut flat).read(black_box(frame));
         }
     };
     let mut theirs = |turns, _: Place| {

@@ -3,6 +3,7 @@
 use std::hint::black_box;
 
 use judge::stretch::whole;
+use ours::{CrossedR, CrossedT, Crossing};
 use p9::protocol::{Rframe, Tframe, WireFormat};
 
 use crate::clock::{least, Place};
@@ -36,15 +37,27 @@ pub fn row_of_a_million() -> bool {
     true
 }
 
-/// How many frames are accepted, asked position by position.
+/// How many frames are accepted, asked position by position; each goes to the reader of its
+/// direction.
 fn ours(bytes: &[u8]) -> usize {
     let (mut at, mut accepted) = (0, 0);
+    let (mut request, mut reply) = (CrossedT::default(), CrossedR::default());
     loop {
         let step = ours::frame_at(bytes, at);
         if step.end || step.refusal != 0 {
             return accepted;
         }
-        accepted += usize::from(black_box(&step).body == 0);
+        let frame = &bytes[at..step.next];
+        accepted += usize::from(match step.ty % 2 {
+            0 => {
+                request.read(frame);
+                black_box(&request).answer.refusal == 0
+            }
+            _ => {
+                reply.read(frame);
+                black_box(&reply).answer.refusal == 0
+            }
+        });
         at = step.next;
     }
 }

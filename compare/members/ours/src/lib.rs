@@ -19,56 +19,97 @@ pub struct Flat {
     pub values: [u64; 22],
 }
 
-/// A direction's own answer. Both functions are the library's and no more, so that nothing else is
-/// in their time.
-pub trait Crossing: Copy {
-    fn read(bytes: &[u8]) -> Self;
+/// A frame of one direction: the library's answer, and the values beside it.
+#[derive(Clone, Copy, Default)]
+pub struct Crossed<Answer, const N: usize>
+where
+    [u64; N]: Default,
+{
+    pub answer: Answer,
+    pub values: [u64; N],
+}
+
+pub type CrossedT = Crossed<FlatT, 10>;
+pub type CrossedR = Crossed<FlatR, 22>;
+
+impl<Answer: Default, const N: usize> Crossed<Answer, N>
+where
+    [u64; N]: Default,
+{
+    /// As if another frame had been read there: each value has to be set anew.
+    fn used() -> Self {
+        Self {
+            answer: Answer::default(),
+            values: [u64::MAX; N],
+        }
+    }
+}
+
+/// What crosses the boundary for a direction. Both functions are the library's and no more, so that
+/// nothing else is in their time.
+pub trait Crossing: Copy + Default {
+    fn read(&mut self, bytes: &[u8]);
     fn write(&self, out: &mut [u8], lent: &[u8]) -> Wrote;
 }
 
 macro_rules! crossing {
-    ($flat:ident $read:ident $write:ident) => {
-        impl Crossing for $flat {
+    ($crossed:ident $read:ident $write:ident) => {
+        impl Crossing for $crossed {
             #[inline]
-            fn read(bytes: &[u8]) -> Self {
+            fn read(&mut self, bytes: &[u8]) {
                 // SAFETY: the pointer and the count are a slice's, which the library reads and
-                // does not keep.
-                unsafe { $read(bytes.as_ptr(), bytes.len()) }
+                // does not keep; the values are borrowed alone, and as many as the function takes.
+                self.answer = unsafe { $read(bytes.as_ptr(), bytes.len(), &mut self.values) };
             }
 
             #[inline]
             fn write(&self, out: &mut [u8], lent: &[u8]) -> Wrote {
                 let (to, room, from, count) =
                     (out.as_mut_ptr(), out.len(), lent.as_ptr(), lent.len());
-                let (refusal, ty, tag, values) = (self.refusal, self.ty, self.tag, &self.values);
-                // SAFETY: as in reading; the output is borrowed alone, so it overlaps nothing, and
-                // the values are as many as the function takes.
+                let (answer, values) = (&self.answer, &self.values);
+                let (refusal, ty, tag) = (answer.refusal, answer.ty, answer.tag);
+                // SAFETY: as in reading; the output is borrowed alone, so it overlaps nothing.
                 unsafe { $write(to, room, from, count, refusal, ty, tag, values) }
             }
         }
     };
 }
 
-crossing!(FlatT sheafsledge_read_tframe sheafsledge_write_tframe);
-crossing!(FlatR sheafsledge_read_rframe sheafsledge_write_rframe);
+crossing!(CrossedT sheafsledge_read_tframe sheafsledge_write_tframe);
+crossing!(CrossedR sheafsledge_read_rframe sheafsledge_write_rframe);
 
 pub fn read(direction: Direction, bytes: &[u8]) -> Flat {
     match direction {
-        Direction::T => FlatT::read(bytes).into(),
-        Direction::R => FlatR::read(bytes).into(),
+        Direction::T => {
+            let mut frame = CrossedT::used();
+            frame.read(bytes);
+            frame.into()
+        }
+        Direction::R => {
+            let mut frame = CrossedR::used();
+            frame.read(bytes);
+            frame.into()
+        }
     }
 }
 
 pub fn write(direction: Direction, out: &mut [u8], lent: &[u8], frame: &Flat) -> Wrote {
     match direction {
-        Direction::T => FlatT::from(frame).write(out, lent),
-        Direction::R => FlatR::from(frame).write(out, lent),
+        Direction::T => CrossedT::from(frame).write(out, lent),
+        Direction::R => CrossedR::from(frame).write(out, lent),
     }
 }
 
+#[inline]
 pub fn frame_at(bytes: &[u8], position: usize) -> FlatStep {
     // SAFETY: as in reading a frame.
     unsafe { sheafsledge_frame_at(bytes.as_ptr(), bytes.len(), position) }
+}
+
+fn widened(values: &[u64; 10]) -> [u64; 22] {
+    let mut wide = [0; 22];
+    wide[..10].copy_from_slice(values);
+    wide
 }
 
 pub fn read_dirent(bytes: &[u8], at: usize) -> FlatDirent {
@@ -135,54 +176,58 @@ pub fn answers(request: (u8, u16), reply: (u8, u16)) -> bool {
     unsafe { sheafsledge_answers(request.0, request.1, reply.0, reply.1) }
 }
 
-impl From<FlatT> for Flat {
-    fn from(frame: FlatT) -> Self {
-        let mut values = [0; 22];
-        values[..10].copy_from_slice(&frame.values);
+impl From<CrossedT> for Flat {
+    fn from(frame: CrossedT) -> Self {
+        let answer = frame.answer;
         Self {
-            refusal: frame.refusal,
-            ty: frame.ty,
-            tag: frame.tag,
-            tagged: frame.tagged,
-            used: frame.used,
-            values,
+            refusal: answer.refusal,
+            ty: answer.ty,
+            tag: answer.tag,
+            tagged: answer.tagged,
+            used: answer.used,
+            values: widened(&frame.values),
         }
     }
 }
 
-impl From<FlatR> for Flat {
-    fn from(frame: FlatR) -> Self {
+impl From<CrossedR> for Flat {
+    fn from(frame: CrossedR) -> Self {
+        let answer = frame.answer;
         Self {
-            refusal: frame.refusal,
-            ty: frame.ty,
-            tag: frame.tag,
+            refusal: answer.refusal,
+            ty: answer.ty,
+            tag: answer.tag,
             tagged: false,
-            used: frame.used,
+            used: answer.used,
             values: frame.values,
         }
     }
 }
 
-impl From<&Flat> for FlatT {
+impl From<&Flat> for CrossedT {
     fn from(frame: &Flat) -> Self {
         Self {
-            refusal: frame.refusal,
-            ty: frame.ty,
-            tag: frame.tag,
-            tagged: frame.tagged,
-            used: frame.used,
+            answer: FlatT {
+                refusal: frame.refusal,
+                ty: frame.ty,
+                tag: frame.tag,
+                tagged: frame.tagged,
+                used: frame.used,
+            },
             values: *frame.values.first_chunk().expect("10 of 22"),
         }
     }
 }
 
-impl From<&Flat> for FlatR {
+impl From<&Flat> for CrossedR {
     fn from(frame: &Flat) -> Self {
         Self {
-            refusal: frame.refusal,
-            ty: frame.ty,
-            tag: frame.tag,
-            used: frame.used,
+            answer: FlatR {
+                refusal: frame.refusal,
+                ty: frame.ty,
+                tag: frame.tag,
+                used: frame.used,
+            },
             values: frame.values,
         }
     }

@@ -3,7 +3,7 @@
 use judge::cases::unknown;
 use judge::stretch::whole;
 use judge::Direction;
-use ours::FlatStep;
+use ours::{Flat, FlatStep};
 use p9::draw::Draws;
 
 use crate::compare::{differs, Outcome};
@@ -14,9 +14,10 @@ pub fn stretch(bytes: &[u8], draws: &mut Draws) -> Outcome {
     let mut position = 0;
     loop {
         let theirs = step(bytes, position);
-        if let Some(outcome) = beside(bytes, position, theirs) {
+        if let Some(outcome) = beside(bytes, position, &theirs) {
             return outcome;
         }
+        let theirs = theirs.0;
         if theirs.end || theirs.refusal != 0 {
             break;
         }
@@ -27,7 +28,7 @@ pub fn stretch(bytes: &[u8], draws: &mut Draws) -> Outcome {
     }
     for _ in 0..3 {
         let position = draws.below(bytes.len() + 3);
-        if let Some(outcome) = beside(bytes, position, step(bytes, position)) {
+        if let Some(outcome) = beside(bytes, position, &step(bytes, position)) {
             return outcome;
         }
     }
@@ -37,9 +38,21 @@ pub fn stretch(bytes: &[u8], draws: &mut Draws) -> Outcome {
     }
 }
 
-fn beside(bytes: &[u8], position: usize, theirs: FlatStep) -> Option<Outcome> {
-    let ours = ours::frame_at(bytes, position);
-    (ours != theirs).then(|| differs(format!("{ours:?}"), format!("{theirs:?}")))
+/// What is at a position, and what a frame there comes to in its direction.
+type Step = (FlatStep, Option<Flat>);
+
+fn beside(bytes: &[u8], position: usize, theirs: &Step) -> Option<Outcome> {
+    let step = ours::frame_at(bytes, position);
+    let frame = bytes.get(position..step.next).filter(|_| step.next != 0);
+    let ours = (step, frame.map(|f| ours::read(way(step.ty), f)));
+    (ours != *theirs).then(|| differs(format!("{ours:?}"), format!("{theirs:?}")))
+}
+
+fn way(ty: u8) -> Direction {
+    match ty % 2 {
+        0 => Direction::T,
+        _ => Direction::R,
+    }
 }
 
 /// Whether the next number, another one and another tag answer it, as document 01 says.
@@ -60,38 +73,22 @@ fn pairs(ty: u8, tag: u16) -> Option<Outcome> {
     ))
 }
 
-fn step(bytes: &[u8], at: usize) -> FlatStep {
-    let none = FlatStep {
-        at,
-        ..FlatStep::default()
-    };
+fn step(bytes: &[u8], at: usize) -> Step {
+    let none = FlatStep::default();
     if at == bytes.len() {
-        return FlatStep { end: true, ..none };
+        return (FlatStep { end: true, ..none }, None);
     }
     match whole(bytes.get(at..).unwrap_or_default()) {
-        Err(refusal) => FlatStep { refusal, ..none },
-        Ok(frame) => listed(frame, none),
-    }
-}
-
-fn listed(frame: &[u8], none: FlatStep) -> FlatStep {
-    let (size, ty) = (frame.len(), frame[4]);
-    let direction = match ty % 2 {
-        0 => Direction::T,
-        _ => Direction::R,
-    };
-    let theirs = theirs::read(direction, frame).flat;
-    FlatStep {
-        ty,
-        body: theirs.refusal,
-        tag: u16::from_le_bytes([frame[5], frame[6]]),
-        size,
-        tail: match theirs.refusal {
-            0 => size - theirs.used,
-            _ => 0,
-        },
-        next: none.at + size,
-        values: theirs.values,
-        ..none
+        Err(refusal) => (FlatStep { refusal, ..none }, None),
+        Ok(frame) => {
+            let ty = frame[4];
+            let step = FlatStep {
+                ty,
+                tag: u16::from_le_bytes([frame[5], frame[6]]),
+                next: at + frame.len(),
+                ..none
+            };
+            (step, Some(theirs::read(way(ty), frame).flat))
+        }
     }
 }

@@ -2,8 +2,9 @@ use borrow.Author.Needs.{needs}
 use mathlib.Core.Path.{sym, _∙_}
 use lib.Seq.{length-take-le}
 use Rattle.numbers.specs.Numbers.{bytes-all}
+use Rattle.messages.specs.Tables.{tableR}
 use Rattle.frames.specs.FrameLaws.{head-yes}
-use Rattle.exports.specs.ReadingLaws.{reply-headless, reply-flat}
+use Rattle.exports.specs.ReadingLaws.{none-kept, frame-kept, reply-headless, reply-flat}
 use Rattle.exports.proofs.sheafsledge_read_rframe.Statement.{statement}
 use Rattle.exports.proofs.sheafsledge_read_rframe.Tie as tie
 
@@ -20,13 +21,21 @@ slice-aggregate-read-flat c =
 
 returns : tie.Need-returns
 returns c =
-    let d = c .before .before .before .before .before in
+    let f = c .before .before in
+    let d = f .before .before .before .before in
     let e = d .before .before in
-    let b = bytes-all (e .before .before .args .bytes .now) (λ i. e .before .shared-slice-known .given i .fits) in
-    c .flat-rbody .ensures ∙ reply-flat _ b (e .read-header .ensures) (d .head .given .1) (c .before .before .read-flat .ensures)
+    let b = bytes-all (e .before .before .args .bytes .now) (λ i. e .before .shared-slice-known .given i .fits) in (
+      c .flat-rbody .ensures .0 ∙ reply-flat _ b (e .read-header .ensures) (d .head .given .1) (f .read-flat .ensures),
+      c .flat-rbody .ensures .1 ∙ frame-kept tableR _ b (e .read-header .ensures) (d .head .given .1) (f .read-flat .ensures),
+    )
 
 returns-2 : tie.Need-returns-2
-returns-2 c = c .refused-r .ensures ∙ reply-headless _ (c .before .before .before .before .read-header .ensures) (c .before .before .head2 .given .1)
+returns-2 c =
+    let d = c .before .before .before in
+    let e = d .before .before in (
+      c .refused-r .ensures .0 ∙ reply-headless _ (e .read-header .ensures) (d .head2 .given .1),
+      c .refused-r .ensures .1 ∙ none-kept tableR _ 22 (e .read-header .ensures) (d .head2 .given .1),
+    )
 
 pub sheafsledge-read-rframe-spec : {M : Type 1} → statement M
 sheafsledge-read-rframe-spec =

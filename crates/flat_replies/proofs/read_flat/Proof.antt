@@ -37,7 +37,7 @@ returns-6 c =
 
 returns-7 : tie.Need-returns-7
 unfolding valuesAt pastFields
-returns-7 c = rw (c .before .match .keys7) (record { values = c .no-values .ensures .0; next = c .no-values .ensures .1 })
+returns-7 c = rw (c .before .before .match .keys7) (record { values = c .no-values .ensures .1; next = c .no-values .ensures .0 })
 
 returns-8 : tie.Need-returns-8
 returns-8 c =
@@ -51,7 +51,7 @@ returns-9 c =
 
 returns-10 : tie.Need-returns-10
 unfolding valuesAt pastFields
-returns-10 c = rw (c .before .match .keys10) (record { values = c .no-values2 .ensures .0; next = c .no-values2 .ensures .1 })
+returns-10 c = rw (c .before .before .match .keys10) (record { values = c .no-values2 .ensures .1; next = c .no-values2 .ensures .0 })
 
 returns-11 : tie.Need-returns-11
 returns-11 c =
@@ -60,7 +60,7 @@ returns-11 c =
 
 returns-12 : tie.Need-returns-12
 unfolding valuesAt pastFields
-returns-12 c = rw (c .before .match .keys12) (record { values = c .no-values3 .ensures .0; next = c .no-values3 .ensures .1 })
+returns-12 c = rw (c .before .before .match .keys12) (record { values = c .no-values3 .ensures .1; next = c .no-values3 .ensures .0 })
 
 returns-13 : tie.Need-returns-13
 returns-13 c =
@@ -69,7 +69,7 @@ returns-13 c =
 
 returns-14 : tie.Need-returns-14
 unfolding valuesAt pastFields
-returns-14 c = rw (c .before .match .keys14) (record { values = c .no-values4 .ensures .0; next = c .no-values4 .ensures .1 })
+returns-14 c = rw (c .before .before .match .keys14) (record { values = c .no-values4 .ensures .1; next = c .no-values4 .ensures .0 })
 
 returns-15 : tie.Need-returns-15
 returns-15 c =
@@ -83,7 +83,7 @@ returns-16 c =
 
 returns-17 : tie.Need-returns-17
 unfolding valuesAt pastFields
-returns-17 c = rw (c .before .match .keys17) (record { values = c .no-values5 .ensures .0; next = c .no-values5 .ensures .1 })
+returns-17 c = rw (c .before .before .match .keys17) (record { values = c .no-values5 .ensures .1; next = c .no-values5 .ensures .0 })
 
 returns-18 : tie.Need-returns-18
 returns-18 c =
@@ -92,11 +92,11 @@ returns-18 c =
 
 returns-19 : tie.Need-returns-19
 unfolding valuesAt pastFields
-returns-19 c = rw (c .before .match .keys19) (record { values = c .no-values6 .ensures .0; next = c .no-values6 .ensures .1 })
+returns-19 c = rw (c .before .before .match .keys19) (record { values = c .no-values6 .ensures .1; next = c .no-values6 .ensures .0 })
 
 returns-20 : tie.Need-returns-20
 unfolding valuesAt pastFields
-returns-20 c = rw (c .before .match .keys20) (record { values = c .no-values7 .ensures .0; next = c .no-values7 .ensures .1 })
+returns-20 c = rw (c .before .before .match .keys20) (record { values = c .no-values7 .ensures .1; next = c .no-values7 .ensures .0 })
 
 returns-21 : tie.Need-returns-21
 returns-21 c =
@@ -115,7 +115,7 @@ returns-23 c =
 
 returns-24 : tie.Need-returns-24
 unfolding valuesAt pastFields
-returns-24 c = rw (c .before .match .keys24) (record { values = c .no-values8 .ensures .0; next = c .no-values8 .ensures .1 })
+returns-24 c = rw (c .before .before .match .keys24) (record { values = c .no-values8 .ensures .1; next = c .no-values8 .ensures .0 })
 
 returns-25 : tie.Need-returns-25
 returns-25 c =
@@ -134,14 +134,14 @@ returns-27 c =
 
 returns-28 : tie.Need-returns-28
 unfolding valuesAt pastFields
-returns-28 c = rw (c .before .match .keys28) (record { values = c .no-values9 .ensures .0; next = c .no-values9 .ensures .1 })
+returns-28 c = rw (c .before .before .match .keys28) (record { values = c .no-values9 .ensures .1; next = c .no-values9 .ensures .0 })
 
 returns-29 : tie.Need-returns-29
 unfolding valuesAt pastFields
-returns-29 c = rw (c .before .match .keys29) (record { values = c .no-values10 .ensures .0; next = c .no-values10 .ensures .1 })
+returns-29 c = rw (c .before .before .match .keys29) (record { values = c .no-values10 .ensures .1; next = c .no-values10 .ensures .0 })
 
 returns-30 : tie.Need-returns-30
-returns-30 c = flat-unknown tableR _ (c .before .match .rest) (c .no-values11 .ensures .0) (c .no-values11 .ensures .1)
+returns-30 c = flat-unknown tableR _ (c .before .before .match .rest) (c .no-values11 .ensures .1) (c .no-values11 .ensures .0)
 
 pub read-flat-spec : {M : Type 1} → statement M
 read-flat-spec =

@@ -146,7 +146,7 @@ returns-28 c =
     rw (r .before .match .keys28) (flat-known (r .read-tremove .ensures) (c .flat-tremove .ensures))
 
 returns-29 : tie.Need-returns-29
-returns-29 c = flat-unknown tableT _ (c .match .rest) refl refl
+returns-29 c = flat-unknown tableT _ (c .before .match .rest) refl refl
 
 pub read-flat-spec : {M : Type 1} → statement M
 read-flat-spec =

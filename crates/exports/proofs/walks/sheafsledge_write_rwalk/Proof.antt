@@ -41,7 +41,7 @@ use Rattle.messages.specs.declared.ids.Tag.{Tag}
 use Rattle.numbers.specs.declared.Place.{Place}
 use Rattle.exports.specs.declared.Wrote.{Wrote}
 use Rattle.frames.specs.Tables.{RwalkWritten}
-use Rattle.exports.specs.Flats.{wroteOf}
+use Rattle.exports.specs.Answers.{wroteOf}
 use Rattle.exports.specs.Walks.{table-wrote}
 use Rattle.messages.proofs.qids.Qid as T
 use Rattle.messages.proofs.ids.Tag as G
