@@ -2,11 +2,12 @@
 use Prim.Native.Nat.{ℕ, zero, suc, _+_, _-_, _≤_, _<_}
 use native.Mathlib.Omega.{arith}
 use mathlib.Core.Path.{_≡_, refl, sym, ap, _∙_}
-use mathlib.Core.Bool.{Bool, true, false, cond}
+use mathlib.Core.Bool.{Bool, true, false, cond, _&&_}
 use mathlib.Core.List.{List, [], _∷_}
 use lib.ListN.{length, take, drop, getD, length-drop}
 use lib.Seq.{drop-length, length-take-le}
 use Rattle.numbers.specs.Reading.{Result, ok, bad, after}
+use Rattle.numbers.specs.ReadingLaws.{or-else}
 use Rattle.numbers.specs.Places.{readAt, restAt, NumRead}
 use Rattle.numbers.specs.PlaceLaws.{Held, num-holds, num-refused}
 use Rattle.numbers.specs.declared.Refusal.{Refusal}
@@ -20,6 +21,7 @@ use Rattle.strings.specs.SpanLaws.{string-at, string-held, string-short, text-r
 use Rattle.strings.specs.Spans.{TextCheck}
 use Rattle.fields.specs.Layouts.{readMany}
 use Rattle.fields.specs.Fields.{ManyRead}
+use Rattle.fields.specs.Runs.{Plains, Run}
 
 -- ---- one string off
 
@@ -50,6 +52,36 @@ from-front t = record { form = refl; full = refl }
 
 pub plain-byte : (t : List ℕ) (i : ℕ) {p : Bool} → i < length t → p ≡ inRange (1 to 127) (getD t i 0) → p ≡ true → Same t i → Same t (i + 1)
 plain-byte t i l e h s = record { form = plain-turn t i l e h (s .form); full = plain-full t i l e h (s .full) }
+
+-- ---- and several at once
+
+both : (a b : Bool) → a && b ≡ true → (a ≡ true) × (b ≡ true)
+both true b h = (refl, h)
+both false b h = absurd (let z : _≡_ {A = ℕ} 0 1 = cc h in omega arith)
+
+module _ {s : List ℕ} {i : ℕ} where
+  pub one-plain : {b : Bool} → b ≡ inRange (1 to 127) (getD s i 0) → b ≡ true → Plains s i (i + 1)
+  one-plain f h = record { each = λ j l m. let e : j ≡ i = omega arith in rw e (sym f ∙ h) }
+
+  pub more-plain : {a b : Bool} (n : ℕ) → (a ≡ true → Plains s i (i + n)) → b ≡ inRange (1 to 127) (getD s (i + n) 0) → a && b ≡ true → Plains s i (i + (n + 1))
+  more-plain {a} {b} n p f h =
+      let (x, y) = both a b h in
+      record { each = λ j l m. or-else (j + 1) (i + n) (λ g. p x .each j l (omega arith)) (λ g. let d : j ≡ i + n = omega arith in rw d (sym f ∙ y)) }
+
+  pub no-run : i ≤ length s → Run s i 0
+  no-run l = record { held = omega arith; plain = record { each = λ j m n. absurd (omega arith) } }
+
+  -- bytes from i to e, of a stretch that begins no later
+  pub some-run : {a e n : ℕ} → Plains s a e → a ≤ i → i + n ≡ e → e ≤ length s → Run s i n
+  some-run p l f h = record { held = omega arith; plain = record { each = λ j m k. p .each j (omega arith) (omega arith) } }
+
+pub plain-run : (t : List ℕ) (i n : ℕ) → Run t i n → Same t i → Same t (i + n)
+plain-run t i zero r s = let e : i + 0 ≡ i = omega arith in rw e s
+plain-run t i (suc n) r s =
+    let h = r .held in
+    let q = plain-run t i n (record { held = omega arith; plain = record { each = λ j l m. r .plain .each j l (omega arith) } }) s in
+    let e : i + n + 1 ≡ i + suc n = omega arith in
+    rw e at (plain-byte t (i + n) (omega arith) (sym (r .plain .each (i + n) (omega arith) (omega arith))) refl q)
 
 -- all of it looked at, and passed
 pub all-good : (t : List ℕ) (i : ℕ) {n a : ℕ} {q : Place} → length t ≡ i → TextCheck t (At n) q → q ≡ At a → Same t i

@@ -3,6 +3,7 @@ pub mod LayoutLaws
 pub mod Values
 pub mod ValueLaws
 pub mod Fields
+pub mod Runs
 pub mod FieldLaws
 pub mod Laying
 pub mod LayingLaws

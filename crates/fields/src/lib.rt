@@ -7,11 +7,15 @@ use numbers::Place;
 use numbers::Refusal;
 use strings::ReadSpan;
 use strings::Span;
-ghost use Prim.Native.Nat.{_≤_};
+use strings::utf8::is_plain;
+ghost use Prim.Native.Nat.{_+_, _≤_, _<_};
+ghost use mathlib.Core.Path.{_≡_};
+ghost use mathlib.Core.Bool.{true};
 ghost use lib.ListN.{length};
 ghost use Rattle.fields.specs.Layouts.{dat, strs, quids};
 ghost use Rattle.fields.specs.Values.{span, part};
 ghost use Rattle.fields.specs.Fields.{FieldRead, ManyRead, Nowhere};
+ghost use Rattle.fields.specs.Runs.{Plains, Run};
 
 // The elements of a vector: how many they are, and the part of the bytes that holds them.
 pub struct Part {
@@ -59,6 +63,46 @@ pub fn read_data(s: &[u8], p: Place) -> ReadSpan
     }
 }
 
+// Whether the eight bytes from `i` on are plain. All are looked at, so that the compiler compares them at once.
+fn eight_plain(s: &[u8], i: usize) -> bool
+    requires { ⌜ i + 8 ≤ length (now s) ⌝ }
+    ensures { λ r. ⌜ (r ≡ true → Plains (now (s .entry)) i (i + 8)) ⌝ }
+{
+    is_plain(s[i])
+        & is_plain(s[i + 1])
+        & is_plain(s[i + 2])
+        & is_plain(s[i + 3])
+        & is_plain(s[i + 4])
+        & is_plain(s[i + 5])
+        & is_plain(s[i + 6])
+        & is_plain(s[i + 7])
+}
+
+// How many plain bytes are seen at once from `i` on: eight of them, the last eight of the text where fewer are left, and of a shorter
+// text one; 0 if one of these is not plain.
+fn plain_from(s: &[u8], i: usize) -> usize
+    requires { ⌜ i < length (now s) ⌝ }
+    ensures { λ r. ⌜ Run (now (s .entry)) i r ⌝ }
+{
+    if s.len() < 8 {
+        if is_plain(s[i]) {
+            return 1;
+        }
+        return 0;
+    }
+    let last = s.len() - 8;
+    if i <= last {
+        if eight_plain(s, i) {
+            return 8;
+        }
+        return 0;
+    }
+    if eight_plain(s, last) {
+        return s.len() - i;
+    }
+    0
+}
+
 // So many strings from a position on: the place behind them, or the refusal of the first that fails, whichever that is.
 fn scan_names(s: &[u8], from: usize, count: u16) -> Place
     requires { ⌜ from ≤ length (now s) ⌝ }
@@ -84,11 +128,12 @@ fn scan_names(s: &[u8], from: usize, count: u16) -> Place
         }
         let end = start + len;
         let name = &s[start..end];
-        // Names are short, and plain but for a few: byte by byte is the fastest, and one byte that is not plain has all looked at.
+        // Names are plain but for a few: a byte that is not has all of the name looked at.
         let mut i = 0;
         while i < len {
-            if strings::utf8::is_plain(name[i]) {
-                i += 1;
+            let k = plain_from(name, i);
+            if 0 < k {
+                i += k;
             } else {
                 let q = strings::utf8::check_text(name, Place::At(end));
                 let Place::At(_) = q else {

@@ -6,7 +6,7 @@ use borrow.Author.Needs.{needs}
 use lib.ListN.{length, drop}
 use Rattle.numbers.specs.Places.{restAt}
 use Rattle.fields.specs.Layouts.{readMany}
-use Rattle.fields.proofs.Names.{Left, Same, from-front, plain-byte, all-good, the-name, name-length, none-left, count-cut, bytes-cut, text-bad, one-off}
+use Rattle.fields.proofs.Names.{Left, Same, from-front, plain-run, all-good, the-name, name-length, none-left, count-cut, bytes-cut, text-bad, one-off}
 use Rattle.fields.proofs.scan_names.Statement.{statement}
 use Rattle.fields.proofs.scan_names.Tie as tie
 
@@ -56,19 +56,21 @@ loop-holds c =
     let s = r .before .before .before .before .args .s .now in
     (omega arith, name-length s (r .read-u16 .result .value) (a .a .given .0 .0) (omega arith), from-front _)
 
-shared-slice-read-is-plain : tie.Need-shared-slice-read-is-plain Inv-loop μ-loop Inv-names μ-names
-shared-slice-read-is-plain c = omega (arith, c .before .before .loop .inv .1)
+plain-from-requires : tie.Need-plain-from-requires Inv-loop μ-loop Inv-names μ-names
+plain-from-requires c κs = omega (arith, c .before .loop .inv .1)
 
 add-i : tie.Need-add-i Inv-loop μ-loop Inv-names μ-names
-add-i c = search needs
+add-i c = let h = c .before .plain-from .ensures .held in omega (arith, c .before .before .before .loop .inv .1)
 
 loop-less : tie.Need-loop-less Inv-loop μ-loop Inv-names μ-names
-loop-less c = omega arith
+loop-less c = let h = c .before .plain-from .ensures .held in omega (arith, c .before .before .before .loop .inv .1)
 
 loop-again : tie.Need-loop-again Inv-loop μ-loop Inv-names μ-names
 loop-again c =
-    let l = c .before .before .before .before .loop in
-    (omega arith, l .inv .1, plain-byte _ (l .i) (omega (arith, l .inv .1)) (c .before .is-plain .ensures) (c .if4 .taken) (l .inv .2))
+    let l = c .before .before .before .loop in
+    let r = c .before .plain-from .ensures in
+    let h = r .held in
+    (omega (arith, l .inv .1), l .inv .1, plain-run _ (l .i) _ r (l .inv .2))
 
 enum-told-2 : tie.Need-enum-told-2 Inv-loop μ-loop Inv-names μ-names
 enum-told-2 c = search needs
@@ -81,7 +83,7 @@ loop-less-2 c = omega arith
 
 loop-again-2 : tie.Need-loop-again-2 Inv-loop μ-loop Inv-names μ-names
 loop-again-2 c =
-    let l = c .before .before .before .before .before .before .before .loop in
+    let l = c .before .before .before .before .before .before .loop in
     (omega arith, l .inv .1, all-good _ _ (l .inv .1) (c .before .before .check-text .ensures) (c .enum-told2 .given .1))
 
 sub-n : tie.Need-sub-n Inv-loop μ-loop Inv-names μ-names
@@ -121,7 +123,7 @@ returns-4 c =
 
 returns-5 : tie.Need-returns-5 Inv-loop μ-loop Inv-names μ-names
 returns-5 c =
-    let a = c .before .before .before .before .before .before .before .before .before .before .before .before .before in
+    let a = c .before .before .before .before .before .before .before .before .before .before .before .before in
     let r = a .before .before in
     let m = the-name (r .read-u16 .ensures) (a .a .given .1) (omega arith) in
     record { next = text-bad (r .before .if1 .left) m (c .before .before .check-text .ensures) (c .enum-told3 .given .1) (r .before .before .names .inv .1) }
@@ -145,8 +147,7 @@ scan-names-spec =
     part-name-start
     part-name-end
     loop-holds
-    shared-slice-read-is-plain
-    (λ _ _. tt)
+    plain-from-requires
     add-i
     loop-less
     loop-again
