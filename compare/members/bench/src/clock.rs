@@ -10,6 +10,15 @@ const RUN: Duration = Duration::from_millis(5);
 
 const RUNS_AT_A_PLACE: usize = 3;
 
+/// A processor that has been idle takes its time to come to its full speed, and the first row would
+/// pay for it.
+pub fn warm_up() {
+    let start = Instant::now();
+    while start.elapsed() < 100 * RUN {
+        std::hint::spin_loop();
+    }
+}
+
 /// How far into its buffer an output starts. A copy is slower, by a fifth as seen, where it starts
 /// at nearly the same byte of a page as what is copied; so each writer is tried at several, and
 /// where the allocator put its buffer does not decide.

@@ -17,6 +17,7 @@ use clock::{least, Output, Place};
 const LONG: usize = 8192;
 
 fn main() -> ExitCode {
+    clock::warm_up();
     println!("name what ours theirs ratio");
     let (requests, replies) = (frames::requests(), frames::replies());
     let mut requests = requests.iter();
