@@ -11,10 +11,12 @@ pub struct Taken<'a, 'v> {
 
 impl<'a> Taken<'a, '_> {
     /// An accepted frame has all its values; 0 stands for none.
+    #[inline(always)]
     fn next(&mut self) -> u64 {
         self.values.next().copied().unwrap_or(0)
     }
 
+    #[inline(always)]
     fn span(&mut self) -> &'a [u8] {
         let (start, len) = (self.next() as usize, self.next() as usize);
         shown(self.frame, start, len)
@@ -22,6 +24,7 @@ impl<'a> Taken<'a, '_> {
 }
 
 /// The library is proved to give spans that lie in the bytes; one that didn't would show nothing.
+#[inline(always)]
 pub fn shown(bytes: &[u8], start: usize, len: usize) -> &[u8] {
     bytes
         .get(start..)
@@ -31,28 +34,47 @@ pub fn shown(bytes: &[u8], start: usize, len: usize) -> &[u8] {
 
 /// What is to be written: the values, and the bytes that their spans point into, at most two slices
 /// which stand one behind the other.
-#[derive(Default)]
-pub struct Put<'a> {
-    pub values: [u64; 22],
-    filled: usize,
+pub struct Put<'a, const N: usize> {
+    pub values: [u64; N],
     pub lent: [&'a [u8]; 2],
+}
+
+/// A record that is being laid out.
+pub struct Filling<'p, 'a, const N: usize> {
+    put: &'p mut Put<'a, N>,
+    values: usize,
     slices: usize,
 }
 
-impl<'a> Put<'a> {
+impl<'a, const N: usize> Put<'a, N> {
+    #[inline(always)]
+    pub fn of(record: &impl Field<'a>) -> Self {
+        let mut put = Self {
+            values: [0; N],
+            lent: [&[]; 2],
+        };
+        record.put(&mut Filling {
+            put: &mut put,
+            values: 0,
+            slices: 0,
+        });
+        put
+    }
+}
+
+impl<'a, const N: usize> Filling<'_, 'a, N> {
+    #[inline(always)]
     fn value(&mut self, value: u64) {
-        self.values[self.filled] = value;
-        self.filled += 1;
+        self.put.values[self.values] = value;
+        self.values += 1;
     }
 
+    #[inline(always)]
     fn span(&mut self, bytes: &'a [u8]) {
-        let before: usize = self.lent[..self.slices]
-            .iter()
-            .map(|slice| slice.len())
-            .sum();
-        self.value(before as u64);
+        // The other slice stands in front of it, if there is one.
+        self.value(self.put.lent[0].len() as u64);
         self.value(bytes.len() as u64);
-        self.lent[self.slices] = bytes;
+        self.put.lent[self.slices] = bytes;
         self.slices += 1;
     }
 }
@@ -67,17 +89,19 @@ pub fn lendable(text: &str) -> &[u8] {
 
 pub trait Field<'a>: Sized {
     fn take(taken: &mut Taken<'a, '_>) -> Self;
-    fn put(&self, put: &mut Put<'a>);
+    fn put<const N: usize>(&self, put: &mut Filling<'_, 'a, N>);
 }
 
 macro_rules! numbers {
     ($($number:ty)*) => {
         $(impl<'a> Field<'a> for $number {
+            #[inline(always)]
             fn take(taken: &mut Taken<'a, '_>) -> Self {
                 taken.next() as $number
             }
 
-            fn put(&self, put: &mut Put<'a>) {
+            #[inline(always)]
+            fn put<const N: usize>(&self, put: &mut Filling<'_, 'a, N>) {
                 put.value(u64::from(*self));
             }
         })*
@@ -86,7 +110,17 @@ macro_rules! numbers {
 
 numbers!(u8 u16 u32 u64);
 
+/// What a message without a record has.
+impl<'a> Field<'a> for () {
+    #[inline(always)]
+    fn take(_: &mut Taken<'a, '_>) -> Self {}
+
+    #[inline(always)]
+    fn put<const N: usize>(&self, _: &mut Filling<'_, 'a, N>) {}
+}
+
 impl<'a> Field<'a> for &'a str {
+    #[inline(always)]
     fn take(taken: &mut Taken<'a, '_>) -> Self {
         let bytes = taken.span();
         // SAFETY: the library accepts a frame only if its strings are UTF-8 by RFC 3629
@@ -94,47 +128,55 @@ impl<'a> Field<'a> for &'a str {
         unsafe { std::str::from_utf8_unchecked(bytes) }
     }
 
-    fn put(&self, put: &mut Put<'a>) {
+    #[inline(always)]
+    fn put<const N: usize>(&self, put: &mut Filling<'_, 'a, N>) {
         put.span(lendable(self));
     }
 }
 
 impl<'a> Field<'a> for &'a [u8] {
+    #[inline(always)]
     fn take(taken: &mut Taken<'a, '_>) -> Self {
         taken.span()
     }
 
-    fn put(&self, put: &mut Put<'a>) {
+    #[inline(always)]
+    fn put<const N: usize>(&self, put: &mut Filling<'_, 'a, N>) {
         put.span(self);
     }
 }
 
 impl<'a> Field<'a> for Names<'a> {
+    #[inline(always)]
     fn take(taken: &mut Taken<'a, '_>) -> Self {
         let count = taken.next() as u16;
         // The part was accepted, so its names are UTF-8 and fill it.
         Names::accepted(count, taken.span())
     }
 
-    fn put(&self, put: &mut Put<'a>) {
+    #[inline(always)]
+    fn put<const N: usize>(&self, put: &mut Filling<'_, 'a, N>) {
         put.value(u64::from(self.count()));
         put.span(self.part());
     }
 }
 
 impl<'a> Field<'a> for Qids<'a> {
+    #[inline(always)]
     fn take(taken: &mut Taken<'a, '_>) -> Self {
         let count = taken.next() as u16;
         Qids::accepted(count, taken.span())
     }
 
-    fn put(&self, put: &mut Put<'a>) {
+    #[inline(always)]
+    fn put<const N: usize>(&self, put: &mut Filling<'_, 'a, N>) {
         put.value(u64::from(self.count()));
         put.span(self.part());
     }
 }
 
 impl<'a> Field<'a> for Qid {
+    #[inline(always)]
     fn take(taken: &mut Taken<'a, '_>) -> Self {
         Qid {
             ty: taken.next() as u8,
@@ -143,7 +185,8 @@ impl<'a> Field<'a> for Qid {
         }
     }
 
-    fn put(&self, put: &mut Put<'a>) {
+    #[inline(always)]
+    fn put<const N: usize>(&self, put: &mut Filling<'_, 'a, N>) {
         put.value(u64::from(self.ty));
         put.value(u64::from(self.version));
         put.value(self.path);

@@ -2,7 +2,7 @@
 //! borrows from the bytes.
 
 use crate::ffi;
-use crate::fields::{Put, Taken, LONGEST_STRING};
+use crate::fields::{Taken, LONGEST_STRING};
 use crate::{Refusal, Rmessage, Tmessage};
 
 /// A request: its tag beside a message or a refusal.
@@ -40,30 +40,41 @@ impl<'a> Tframe<'a> {
     /// # Ok::<(), sheafsledge::Refusal>(())
     /// ```
     pub fn decode(bytes: &'a [u8]) -> Result<Decoded<Self>, Refusal> {
+        Self::read(bytes, Err, |tag, msg, used| {
+            let frame = Self { tag, msg };
+            Ok(Decoded { frame, used })
+        })
+    }
+
+    /// What is made of a header that can't be read; else of the tag, the message and the bytes
+    /// used, in the arm that takes the message.
+    #[inline(always)]
+    pub(crate) fn read<A>(
+        bytes: &'a [u8],
+        headless: impl FnOnce(Refusal) -> A,
+        made: impl Fn(u16, Result<Tmessage<'a>, Refusal>, usize) -> A,
+    ) -> A {
         let mut values = [0; 10];
         let flat = ffi::read_t(bytes, &mut values);
-        let msg = match Refusal::of(flat.refusal) {
-            Some(refusal) if !flat.tagged => return Err(refusal),
-            Some(refusal) => Err(refusal),
+        let made = |msg| made(flat.tag, msg, flat.used);
+        match Refusal::of(flat.refusal) {
+            Some(refusal) if !flat.tagged => headless(refusal),
+            Some(refusal) => made(Err(refusal)),
             None => {
                 let (values, frame) = (values.iter(), bytes);
-                Tmessage::take(flat.ty, &mut Taken { values, frame }).ok_or(Refusal::UnknownType)
+                Tmessage::take(flat.ty, &mut Taken { values, frame }, made)
             }
-        };
-        let (tag, used) = (flat.tag, flat.used);
-        let frame = Self { tag, msg };
-        Ok(Decoded { frame, used })
+        }
     }
 
     /// Writes the request at the front of the output, and answers its length. Refused, the output
     /// is as it was.
     pub fn encode(&self, out: &mut [u8]) -> Result<usize, Refusal> {
-        let msg = self.msg.map_err(|_| Refusal::HoldsRefusal)?;
-        let mut put = Put::default();
-        msg.put(&mut put);
-        let values = put.values.first_chunk().expect("10 of 22");
-        with_lent(put.lent, |lent| {
-            ffi::write_t(out, lent, (msg.ty(), self.tag), values)
+        let msg = self.msg.as_ref().map_err(|_| Refusal::HoldsRefusal)?;
+        msg.put(|ty, put| {
+            with_lent(put.lent, |lent| {
+                ffi::write_t(out, lent, (ty, self.tag), &put.values)
+            })
         })
     }
 }
@@ -71,36 +82,45 @@ impl<'a> Tframe<'a> {
 impl<'a> Rframe<'a> {
     /// Reads the reply at the front of some bytes; no byte behind its declared size is looked at.
     pub fn decode(bytes: &'a [u8]) -> Result<Decoded<Self>, Refusal> {
+        Self::read(bytes, |tag, msg, used| {
+            let frame = Self { tag, msg: msg? };
+            Ok(Decoded { frame, used })
+        })
+    }
+
+    /// What is made of the tag, the message and the bytes used, in the arm that takes the message;
+    /// a refusal has no tag.
+    #[inline(always)]
+    pub(crate) fn read<A>(
+        bytes: &'a [u8],
+        made: impl Fn(u16, Result<Rmessage<'a>, Refusal>, usize) -> A,
+    ) -> A {
         let mut values = [0; 22];
         let flat = ffi::read_r(bytes, &mut values);
-        if let Some(refusal) = Refusal::of(flat.refusal) {
-            return Err(refusal);
+        let made = |msg| made(flat.tag, msg, flat.used);
+        match Refusal::of(flat.refusal) {
+            Some(refusal) => made(Err(refusal)),
+            None => {
+                let (values, frame) = (values.iter(), bytes);
+                Rmessage::take(flat.ty, &mut Taken { values, frame }, made)
+            }
         }
-        let (values, frame) = (values.iter(), bytes);
-        let msg = Rmessage::take(flat.ty, &mut Taken { values, frame });
-        let frame = Self {
-            tag: flat.tag,
-            msg: msg.ok_or(Refusal::UnknownType)?,
-        };
-        Ok(Decoded {
-            frame,
-            used: flat.used,
-        })
     }
 
     /// Writes the reply at the front of the output, and answers its length. Refused, the output is
     /// as it was.
     pub fn encode(&self, out: &mut [u8]) -> Result<usize, Refusal> {
-        let mut put = Put::default();
-        self.msg.put(&mut put);
-        with_lent(put.lent, |lent| {
-            ffi::write_r(out, lent, (self.msg.ty(), self.tag), &put.values)
+        self.msg.put(|ty, put| {
+            with_lent(put.lent, |lent| {
+                ffi::write_r(out, lent, (ty, self.tag), &put.values)
+            })
         })
     }
 }
 
 /// The library takes one slice that all spans point into. A record has two at most, and only
 /// strings come in twos: the few messages with two of them are copied together first.
+#[inline(always)]
 fn with_lent<A>(lent: [&[u8]; 2], write: impl FnOnce(&[u8]) -> A) -> A {
     match lent {
         [only, []] => write(only),
@@ -114,6 +134,9 @@ fn with_lent<A>(lent: [&[u8]; 2], write: impl FnOnce(&[u8]) -> A) -> A {
 /// Two strings, of which no more is taken than shows that they are too long.
 const LONGEST: usize = 2 * (LONGEST_STRING + 1);
 
+/// On its own, since a function that has so much room on the stack pays for it in every call.
+#[cold]
+#[inline(never)]
 fn joined<const ROOM: usize, A>(first: &[u8], second: &[u8], write: impl FnOnce(&[u8]) -> A) -> A {
     let mut room = [0; ROOM];
     let (front, rest) = room.split_at_mut(first.len());

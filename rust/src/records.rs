@@ -1,8 +1,9 @@
 //! The records under the seller's names, and the two enums that hold them.
 
 pub use crate::boundary::Qid;
-use crate::fields::{Field, Put, Taken};
+use crate::fields::{Field, Filling, Put, Taken};
 use crate::walks::{Names, Qids};
+use crate::Refusal;
 
 /// A record's fields cross in declared order, which is the layout's.
 macro_rules! record {
@@ -13,12 +14,14 @@ macro_rules! record {
         }
 
         impl<'a> Field<'a> for $name $(<$a>)? {
+            #[inline(always)]
             fn take(taken: &mut Taken<'a, '_>) -> Self {
                 $(let $field = Field::take(taken);)*
                 Self { $($field,)* }
             }
 
-            fn put(&self, put: &mut Put<'a>) {
+            #[inline(always)]
+            fn put<const N: usize>(&self, put: &mut Filling<'_, 'a, N>) {
                 $(self.$field.put(put);)*
             }
         }
@@ -42,18 +45,27 @@ macro_rules! message {
         }
 
         impl<'a> $message<'a> {
-            pub(crate) fn take(ty: u8, taken: &mut Taken<'a, '_>) -> Option<Self> {
+            /// The message of a type, handed on in the arm that makes it: carried from answer to
+            /// answer it would be copied each time.
+            #[inline(always)]
+            pub(crate) fn take<A>(
+                ty: u8,
+                taken: &mut Taken<'a, '_>,
+                made: impl Fn(Result<Self, Refusal>) -> A,
+            ) -> A {
                 match ty {
-                    $($ty => Some(Self::$case(Field::take(taken))),)*
-                    $($number => Some(Self::$empty),)*
-                    _ => None,
+                    $($ty => made(Ok(Self::$case(Field::take(taken)))),)*
+                    $($number => made(Ok(Self::$empty)),)*
+                    _ => made(Err(Refusal::UnknownType)),
                 }
             }
 
-            pub(crate) fn put(&self, put: &mut Put<'a>) {
+            /// Its type and what is to be written, handed on in the arm that lays it out.
+            #[inline(always)]
+            pub(crate) fn put<const N: usize, A>(&self, write: impl FnOnce(u8, Put<'a, N>) -> A) -> A {
                 match self {
-                    $(Self::$case(record) => record.put(put),)*
-                    $(Self::$empty => {})*
+                    $(Self::$case(record) => write($ty, Put::of(record)),)*
+                    $(Self::$empty => write($number, Put::of(&())),)*
                 }
             }
 

@@ -90,6 +90,7 @@ pub struct Stretch<'a> {
 impl<'a> Iterator for Stretch<'a> {
     type Item = Result<Listed<'a>, Stop>;
 
+    #[inline]
     fn next(&mut self) -> Option<Self::Item> {
         let at = self.position.take()?;
         let step = ffi::frame_at(self.bytes, at);
@@ -102,47 +103,34 @@ impl<'a> Iterator for Stretch<'a> {
         let next = step.next;
         self.position = Some(next);
         let frame = &self.bytes[at..next];
-        let (body, tail) = Body::read(step.ty, frame);
-        Some(Ok(Listed {
-            at,
-            size: frame.len(),
-            ty: step.ty,
-            tag: step.tag,
-            body,
-            tail,
-            next,
-        }))
-    }
-}
-
-impl FusedIterator for Stretch<'_> {}
-
-impl<'a> Body<'a> {
-    /// What a frame of exactly these bytes holds, and how many of them stand behind its last field.
-    fn read(ty: u8, frame: &'a [u8]) -> (Self, usize) {
         let size = frame.len();
+        let (ty, tag) = (step.ty, step.tag);
+        let listed = |body, tail| {
+            Some(Ok(Listed {
+                at,
+                size,
+                ty,
+                tag,
+                body,
+                tail,
+                next,
+            }))
+        };
+        // A refused body has no tail.
         match ty % 2 {
-            0 => {
-                let read = Tframe::decode(frame).and_then(|read| Ok((read.frame.msg?, read.used)));
-                let (msg, tail) = with_tail(read, size);
-                (Self::Request(msg), tail)
-            }
-            _ => {
-                let read = Rframe::decode(frame).map(|read| (read.frame.msg, read.used));
-                let (msg, tail) = with_tail(read, size);
-                (Self::Reply(msg), tail)
-            }
+            0 => Tframe::read(
+                frame,
+                |refusal| listed(Body::Request(Err(refusal)), 0),
+                |_, msg, used| listed(Body::Request(msg), msg.map_or(0, |_| size - used)),
+            ),
+            _ => Rframe::read(frame, |_, msg, used| {
+                listed(Body::Reply(msg), msg.map_or(0, |_| size - used))
+            }),
         }
     }
 }
 
-/// A message with what is left of its frame's size in place of the bytes used.
-fn with_tail<M>(read: Result<(M, usize), Refusal>, size: usize) -> (Result<M, Refusal>, usize) {
-    match read {
-        Ok((msg, used)) => (Ok(msg), size - used),
-        Err(refusal) => (Err(refusal), 0),
-    }
-}
+impl FusedIterator for Stretch<'_> {}
 
 impl fmt::Display for Stop {
     fn fmt(&self, f: &mut fmt::Formatter) -> fmt::Result {

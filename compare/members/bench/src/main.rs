@@ -2,6 +2,7 @@
 
 mod clock;
 mod frames;
+mod in_rust;
 mod stretch;
 mod texts;
 
@@ -10,6 +11,7 @@ use std::process::ExitCode;
 
 use ours::{CrossedR, CrossedT, Crossing, Wrote};
 use p9::protocol::{Rframe, Tframe, WireFormat};
+use sheafsledge::{Rframe as Reply, Tframe as Request};
 
 use clock::{least, Output, Place};
 
@@ -22,8 +24,8 @@ fn main() -> ExitCode {
     let (requests, replies) = (frames::requests(), frames::replies());
     let mut requests = requests.iter();
     let mut replies = replies.iter();
-    let done = requests.all(|(name, frame)| rows::<CrossedT, Tframe>(name, frame))
-        && replies.all(|(name, frame)| rows::<CrossedR, Rframe>(name, frame))
+    let done = requests.all(|(name, frame)| rows::<CrossedT, Request, Tframe>(name, frame))
+        && replies.all(|(name, frame)| rows::<CrossedR, Reply, Rframe>(name, frame))
         && stretch::row_of_a_million()
         && texts::rows();
     match done {
@@ -34,7 +36,10 @@ fn main() -> ExitCode {
 
 /// The rows of a frame. There are none, and the answer is `false`, unless both libraries read
 /// it and write it again.
-fn rows<Ours: Crossing, Theirs: WireFormat>(name: &str, frame: &[u8]) -> bool {
+fn rows<'a, Ours: Crossing, InRust: in_rust::Frame<'a>, Theirs: WireFormat>(
+    name: &str,
+    frame: &'a [u8],
+) -> bool {
     let mut flat = Ours::default();
     flat.read(frame);
     let mut out = vec![0; frame.len()];
@@ -43,16 +48,17 @@ fn rows<Ours: Crossing, Theirs: WireFormat>(name: &str, frame: &[u8]) -> bool {
         refusal: 0,
         len: frame.len(),
     };
-    if wrote != whole || out != frame {
+    let same = in_rust::same::<InRust>(frame).filter(|_| wrote == whole && out == frame);
+    let Some(in_rust) = same else {
         eprintln!("bench: the proved library does not read {name} and write it again");
         return false;
-    }
+    };
     let record = Theirs::decode(&mut &*frame);
     let again = record.as_ref().ok().map(judge::written);
     match (record, again) {
         (Ok(record), Some(Ok(again))) if again == frame => {
-            read::<Ours, Theirs>(name, frame);
-            write(name, frame, flat, &record);
+            read::<Ours, InRust, Theirs>(name, frame);
+            write(name, frame, (&flat, &in_rust, &record));
             true
         }
         _ => {
@@ -62,11 +68,19 @@ fn rows<Ours: Crossing, Theirs: WireFormat>(name: &str, frame: &[u8]) -> bool {
     }
 }
 
-fn read<Ours: Crossing, Theirs: WireFormat>(name: &str, frame: &[u8]) {
+fn read<'a, Ours: Crossing, InRust: in_rust::Frame<'a>, Theirs: WireFormat>(
+    name: &str,
+    frame: &'a [u8],
+) {
     let mut flat = Ours::default();
     let mut ours = |turns, _: Place| {
         for _ in 0..turns {
             black_box(&mut flat).read(black_box(frame));
+        }
+    };
+    let mut in_rust = |turns, _: Place| {
+        for _ in 0..turns {
+            black_box(&InRust::read(black_box(frame)));
         }
     };
     let mut theirs = |turns, _: Place| {
@@ -75,17 +89,28 @@ fn read<Ours: Crossing, Theirs: WireFormat>(name: &str, frame: &[u8]) {
             black_box(&Theirs::decode(&mut black_box(frame)));
         }
     };
-    let [ours, theirs] = least([&mut ours, &mut theirs]);
-    row(name, "read", ours, theirs);
+    let [ours, in_rust, theirs] = least([&mut ours, &mut in_rust, &mut theirs]);
+    rows_of(name, "read", [ours, in_rust], theirs);
 }
 
-fn write(name: &str, frame: &[u8], flat: impl Crossing, record: &impl WireFormat) {
+fn write<'a>(
+    name: &str,
+    frame: &[u8],
+    (flat, in_rust, record): (&impl Crossing, &impl in_rust::Frame<'a>, &impl WireFormat),
+) {
     let mut output = Output::new(frame.len());
     let mut ours = |turns, place| {
         let out = output.at(place);
         for _ in 0..turns {
             let (to, lent) = (black_box(&mut *out), black_box(frame));
-            black_box(&black_box(&flat).write(to, lent));
+            black_box(&black_box(flat).write(to, lent));
+        }
+    };
+    let mut output = Output::new(frame.len());
+    let mut encoded = |turns, place| {
+        let out = output.at(place);
+        for _ in 0..turns {
+            black_box(&black_box(in_rust).write(black_box(&mut *out)));
         }
     };
     let mut output = Output::new(frame.len());
@@ -110,11 +135,23 @@ fn write(name: &str, frame: &[u8], flat: impl Crossing, record: &impl WireFormat
             black_box(&mut *out).copy_from_slice(black_box(frame));
         }
     };
-    let [ours, slice, vec, copy] = least([&mut ours, &mut into_slice, &mut into_vec, &mut copy]);
-    row(name, "write", ours, slice.min(vec));
+    let [ours, encoded, slice, vec, copy] = least([
+        &mut ours,
+        &mut encoded,
+        &mut into_slice,
+        &mut into_vec,
+        &mut copy,
+    ]);
+    rows_of(name, "write", [ours, encoded], slice.min(vec));
     if frame.len() > LONG {
         println!("{name} copy {copy:.1} - -");
     }
+}
+
+/// Over the C boundary, and through the crate in Rust.
+fn rows_of(name: &str, what: &str, [ours, in_rust]: [f64; 2], theirs: f64) {
+    row(name, what, ours, theirs);
+    row(&format!("{name}-in-Rust"), what, in_rust, theirs);
 }
 
 fn row(name: &str, what: &str, ours: f64, theirs: f64) {

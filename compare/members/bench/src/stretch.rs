@@ -7,7 +7,7 @@ use ours::{CrossedR, CrossedT, Crossing};
 use p9::protocol::{Rframe, Tframe, WireFormat};
 
 use crate::clock::{least, Place};
-use crate::row;
+use crate::{in_rust, rows_of};
 
 /// A recorded session: 224 frames of both directions.
 const SESSION: &[u8] = include_bytes!("../../../../examples/diod-session.bin");
@@ -18,7 +18,7 @@ const LEN: usize = 1_000_000;
 pub fn row_of_a_million() -> bool {
     let bytes = SESSION.repeat(LEN.div_ceil(SESSION.len()));
     let frames = 224 * (bytes.len() / SESSION.len());
-    if ours(&bytes) != frames || theirs(&bytes) != frames {
+    if [ours, in_rust::listed, theirs].map(|list| list(&bytes)) != [frames; 3] {
         eprintln!("bench: not every frame of the session is accepted by both");
         return false;
     }
@@ -27,13 +27,18 @@ pub fn row_of_a_million() -> bool {
             black_box(ours(black_box(&bytes)));
         }
     };
+    let mut in_rust = |turns, _: Place| {
+        for _ in 0..turns {
+            black_box(in_rust::listed(black_box(&bytes)));
+        }
+    };
     let mut decoded = |turns, _: Place| {
         for _ in 0..turns {
             black_box(theirs(black_box(&bytes)));
         }
     };
-    let [ours, theirs] = least([&mut listed, &mut decoded]);
-    row("stretch-1MB", "list", ours, theirs);
+    let [ours, in_rust, theirs] = least([&mut listed, &mut in_rust, &mut decoded]);
+    rows_of("stretch-1MB", "list", [ours, in_rust], theirs);
     true
 }
 
