@@ -3,17 +3,20 @@
 use crate::boundary::*;
 use crate::{Refusal, WalkHead};
 
+#[inline]
 pub fn read_t(bytes: &[u8], values: &mut [u64; 10]) -> FlatT {
     // SAFETY: pointer and count are a slice's, and the values are borrowed alone. The library is
     // proved to touch nothing else, and keeps neither (its contract speaks of the two alone).
     unsafe { sheafsledge_read_tframe(bytes.as_ptr(), bytes.len(), values) }
 }
 
+#[inline]
 pub fn read_r(bytes: &[u8], values: &mut [u64; 22]) -> FlatR {
     // SAFETY: as for `read_t`.
     unsafe { sheafsledge_read_rframe(bytes.as_ptr(), bytes.len(), values) }
 }
 
+#[inline]
 pub fn frame_at(bytes: &[u8], position: usize) -> FlatStep {
     // SAFETY: as for `read_t`; any position is answered.
     unsafe { sheafsledge_frame_at(bytes.as_ptr(), bytes.len(), position) }
@@ -51,6 +54,7 @@ pub fn answers(request_ty: u8, request_tag: u16, reply_ty: u8, reply_tag: u16) -
     unsafe { sheafsledge_answers(request_ty, request_tag, reply_ty, reply_tag) }
 }
 
+#[inline]
 pub fn write_t(
     out: &mut [u8],
     lent: &[u8],
@@ -63,6 +67,7 @@ pub fn write_t(
     unsafe { sheafsledge_write_tframe(to, room, from, count, 0, ty, tag, values) }.told()
 }
 
+#[inline]
 pub fn write_r(
     out: &mut [u8],
     lent: &[u8],

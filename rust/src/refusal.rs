@@ -12,6 +12,7 @@ macro_rules! refusals {
         }
 
         impl Refusal {
+            #[inline]
             pub(crate) fn of(number: u8) -> Option<Self> {
                 match number {
                     $($number => Some(Self::$name),)*
