@@ -1,5 +1,9 @@
 //! What the proved library's functions are to C: src/lib.rt of the crate `exports`, declared once
 //! for this crate and for the comparison.
+//!
+//! Nothing joins the two texts but the names of the functions, so a difference would be read as
+//! other values. The layouts are held to C's at the end of this file, when it is compiled;
+//! `tests/boundary.rs` holds the text to the library's, field by field and parameter by parameter.
 
 /// A request as it crosses the boundary. Its values are where the caller has room for them, and all
 /// 0 where it is refused.
@@ -111,7 +115,7 @@ extern "C" {
         at: usize,
         lent: *const u8,
         count: usize,
-        dirent: FlatDirent,
+        d: FlatDirent,
     ) -> Wrote;
     pub fn sheafsledge_is_utf8(bytes: *const u8, count: usize) -> bool;
     pub fn sheafsledge_answers(
@@ -157,3 +161,50 @@ extern "C" {
     ) -> Wrote;
     pub fn sheafsledge_frame_at(bytes: *const u8, count: usize, position: usize) -> FlatStep;
 }
+
+/// Holds a struct to its size, its alignment and the offset of each field, in bytes.
+macro_rules! laid_out {
+    ($name:ident: $size:literal, $align:literal; $($field:ident $at:literal),+) => {
+        const _: () = {
+            use core::mem::{align_of, offset_of, size_of};
+            assert!(size_of::<$name>() == $size, concat!(stringify!($name), ": its size"));
+            assert!(align_of::<$name>() == $align, concat!(stringify!($name), ": its alignment"));
+            $(assert!(
+                offset_of!($name, $field) == $at,
+                concat!(stringify!($name), ": where ", stringify!($field), " stands")
+            );)+
+            // A field that is not named above would leave this pattern incomplete.
+            const fn all_named(it: $name) {
+                let $name { $($field: _),+ } = it;
+            }
+            let _ = all_named;
+        };
+    };
+}
+
+laid_out!(FlatT: 16, 8; refusal 0, ty 1, tag 2, tagged 4, used 8);
+laid_out!(FlatR: 16, 8; refusal 0, ty 1, tag 2, used 8);
+laid_out!(Wrote: 16, 8; refusal 0, len 8);
+laid_out!(Qid: 16, 8; ty 0, version 4, path 8);
+laid_out!(FlatDirent: 56, 8; refusal 0, ty 1, qid 8, offset 24, start 32, len 40, next 48);
+laid_out!(FlatSpan: 24, 8; refusal 0, start 8, len 16);
+laid_out!(FlatQid: 24, 8; refusal 0, qid 8);
+laid_out!(FlatStep: 16, 8; refusal 0, end 1, ty 2, tag 4, next 8);
+
+/// Holds a type without named fields to its size and alignment, in bytes.
+macro_rules! sized {
+    ($type:ty: $size:literal, $align:literal) => {
+        const _: () = assert!(
+            core::mem::size_of::<$type>() == $size && core::mem::align_of::<$type>() == $align,
+            concat!(stringify!($type), ": not as the library has it")
+        );
+    };
+}
+
+// The arrays that are lent. The library is compiled for 64 bits.
+sized!([u64; 10]: 80, 8);
+sized!([u64; 22]: 176, 8);
+sized!([usize; 2]: 16, 8);
+sized!(usize: 8, 8);
+sized!(*const u8: 8, 8);
+sized!(bool: 1, 1);

@@ -1,0 +1,204 @@
+//! Holds the two texts of the boundary to each other: the `#[repr(C)]` structs and the exported
+//! functions of crates/*/src/*.rt, and src/boundary.rs. Fields and parameters have to be the same,
+//! in the same order, with the same names and types; a slice is a pointer and a count.
+
+use std::collections::BTreeMap;
+use std::fs;
+use std::path::{Path, PathBuf};
+
+const PREFIX: &str = "sheafsledge_";
+
+/// A name and its type, as C has it.
+type Typed = (String, String);
+
+#[derive(Debug, Default, PartialEq)]
+struct Side {
+    /// The fields of each struct.
+    structs: BTreeMap<String, Vec<Typed>>,
+    /// The parameters of each function, and the answer as the last.
+    functions: BTreeMap<String, Vec<Typed>>,
+}
+
+/// What a text declares. `parameter` says what a parameter is to C.
+fn declared(text: &str, function: &str, parameter: fn(Typed) -> Vec<Typed>, side: &mut Side) {
+    let text = without_comments(text);
+    for part in text.split("#[repr(C)]").skip(1) {
+        let (head, rest) = part.split_once('{').expect("a struct has a body");
+        let name = head.split_whitespace().last().expect("a struct has a name");
+        let (body, _) = rest.split_once('}').expect("a struct's body ends");
+        let fields = list(body).map(typed).collect();
+        let before = side.structs.insert(name.to_string(), fields);
+        assert_eq!(before, None, "the struct {name} is there twice");
+    }
+    for part in text.split(function).skip(1) {
+        let (name, rest) = part.split_once('(').expect("a function has parameters");
+        let (parameters, rest) = rest.split_once(')').expect("its parameters end");
+        let mut all: Vec<Typed> = list(parameters).map(typed).flat_map(parameter).collect();
+        all.push(("->".to_string(), answer(rest)));
+        let before = side.functions.insert(name.to_string(), all);
+        assert_eq!(before, None, "the function {name} is there twice");
+    }
+}
+
+fn without_comments(text: &str) -> String {
+    let lines = text
+        .lines()
+        .map(|line| line.split("//").next().unwrap_or(""));
+    lines.collect::<Vec<_>>().join("\n")
+}
+
+/// The items of a list, which commas divide.
+fn list(text: &str) -> impl Iterator<Item = &str> {
+    text.split(',')
+        .map(str::trim)
+        .filter(|item| !item.is_empty())
+}
+
+fn typed(item: &str) -> Typed {
+    let (name, ty) = item
+        .split_once(':')
+        .unwrap_or_else(|| panic!("no type: {item}"));
+    let name = name.trim().trim_start_matches("pub ");
+    (name.to_string(), ty.trim().to_string())
+}
+
+/// The answer's type; `()` where there is none.
+fn answer(rest: &str) -> String {
+    let ends = |c: char| c.is_whitespace() || c == ';' || c == '{';
+    match rest.trim_start().strip_prefix("->") {
+        Some(ty) => ty.trim_start().split(ends).next().unwrap_or("").to_string(),
+        None => "()".to_string(),
+    }
+}
+
+/// What a parameter in Rattle is to C: a slice is two, a reference to anything else a pointer.
+fn crossed((name, ty): Typed) -> Vec<Typed> {
+    let (pointer, held) = match (ty.strip_prefix("&mut "), ty.strip_prefix('&')) {
+        (Some(held), _) => ("*mut", held),
+        (None, Some(held)) => ("*const", held),
+        (None, None) => return vec![(name, ty)],
+    };
+    // A slice has no `;` outside its elements: [u8] and [[usize; 2]] are, [u64; 10] is not.
+    let inside = held
+        .strip_prefix('[')
+        .and_then(|held| held.strip_suffix(']'));
+    match inside.filter(|inside| inside.starts_with('[') || !inside.contains(';')) {
+        Some(element) => vec![
+            (name, format!("{pointer} {element}")),
+            ("its count".to_string(), "usize".to_string()),
+        ],
+        None => vec![(name, format!("{pointer} {held}"))],
+    }
+}
+
+/// In Rust a count stands behind its pointer, under any name.
+fn counts_named(functions: &mut BTreeMap<String, Vec<Typed>>, theirs: &Side) {
+    for (name, parameters) in functions {
+        let counted = theirs.functions.get(name).into_iter().flatten();
+        for (ours, theirs) in parameters.iter_mut().zip(counted) {
+            if theirs.0 == "its count" {
+                ours.0.clone_from(&theirs.0);
+            }
+        }
+    }
+}
+
+fn sources(root: &Path) -> Vec<PathBuf> {
+    let mut found: Vec<PathBuf> = Vec::new();
+    for krate in fs::read_dir(root.join("crates"))
+        .expect("crates/ is there")
+        .flatten()
+    {
+        let source = fs::read_dir(krate.path().join("src"))
+            .into_iter()
+            .flatten()
+            .flatten();
+        found.extend(source.map(|entry| entry.path()));
+    }
+    found.retain(|path| path.extension().is_some_and(|kind| kind == "rt"));
+    found.sort();
+    found
+}
+
+fn boundary() -> String {
+    let path = Path::new(env!("CARGO_MANIFEST_DIR")).join("src/boundary.rs");
+    fs::read_to_string(path).expect("boundary.rs is there")
+}
+
+fn both() -> (Side, Side) {
+    let here = Path::new(env!("CARGO_MANIFEST_DIR"));
+    let (mut library, mut rust) = (Side::default(), Side::default());
+    for path in sources(&here.join("..")) {
+        let text = fs::read_to_string(&path).expect("a source is text");
+        declared(&text, "pub extern \"C\" fn ", crossed, &mut library);
+    }
+    let text = boundary();
+    let text = text
+        .split("macro_rules!")
+        .next()
+        .expect("a part before the macros");
+    declared(text, "pub fn ", |typed| vec![typed], &mut rust);
+    counts_named(&mut rust.functions, &library);
+    (library, rust)
+}
+
+/// One line for each name whose two sides differ.
+fn differences(
+    library: &BTreeMap<String, Vec<Typed>>,
+    rust: &BTreeMap<String, Vec<Typed>>,
+) -> Vec<String> {
+    let names: std::collections::BTreeSet<_> = library.keys().chain(rust.keys()).collect();
+    let differ = names
+        .into_iter()
+        .filter(|name| library.get(*name) != rust.get(*name));
+    let line = |name: &String| {
+        let said = |side: Option<&Vec<Typed>>| side.map_or("nothing".into(), |all| shown(all));
+        format!(
+            "{name}: the library has {}; boundary.rs has {}",
+            said(library.get(name)),
+            said(rust.get(name))
+        )
+    };
+    differ.map(line).collect()
+}
+
+fn shown(all: &[Typed]) -> String {
+    let each = all.iter().map(|(name, ty)| format!("{name}: {ty}"));
+    format!("({})", each.collect::<Vec<_>>().join(", "))
+}
+
+#[test]
+fn the_structs_are_the_librarys() {
+    let (library, rust) = both();
+    assert!(
+        !library.structs.is_empty(),
+        "no #[repr(C)] struct was found in crates/"
+    );
+    let differ = differences(&library.structs, &rust.structs);
+    assert!(differ.is_empty(), "\n{}", differ.join("\n"));
+}
+
+#[test]
+fn each_struct_is_held_to_its_layout() {
+    let (_, rust) = both();
+    let text = boundary();
+    let held = |name: &&String| text.contains(&format!("\nlaid_out!({name}: "));
+    let missing: Vec<_> = rust.structs.keys().filter(|name| !held(name)).collect();
+    assert!(missing.is_empty(), "no laid_out! for {missing:?}");
+}
+
+#[test]
+fn the_functions_are_the_librarys() {
+    let (library, rust) = both();
+    assert!(
+        !library.functions.is_empty(),
+        "no exported function was found in crates/"
+    );
+    let strange = library
+        .functions
+        .keys()
+        .find(|name| !name.starts_with(PREFIX));
+    assert_eq!(strange, None, "an exported function without {PREFIX}");
+    let differ = differences(&library.functions, &rust.functions);
+    assert!(differ.is_empty(), "\n{}", differ.join("\n"));
+}
