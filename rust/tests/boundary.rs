@@ -91,7 +91,7 @@ fn crossed((name, ty): Typed) -> Vec<Typed> {
     }
 }
 
-/// In Rust a count stands behind its pointer, under any name.
+/// In Rust a count comes after its pointer, under any name.
 fn counts_named(functions: &mut BTreeMap<String, Vec<Typed>>, theirs: &Side) {
     for (name, parameters) in functions {
         let counted = theirs.functions.get(name).into_iter().flatten();
