@@ -1,10 +1,10 @@
--- `oracle_cases::digits::bytes` is safe and ends: a byte for each two digits passed, within the output.
+-- `cases::digits::spell` is safe and ends: a byte for each two digits passed, within the output.
 use Prim.Native.Nat.{_≤_, _-_}
 use mathlib.Core.Path.{_≡_}
 use lib.ListN.{length}
 use borrow.Author.Needs.{needs}
-use Rattle.oracle_cases.proofs.digits.bytes.Statement.{statement}
-use Rattle.oracle_cases.proofs.digits.bytes.Tie as tie
+use Rattle.cases.proofs.digits.spell.Statement.{statement}
+use Rattle.cases.proofs.digits.spell.Tie as tie
 
 abbrev Inv-loop : tie.InvT-loop
 Inv-loop hex out₀ count i₀ out i = (i ≤ count) × (length out ≡ length out₀)
@@ -69,8 +69,8 @@ same-length-2 c = search needs
 returns-4 : tie.Need-returns-4 Inv-loop μ-loop
 returns-4 c = search needs
 
-pub bytes-spec : {M : Type 1} → statement M
-bytes-spec =
+pub spell-spec : {M : Type 1} → statement M
+spell-spec =
     tie.close
     (tie.spec
     Inv-loop
