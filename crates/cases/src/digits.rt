@@ -6,29 +6,11 @@ ghost use mathlib.Core.Path.{_≡_};
 ghost use Prim.Native.Nat.{_≤_};
 ghost use lib.ListN.{length};
 
-// How many bytes a text spells; or that it spells none.
-pub enum Spelt {
-    Count(usize),
-    Malformed,
-}
-
-// As much room as any question, its bytes or its output want. The `ensures` has what lending the array needs, once for all.
+// As much room as any line, its bytes or an output want. The `ensures` has what lending the array needs, once for all.
 pub fn room() -> [u8; 170000]
     ensures { λ r. ⌜ 170000 ≡ length r ⌝ }
 {
     [0xee; 170000]
-}
-
-// Where the character first stands; the text's end where it does not.
-pub fn find(text: &[u8], c: u8) -> usize {
-    let mut i = 0;
-    while i < text.len() {
-        if text[i] == c {
-            return i;
-        }
-        i += 1;
-    }
-    i
 }
 
 // The bytes from `from` up to `to`; none where they are not all there. A test of its own, and not `strings::shown`, which is under test.
@@ -57,48 +39,32 @@ fn value(c: u8) -> u8 {
     }
 }
 
-// Two digits of one byte; the remainder alters no digit and keeps the sum within a byte.
-fn pair(high: u8, low: u8) -> u8 {
-    high % 16 * 16 + low % 16
+// A byte and one hexadecimal digit more, which drives the upper one of its two out.
+fn sixteens(byte: u8, digit: u8) -> u8 {
+    byte % 16 * 16 + digit % 16
 }
 
-// The bytes that hexadecimal digits spell, at the front of the output.
-fn spell(hex: &[u8], out: &mut [u8]) -> Spelt {
+pub const MALFORMED: usize = usize::MAX;
+
+// The bytes that hexadecimal digits spell, at the front of the output: how many they are.
+pub fn spell(hex: &[u8], out: &mut [u8]) -> usize {
     if hex.len() % 2 == 1 {
-        return Spelt::Malformed;
+        return MALFORMED;
     }
-    let count = hex.len() / 2;
-    if out.len() < count {
-        return Spelt::Malformed;
+    if out.len() < hex.len() / 2 {
+        return MALFORMED;
     }
     let mut i = 0;
-    while i < count {
-        let high = value(hex[2 * i]);
-        let low = value(hex[2 * i + 1]);
-        if 15 < high || 15 < low {
-            return Spelt::Malformed;
+    while i < hex.len() {
+        let digit = value(hex[i]);
+        if 15 < digit {
+            return MALFORMED;
         }
-        out[i] = pair(high, low);
+        let k = i / 2;
+        out[k] = sixteens(out[k], digit);
         i += 1;
     }
-    Spelt::Count(count)
-}
-
-// The bytes of a question: `61c3a9`; or `ffff61*65537 1`, so many bytes in all, the last of them over and over, here the last one.
-pub fn bytes(text: &[u8], out: &mut [u8]) -> Spelt {
-    let star = find(text, b'*');
-    let spelt = spell(part(text, 0, star), out);
-    if star == text.len() {
-        return spelt;
-    }
-    match spelt {
-        Spelt::Count(n) => {
-            let f = read_figures(behind(text, star));
-            let asked = f.numbers;
-            Spelt::Count(repeat(out, n, asked[0] as usize, asked[1] as usize))
-        }
-        Spelt::Malformed => spelt,
-    }
+    i / 2
 }
 
 fn lesser(a: usize, b: usize) -> usize
@@ -111,7 +77,7 @@ fn lesser(a: usize, b: usize) -> usize
 }
 
 // From `count` on, until there are `most` bytes or the output ends: what stands `back` bytes before.
-fn repeat(out: &mut [u8], count: usize, most: usize, back: usize) -> usize {
+pub fn repeat(out: &mut [u8], count: usize, most: usize, back: usize) -> usize {
     let end = lesser(most, out.len());
     let mut i = count;
     while i < end {
@@ -121,11 +87,12 @@ fn repeat(out: &mut [u8], count: usize, most: usize, back: usize) -> usize {
     i
 }
 
-// The numbers of a question, 0 where it has fewer; whether one of them is marked by `!`; and whether nothing else stands among them.
+// The numbers of a question, 0 where it has fewer; whether one is marked by `!`; whether nothing else stands among them; where they end.
 pub struct Figures {
     pub numbers: [u64; 16],
     pub marked: bool,
     pub sound: bool,
+    pub end: usize,
 }
 
 // One digit more. What is too great for a number is the greatest.
@@ -137,19 +104,24 @@ fn tens(n: u64, c: u8) -> u64 {
     n * 10 + digit
 }
 
-pub fn read_figures(text: &[u8]) -> Figures {
+// Behind the letter and up to the slash. A space steps on to the next number, and a star to the last two.
+pub fn read_figures(line: &[u8]) -> Figures {
     let mut numbers = [0u64; 16];
-    let mut at: usize = 0;
+    let mut at: usize = 15;
     let mut marked = false;
     let mut sound = true;
-    let mut i = 0;
-    while i < text.len() {
-        let c = text[i];
+    let mut i = 1;
+    while i < line.len() {
+        let c = line[i];
         let k = at % 16;
         match c {
             b'0'..=b'9' => numbers[k] = tens(numbers[k], c),
             b' ' => at = k + 1,
+            b'*' => at = 14,
             b'!' => marked = true,
+            b'/' => {
+                break;
+            }
             _ => sound = false,
         }
         i += 1;
@@ -158,6 +130,7 @@ pub fn read_figures(text: &[u8]) -> Figures {
         numbers,
         marked,
         sound,
+        end: i,
     }
 }
 
@@ -209,6 +182,24 @@ pub fn list(numbers: &[u64]) {
     }
 }
 
+// Where a reading or a writing ended, after a word; or why it was refused.
+pub fn ended(text: &[u8], refusal: u8, n: usize) {
+    if refusal == 0 {
+        word(text);
+        figure(n as u64);
+        return;
+    }
+    word(b"refused");
+    figure(refusal as u64);
+}
+
+pub fn placed(text: &[u8], p: Place) {
+    match p {
+        Place::At(n) => ended(text, 0, n),
+        Place::Refused(k) => ended(text, numbers::number(k), 0),
+    }
+}
+
 // Whether the byte at `i` is printed: each of a few, and of many the last of a run.
 fn is_shown(s: &[u8], i: usize) -> bool {
     if s.len() <= 1024 {
@@ -220,33 +211,24 @@ fn is_shown(s: &[u8], i: usize) -> bool {
     s[i] != s[i + 1]
 }
 
-fn print_run(b: u8, count: u64) {
+fn print_run(b: u8, run: u64) {
     io::print_hex(1, b as u64, 2);
-    if 1 < count {
+    if 1 < run {
         word(b"*");
-        io::print_decimal(1, count);
+        io::print_decimal(1, run);
         word(b".");
     }
 }
 
-// What stands in front of some bytes, and of none.
-pub fn lead<'a>(s: &[u8], some: &'a [u8], none: &'a [u8]) -> &'a [u8] {
-    if s.len() == 0 {
-        return none;
-    }
-    some
-}
-
-// Bytes, and the space before them: a minus for none, their digits, or, of more than 1,024, their runs, as `ff*2.61*65535.`.
+// Bytes by their digits; more than 1,024 of them by their runs, as `ff*2.61*65535.`.
 pub fn print(s: &[u8]) {
-    word(lead(s, b" ", b" -"));
-    let mut count: u64 = 0;
+    let mut run: u64 = 0;
     let mut i = 0;
     while i < s.len() {
-        count = std::num::wrapping_add_u64(count, 1);
+        run = std::num::wrapping_add_u64(run, 1);
         if is_shown(s, i) {
-            print_run(s[i], count);
-            count = 0;
+            print_run(s[i], run);
+            run = 0;
         }
         i += 1;
     }

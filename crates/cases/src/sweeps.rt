@@ -41,36 +41,23 @@ fn answer(s: &[u8]) -> usize {
     }
 }
 
-fn count(counts: &mut [u64; 16], i: usize) {
-    let k = i % 16;
+fn count(counts: &mut [u64; 14], i: usize) {
+    let k = i % 14;
     counts[k] = std::num::wrapping_add_u64(counts[k], 1);
 }
 
-// One string more: in all at 14, by `check_text` at 0 to 7, by `is_utf8` at 8, by `char_at` at 9 to 13.
-fn try_one(counts: &mut [u64; 16], s: &[u8]) {
-    count(counts, 14);
+// One string more: by `check_text` at 0 to 7, by `char_at` at 8 to 12, by `is_utf8` at 13.
+fn try_one(counts: &mut [u64; 14], s: &[u8]) {
     count(counts, answer(s) % 8);
+    count(counts, utf8::char_at(s, 0) % 5 + 8);
     if utf8::is_utf8(s) {
-        count(counts, 8);
+        count(counts, 13);
     }
-    count(counts, utf8::char_at(s, 0) % 7 + 9);
 }
 
-fn show(c: &[u64; 16]) {
-    digits::list(
-        &[
-            c[14],
-            c[0],
-            c[5],
-            c[6],
-            c[8],
-            c[9],
-            c[10],
-            c[11],
-            c[12],
-            c[13],
-        ],
-    );
+fn show(counts: &[u64; 14]) {
+    digits::word(b"tried");
+    digits::list(counts);
 }
 
 // Up to four ranges, each by its first and its last byte. There are at most 2^32 strings.
@@ -83,7 +70,7 @@ pub fn sweep(r: &[u8]) {
     let seconds = width(b, byte(r, 3));
     let thirds = width(c, byte(r, 5));
     let fourths = width(d, byte(r, 7));
-    let mut counts = [0u64; 16];
+    let mut counts = [0u64; 14];
     let mut n: u64 = 0;
     while n < 0x100000000 {
         let turn = n / fourths / thirds / seconds;

@@ -5,22 +5,10 @@ use Rattle.cases.proofs.digits.print.Statement.{statement}
 use Rattle.cases.proofs.digits.print.Tie as tie
 
 abbrev Inv-loop : tie.InvT-loop
-Inv-loop s count₀ i₀ count i = i ≤ length s
+Inv-loop s run₀ i₀ run i = i ≤ length s
 
 abbrev μ-loop : tie.MeasureT-loop
-μ-loop s count₀ i₀ count i = length s - i
-
-slice-aggregate-lead : tie.Need-slice-aggregate-lead Inv-loop μ-loop
-slice-aggregate-lead c = search needs
-
-slice-aggregate-lead-2 : tie.Need-slice-aggregate-lead-2 Inv-loop μ-loop
-slice-aggregate-lead-2 c = search needs
-
-lead-requires : tie.Need-lead-requires Inv-loop μ-loop
-lead-requires c κs = search needs
-
-word-requires : tie.Need-word-requires Inv-loop μ-loop
-word-requires c κs = search needs
+μ-loop s run₀ i₀ run i = length s - i
 
 loop-holds : tie.Need-loop-holds Inv-loop μ-loop
 loop-holds c = search needs
@@ -55,10 +43,6 @@ print-spec =
     (tie.spec
     Inv-loop
     μ-loop
-    slice-aggregate-lead
-    slice-aggregate-lead-2
-    lead-requires
-    word-requires
     loop-holds
     wrapping-add-u64-requires
     is-shown-requires

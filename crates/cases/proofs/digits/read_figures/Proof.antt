@@ -1,14 +1,14 @@
-use Prim.Native.Nat.{_≤_, _-_}
+use Prim.Native.Nat.{_≤_, _-_, _+_}
 use lib.ListN.{length}
 use borrow.Author.Needs.{needs}
 use Rattle.cases.proofs.digits.read_figures.Statement.{statement}
 use Rattle.cases.proofs.digits.read_figures.Tie as tie
 
 abbrev Inv-loop : tie.InvT-loop
-Inv-loop text numbers₀ at₀ marked₀ sound₀ i₀ numbers at marked sound i = i ≤ length text
+Inv-loop line numbers₀ at₀ marked₀ sound₀ i₀ numbers at marked sound i = i ≤ length line + 1
 
 abbrev μ-loop : tie.MeasureT-loop
-μ-loop text numbers₀ at₀ marked₀ sound₀ i₀ numbers at marked sound i = length text - i
+μ-loop line numbers₀ at₀ marked₀ sound₀ i₀ numbers at marked sound i = length line - i
 
 loop-holds : tie.Need-loop-holds Inv-loop μ-loop
 loop-holds c = search needs
@@ -46,6 +46,9 @@ loop-again c = search needs
 returns : tie.Need-returns Inv-loop μ-loop
 returns c = search needs
 
+returns-2 : tie.Need-returns-2 Inv-loop μ-loop
+returns-2 c = search needs
+
 pub read-figures-spec : {M : Type 1} → statement M
 read-figures-spec =
     tie.close
@@ -63,4 +66,5 @@ read-figures-spec =
     add-i
     loop-less
     loop-again
-    returns)
+    returns
+    returns-2)
