@@ -1,4 +1,4 @@
-//! The questions of crates/oracle_cases.
+//! The questions of crates/cases.
 
 use std::array;
 use std::collections::HashSet;

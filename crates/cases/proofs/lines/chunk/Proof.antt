@@ -1,10 +1,10 @@
--- `oracle_cases::lines::chunk` is safe and ends: the index stays within the bytes.
+-- `cases::lines::chunk` is safe and ends: the index stays within the bytes.
 use Prim.Native.Nat.{_≤_, _-_}
 use mathlib.Core.Path.{_≡_}
 use lib.ListN.{length}
 use borrow.Author.Needs.{needs}
-use Rattle.oracle_cases.proofs.lines.chunk.Statement.{statement}
-use Rattle.oracle_cases.proofs.lines.chunk.Tie as tie
+use Rattle.cases.proofs.lines.chunk.Statement.{statement}
+use Rattle.cases.proofs.lines.chunk.Tie as tie
 
 abbrev Inv-loop : tie.InvT-loop
 Inv-loop line₀ before bytes n₀ i₀ line n i = (i ≤ length bytes) × (length line ≡ length line₀)

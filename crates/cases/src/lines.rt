@@ -1,7 +1,7 @@
 // Standard input by chunks, and its lines, which may lie across them.
 
 use crate::answers;
-use strings::Span;
+use crate::digits;
 
 // After a read: how many characters of a line are held; or the input has ended, or could not be read.
 pub enum Turn {
@@ -10,14 +10,10 @@ pub enum Turn {
     Failed,
 }
 
-fn held(line: &[u8], n: usize) -> &[u8] {
-    strings::shown(line, Span { start: 0, len: n })
-}
-
 // One character more, and how many are held then. A line that is too long stays full, as no question does.
 fn taken(line: &mut [u8], n: usize, c: u8) -> usize {
     if c == b'\n' {
-        answers::answer(held(line, n));
+        answers::answer(digits::part(line, 0, n));
         return 0;
     }
     if n < line.len() {
@@ -46,7 +42,7 @@ pub fn read_some(line: &mut [u8], n: usize) -> Turn {
     }
     if got == 0 {
         if 0 < n {
-            answers::answer(held(line, n));
+            answers::answer(digits::part(line, 0, n));
         }
         return Turn::Ended;
     }

@@ -1,9 +1,9 @@
-use borrow.Author.Needs.{needs}
 use native.Mathlib.Omega.{arith}
 use mathlib.Core.Path.{sym}
 use lib.Seq.{length-take-le}
-use Rattle.oracle_cases.proofs.answers.first.Statement.{statement}
-use Rattle.oracle_cases.proofs.answers.first.Tie as tie
+use borrow.Author.Needs.{needs}
+use Rattle.cases.proofs.outputs.first.Statement.{statement}
+use Rattle.cases.proofs.outputs.first.Tie as tie
 
 returns : tie.Need-returns
 returns c = search needs

@@ -1,16 +1,15 @@
--- `oracle_cases::digits::bytes` is safe and ends: a byte for each two digits passed, within the output.
 use Prim.Native.Nat.{_≤_, _-_}
 use mathlib.Core.Path.{_≡_}
 use lib.ListN.{length}
 use borrow.Author.Needs.{needs}
-use Rattle.oracle_cases.proofs.digits.bytes.Statement.{statement}
-use Rattle.oracle_cases.proofs.digits.bytes.Tie as tie
+use Rattle.cases.proofs.digits.spell.Statement.{statement}
+use Rattle.cases.proofs.digits.spell.Tie as tie
 
 abbrev Inv-loop : tie.InvT-loop
-Inv-loop hex out₀ count i₀ out i = (i ≤ count) × (length out ≡ length out₀)
+Inv-loop hex out₀ i₀ out i = (i ≤ length hex) × (length out ≡ length out₀)
 
 abbrev μ-loop : tie.MeasureT-loop
-μ-loop hex out₀ count i₀ out i = count - i
+μ-loop hex out₀ i₀ out i = length hex - i
 
 returns : tie.Need-returns Inv-loop μ-loop
 returns c = search needs
@@ -21,26 +20,11 @@ returns-2 c = search needs
 loop-holds : tie.Need-loop-holds Inv-loop μ-loop
 loop-holds c = search needs
 
-mul-value : tie.Need-mul-value Inv-loop μ-loop
-mul-value c = search needs
-
 shared-slice-read-value : tie.Need-shared-slice-read-value Inv-loop μ-loop
 shared-slice-read-value c = search needs
 
 value-requires : tie.Need-value-requires Inv-loop μ-loop
 value-requires c κs = search needs
-
-mul-value-2 : tie.Need-mul-value-2 Inv-loop μ-loop
-mul-value-2 c = search needs
-
-add-value : tie.Need-add-value Inv-loop μ-loop
-add-value c = search needs
-
-shared-slice-read-value-2 : tie.Need-shared-slice-read-value-2 Inv-loop μ-loop
-shared-slice-read-value-2 c = search needs
-
-value-requires-2 : tie.Need-value-requires-2 Inv-loop μ-loop
-value-requires-2 c κs = search needs
 
 same-length : tie.Need-same-length Inv-loop μ-loop
 same-length c = search needs
@@ -48,8 +32,11 @@ same-length c = search needs
 returns-3 : tie.Need-returns-3 Inv-loop μ-loop
 returns-3 c = search needs
 
-pair-requires : tie.Need-pair-requires Inv-loop μ-loop
-pair-requires c κs = search needs
+slice-read-sixteens : tie.Need-slice-read-sixteens Inv-loop μ-loop
+slice-read-sixteens c = search needs
+
+sixteens-requires : tie.Need-sixteens-requires Inv-loop μ-loop
+sixteens-requires c κs = search needs
 
 slice-write-out : tie.Need-slice-write-out Inv-loop μ-loop
 slice-write-out c = search needs
@@ -69,8 +56,8 @@ same-length-2 c = search needs
 returns-4 : tie.Need-returns-4 Inv-loop μ-loop
 returns-4 c = search needs
 
-pub bytes-spec : {M : Type 1} → statement M
-bytes-spec =
+pub spell-spec : {M : Type 1} → statement M
+spell-spec =
     tie.close
     (tie.spec
     Inv-loop
@@ -78,16 +65,12 @@ bytes-spec =
     returns
     returns-2
     loop-holds
-    mul-value
     shared-slice-read-value
     value-requires
-    mul-value-2
-    add-value
-    shared-slice-read-value-2
-    value-requires-2
     same-length
     returns-3
-    pair-requires
+    slice-read-sixteens
+    sixteens-requires
     slice-write-out
     add-i
     loop-less

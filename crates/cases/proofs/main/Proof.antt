@@ -1,15 +1,17 @@
--- `oracle_cases::main` is safe and ends: the line keeps its room, and the reads that are left fall.
 use mathlib.Core.Path.{_≡_}
 use lib.ListN.{length}
 use borrow.Author.Needs.{needs}
-use Rattle.oracle_cases.proofs.main.Statement.{statement}
-use Rattle.oracle_cases.proofs.main.Tie as tie
+use Rattle.cases.proofs.main.Statement.{statement}
+use Rattle.cases.proofs.main.Tie as tie
 
 abbrev Inv-loop : tie.InvT-loop
-Inv-loop line₀ n₀ turns₀ t6 line n turns = 2051 ≡ length line
+Inv-loop line₀ n₀ turns₀ t6 line n turns = 170000 ≡ length line
 
 abbrev μ-loop : tie.MeasureT-loop
 μ-loop line₀ n₀ turns₀ t6 line n turns = turns
+
+room-requires : tie.Need-room-requires Inv-loop μ-loop
+room-requires c κs = search needs
 
 loop-holds : tie.Need-loop-holds Inv-loop μ-loop
 loop-holds c = search needs
@@ -59,6 +61,7 @@ main-spec =
     (tie.spec
     Inv-loop
     μ-loop
+    room-requires
     loop-holds
     slice-aggregate-read-some
     read-some-requires
