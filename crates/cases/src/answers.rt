@@ -9,7 +9,6 @@ use exports::texts;
 use exports::walks;
 use numbers::Place;
 use strings::Span;
-use strings::utf8;
 
 fn told(yes: bool) {
     if yes {

@@ -2,7 +2,6 @@
 
 use crate::digits;
 use numbers::Place;
-use strings::utf8;
 ghost use Prim.Native.Nat.{_<_};
 
 // The byte at `i` of the ranges; 0 where there is none, so that a range that is not given has one byte.

@@ -13,8 +13,8 @@ use Rattle.numbers.specs.declared.Place.{Place}
 use Rattle.numbers.specs.declared.Place.the-variants.{At, Refused}
 use Rattle.fields.specs.Layouts.{Item}
 use Rattle.fields.specs.Values.{Value, val, span, shows}
-use Rattle.fields.specs.Laying.{writtenOut, writtenPast, Written}
-use Rattle.messages.specs.Tables.{layoutDirent}
+use Rattle.laying.specs.Laying.{writtenOut, writtenPast, Written}
+use Rattle.layouts.specs.Tables.{layoutDirent}
 use Rattle.exports.specs.Answers.{wroteOf, Leaves, leaves}
 use Rattle.exports.specs.declared.Wrote.{Wrote}
 use Rattle.exports.specs.declared.dirents.FlatDirent.{FlatDirent}

@@ -13,10 +13,10 @@ use Rattle.numbers.specs.declared.Place.{Place}
 use Rattle.numbers.specs.declared.Place.the-variants.{At, Refused}
 use Rattle.fields.specs.Layouts.{Layout, Item}
 use Rattle.fields.specs.Values.{Value, shows}
-use Rattle.messages.specs.Tables.{Row, lookup}
-use Rattle.messages.specs.Bodies.{Answer, accepted, refused}
-use Rattle.frames.specs.Frames.{Frame, headless, framed}
-use Rattle.frames.specs.Writing.{frameOut, framePast}
+use Rattle.layouts.specs.Tables.{Row, lookup}
+use Rattle.layouts.specs.Bodies.{Answer, accepted, refused}
+use Rattle.framing.specs.Frames.{Frame, headless, framed}
+use Rattle.framing.specs.Writing.{frameOut, framePast}
 use Rattle.flat.specs.Flat.{flat, fieldValues}
 use Rattle.exports.specs.Answers.{Leaves}
 use Rattle.exports.specs.declared.FlatT.{FlatT}

@@ -13,13 +13,13 @@ use Rattle.numbers.specs.declared.Place.the-variants.{At, Refused}
 use Rattle.fields.specs.Layouts.{Layout}
 use Rattle.fields.specs.Values.{Value}
 use Rattle.fields.specs.Fields.{valuesAt, pastFields}
-use Rattle.messages.specs.Tables.{Row, lookup, tableT, tableR}
-use Rattle.messages.specs.Bodies.{Answer, accepted, refused, finishAt, bodyAt}
-use Rattle.frames.specs.Frames.{Frame, headless, framed, readFrame, refusedWhole}
-use Rattle.frames.specs.Views.{HeadIs}
-use Rattle.frames.specs.FrameLaws.{head-yes, frame-is, frame-headless}
-use Rattle.frames.specs.declared.Head.{Head}
-use Rattle.frames.specs.declared.Head.the-variants as H
+use Rattle.layouts.specs.Tables.{Row, lookup, tableT, tableR}
+use Rattle.layouts.specs.Bodies.{Answer, accepted, refused, finishAt, bodyAt}
+use Rattle.framing.specs.Frames.{Frame, headless, framed, readFrame, refusedWhole}
+use Rattle.framing.specs.Headers.{HeadIs}
+use Rattle.framing.specs.HeaderLaws.{head-yes, frame-is, frame-headless}
+use Rattle.framing.specs.declared.Head.{Head}
+use Rattle.framing.specs.declared.Head.the-variants as H
 use Rattle.flat.specs.Flat.{flat, FlatRead}
 use Rattle.exports.specs.Flats.{refusedT, flatT, flatBodyT, refusedR, flatR, flatBodyR, valuesOf, valuesIn, kept}
 

@@ -5,12 +5,12 @@ use mathlib.Core.Path.{_≡_, refl, sym, ap, ap₂, _∙_}
 use mathlib.Core.Bool.{Bool, true, false}
 use mathlib.Core.List.{List}
 use Rattle.numbers.specs.Refusals.{numberOf}
-use Rattle.messages.specs.Tables.{tableT, tableR}
-use Rattle.messages.specs.Bodies.{Answer}
-use Rattle.frames.specs.Frames.{readFrame}
-use Rattle.stretch.specs.Stretch.{tableFor, answerIn, answerOf, tailIn, Step, frame, end, stop, frameAt}
-use Rattle.stretch.specs.Views.{between, Whole}
-use Rattle.stretch.specs.StepLaws.{length-whole, frame-same}
+use Rattle.layouts.specs.Tables.{tableT, tableR}
+use Rattle.layouts.specs.Bodies.{Answer}
+use Rattle.framing.specs.Frames.{readFrame}
+use Rattle.framing.specs.Stretch.{tableFor, answerIn, answerOf, tailIn, Step, frame, end, stop, frameAt}
+use Rattle.framing.specs.Cuts.{between, Whole}
+use Rattle.framing.specs.CutLaws.{length-whole, frame-same}
 use Rattle.exports.specs.declared.stretches.FlatStep.{FlatStep}
 
 abbrev pub stopped : ℕ → Bool → FlatStep
@@ -35,7 +35,7 @@ module _ {s : List ℕ} {p ty tag e : ℕ} (w : Whole s p ty tag e) where
       let h = w .seven in
       let z = length-whole w in
       let a : said ≡ answerOf tableT tableR (between p e s) = rw (w .ty) in
-      frame-same refl (sym z) (w .ty) (w .tag) a (ap₂ tailIn (sym z) a) (omega arith) ∙ w .is
+      frame-same refl (sym z) (w .ty) (w .tag) a (ap₂ tailIn (sym z) a) (omega arith) ∙ w .is tableT tableR
 
   pub step-there : record { refusal = 0; end = false; ty = ty; tag = tag; next = e } ≡ flatStep (frameAt tableT tableR s p)
   step-there = ap flatStep listed-there

@@ -9,9 +9,9 @@ use Rattle.numbers.specs.declared.Place.{Place}
 use Rattle.numbers.specs.declared.Place.the-variants.{At, Refused}
 use Rattle.fields.specs.Layouts.{Item, number}
 use Rattle.fields.specs.Values.{Value, startOf, lenOf, shows}
-use Rattle.messages.specs.declared.qids.Qid.{Qid}
-use Rattle.frames.specs.Writing.{frameOut, framePast}
-use Rattle.frames.specs.Tables.{TableWritten, fromTable, walkFields, walkValues, qidItems}
+use Rattle.layouts.specs.declared.qids.Qid.{Qid}
+use Rattle.framing.specs.Writing.{frameOut, framePast}
+use Rattle.tables.specs.Tables.{TableWritten, fromTable, walkFields, walkValues, qidItems}
 use Rattle.exports.specs.Answers.{wroteOf, Leaves, leaves}
 use Rattle.exports.specs.declared.Wrote.{Wrote}
 use Rattle.exports.specs.declared.walks.FlatSpan.{FlatSpan}

@@ -11,8 +11,8 @@ use Rattle.numbers.specs.declared.Place.{Place}
 use Rattle.numbers.specs.declared.Place.the-variants.{Refused}
 use Rattle.fields.specs.Layouts.{Layout}
 use Rattle.fields.specs.Values.{Value}
-use Rattle.messages.specs.Tables.{Row, lookup, body, tableT, tableR, layoutR}
-use Rattle.messages.specs.Bodies.{accepted, refused}
+use Rattle.layouts.specs.Tables.{Row, lookup, body, tableT, tableR, layoutR}
+use Rattle.layouts.specs.Bodies.{accepted, refused}
 use Rattle.requests.specs.Views.{viewT}
 use Rattle.requests.specs.declared.Tmessage.{Tmessage}
 use Rattle.requests.specs.declared.Tbody.{Tbody}
@@ -21,7 +21,7 @@ use Rattle.replies.specs.Views.{typeR, valuesR, viewR}
 use Rattle.replies.specs.declared.Rmessage.{Rmessage}
 use Rattle.replies.specs.declared.Rbody.{Rbody}
 use Rattle.replies.specs.declared.Rbody.the-variants as A
-use Rattle.frames.specs.Writing.{frameOut, framePast, FrameWritten}
+use Rattle.framing.specs.Writing.{frameOut, framePast, FrameWritten}
 use Rattle.frames.specs.Views.{TbodyWritten, TframeWritten}
 use Rattle.frames.specs.declared.Tframe.{Tframe}
 use Rattle.flat.specs.Flat.{fieldValues, bodyFrom}

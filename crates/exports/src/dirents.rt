@@ -1,16 +1,16 @@
 // Directory entries: one read at a position of the caller's bytes into a flat answer, and one written from such a record.
 
 use crate::Wrote;
-use messages::dirents;
-use messages::dirents::Dirent;
-use messages::qids::Qid;
+use layouts::dirents;
+use layouts::dirents::Dirent;
+use layouts::qids::Qid;
 use numbers::Place;
 use numbers::Refusal;
 use strings::Span;
 ghost use mathlib.Core.Path.{_≡_};
 ghost use Rattle.numbers.specs.declared.Place.the-variants.{At};
-ghost use Rattle.messages.specs.Tables.{layoutDirent};
-ghost use Rattle.messages.specs.Records.{dirent};
+ghost use Rattle.layouts.specs.Tables.{layoutDirent};
+ghost use Rattle.layouts.specs.Records.{dirent};
 ghost use Rattle.flat.specs.Flat.{flatValues};
 ghost use Rattle.exports.specs.Answers.{readAs};
 ghost use Rattle.exports.specs.Dirents.{flatDirent, DirentWritten};

@@ -6,10 +6,10 @@ pub mod stretches;
 pub mod texts;
 pub mod walks;
 
-use frames::Head;
 use frames::Rframe;
 use frames::Tframe;
-use messages::ids::Tag;
+use framing::Head;
+use layouts::ids::Tag;
 use numbers::Place;
 use numbers::Refusal;
 use replies::Rbody;
@@ -17,8 +17,8 @@ use requests::Tbody;
 ghost use mathlib.Core.Path.{_≡_};
 ghost use mathlib.Core.List.{[]};
 ghost use Rattle.flat.specs.Flat.{flat};
-ghost use Rattle.messages.specs.Tables.{tableT, tableR};
-ghost use Rattle.frames.specs.Frames.{readFrame, refusedWhole};
+ghost use Rattle.layouts.specs.Tables.{tableT, tableR};
+ghost use Rattle.framing.specs.Frames.{readFrame, refusedWhole};
 ghost use Rattle.exports.specs.Flats.{refusedT, flatT, flatBodyT, refusedR, flatR, flatBodyR, valuesIn, kept, FlatWritten};
 ghost use Rattle.exports.specs.Answers.{wroteOf};
 
@@ -115,7 +115,7 @@ pub extern "C" fn sheafsledge_read_tframe(bytes: &[u8], values: &mut [u64; 10]) 
     ensures { λ r. ⌜ r ≡ flatT (readFrame tableT (now (bytes .entry))) ⌝ }
     ensures { λ r. ⌜ now (values .exit) ≡ flat 10 (valuesIn (readFrame tableT (now (bytes .entry)))) ⌝ }
 {
-    let head = frames::read_header(bytes);
+    let head = framing::read_header(bytes);
     match head {
         Head::Held(n, ty, tag) => {
             let next = flat_requests::read_flat(&bytes[..n], ty, values);
@@ -130,7 +130,7 @@ pub extern "C" fn sheafsledge_read_rframe(bytes: &[u8], values: &mut [u64; 22]) 
     ensures { λ r. ⌜ r ≡ flatR (refusedWhole (readFrame tableR (now (bytes .entry)))) ⌝ }
     ensures { λ r. ⌜ now (values .exit) ≡ flat 22 (valuesIn (readFrame tableR (now (bytes .entry)))) ⌝ }
 {
-    let head = frames::read_header(bytes);
+    let head = framing::read_header(bytes);
     match head {
         Head::Held(n, ty, tag) => {
             let next = flat_replies::read_flat(&bytes[..n], ty, values);

@@ -1,11 +1,11 @@
 // The frames of a stretch: one at a position, and which reply answers which request.
 
-use messages::ids::Tag;
-use stretch::Cut;
+use framing::Cut;
+use layouts::ids::Tag;
 use stretch::Mark;
 ghost use mathlib.Core.Path.{_≡_};
-ghost use Rattle.messages.specs.Tables.{tableT, tableR};
-ghost use Rattle.stretch.specs.Stretch.{frameAt};
+ghost use Rattle.layouts.specs.Tables.{tableT, tableR};
+ghost use Rattle.framing.specs.Stretch.{frameAt};
 ghost use Rattle.stretch.specs.Pairs.{pairs};
 ghost use Rattle.exports.specs.Steps.{stopped, flatStep};
 
@@ -37,7 +37,7 @@ fn stop(refusal: u8, end: bool) -> FlatStep
 pub extern "C" fn sheafsledge_frame_at(bytes: &[u8], position: usize) -> FlatStep
     ensures { λ r. ⌜ r ≡ flatStep (frameAt tableT tableR (now (bytes .entry)) position) ⌝ }
 {
-    let cut = stretch::cut_at(bytes, position);
+    let cut = framing::cut_at(bytes, position);
     match cut {
         Cut::Whole(ty, tag, next) => FlatStep {
             refusal: 0,

@@ -2,20 +2,19 @@
 
 use crate::Wrote;
 use fields::Part;
-use fields::elements::Element;
-use frames::tables;
-use messages::ids::Fid;
-use messages::ids::Tag;
-use messages::qids;
-use messages::qids::Qid;
+use laying::elements::Element;
+use layouts::ids::Fid;
+use layouts::ids::Tag;
+use layouts::qids;
+use layouts::qids::Qid;
 use numbers::Place;
 use strings::Span;
 ghost use mathlib.Core.Path.{_≡_};
 ghost use Rattle.numbers.specs.declared.Place.the-variants.{At};
 ghost use Rattle.fields.specs.Layouts.{q, strs, quids};
 ghost use Rattle.fields.specs.Values.{part};
-ghost use Rattle.fields.specs.Elements.{elementAt, viewElement};
-ghost use Rattle.messages.specs.Records.{qid};
+ghost use Rattle.laying.specs.Elements.{elementAt, viewElement};
+ghost use Rattle.layouts.specs.Records.{qid};
 ghost use Rattle.flat.specs.Flat.{flatValues};
 ghost use Rattle.exports.specs.Answers.{readAs};
 ghost use Rattle.exports.specs.Walks.{flatSpan, flatQid, twalkOf, rwalkOf, TableWrote};
@@ -68,7 +67,7 @@ pub extern "C" fn sheafsledge_name_at(
 {
     let elements = Span { start, len };
     let v = Part { count, elements };
-    flat_span(fields::elements::name_at(lent, v, i))
+    flat_span(laying::elements::name_at(lent, v, i))
 }
 
 // Qid `i` of a vector of qids, whole.
@@ -84,7 +83,7 @@ pub extern "C" fn sheafsledge_qid_at(
 {
     let elements = Span { start, len };
     let v = Part { count, elements };
-    flat_span(fields::elements::qid_at(lent, v, i))
+    flat_span(laying::elements::qid_at(lent, v, i))
 }
 
 fn flat_qid(v: Qid, p: Place) -> FlatQid

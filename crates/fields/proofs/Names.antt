@@ -14,8 +14,8 @@ use Rattle.numbers.specs.declared.Refusal.{Refusal}
 use Rattle.numbers.specs.declared.Refusal.the-variants as R
 use Rattle.numbers.specs.declared.Place.{Place}
 use Rattle.numbers.specs.declared.Place.the-variants.{At, Refused}
-use Rattle.strings.specs.Utf8.{_to_, inRange, chars, utf8, noZero}
-use Rattle.strings.specs.Utf8Laws.{chars-over, plain-turn, plain-full, full-over}
+use Rattle.utf8.specs.Utf8.{_to_, inRange, chars, utf8, noZero}
+use Rattle.utf8.specs.Utf8Laws.{chars-over, plain-turn, plain-full, full-over}
 use Rattle.strings.specs.Strings.{okText, readString}
 use Rattle.strings.specs.SpanLaws.{string-at, string-held, string-short, text-refused, text-good}
 use Rattle.strings.specs.Spans.{TextCheck}

@@ -5,8 +5,3 @@ pub mod ValueLaws
 pub mod Fields
 pub mod Runs
 pub mod FieldLaws
-pub mod Laying
-pub mod LayingLaws
-pub mod WritingLaws
-pub mod Elements
-pub mod ElementLaws

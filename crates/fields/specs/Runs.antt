@@ -4,7 +4,7 @@ use mathlib.Core.Path.{_≡_}
 use mathlib.Core.Bool.{true}
 use mathlib.Core.List.{List}
 use lib.ListN.{length, getD}
-use Rattle.strings.specs.Utf8.{_to_, inRange}
+use Rattle.utf8.specs.Utf8.{_to_, inRange}
 
 -- those from i to before e
 pub record Plains (s : List ℕ) (i e : ℕ) : Type 0 where

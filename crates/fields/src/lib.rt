@@ -1,13 +1,10 @@
-// Data and vectors: read at a place of a slice as a span or a part, and every kind of field laid into an output.
-
-pub mod elements;
-pub mod lay;
+// Data and vectors, read at a place of a slice as a span or a part.
 
 use numbers::Place;
 use numbers::Refusal;
 use strings::ReadSpan;
 use strings::Span;
-use strings::utf8::is_plain;
+use utf8::is_plain;
 ghost use Prim.Native.Nat.{_+_, _≤_, _<_};
 ghost use mathlib.Core.Path.{_≡_};
 ghost use mathlib.Core.Bool.{true};
@@ -135,7 +132,7 @@ fn scan_names(s: &[u8], from: usize, count: u16) -> Place
             if 0 < k {
                 i += k;
             } else {
-                let q = strings::utf8::check_text(name, Place::At(end));
+                let q = strings::check_text(name, Place::At(end));
                 let Place::At(_) = q else {
                     break 'names q;
                 };
@@ -145,6 +142,13 @@ fn scan_names(s: &[u8], from: usize, count: u16) -> Place
         at = end;
         n -= 1;
     }
+}
+
+// So many strings that some bytes begin with: the place behind them, or the refusal of the first that fails.
+pub fn scan(s: &[u8], count: u16) -> Place
+    ensures { λ r. ⌜ ManyRead count (now (s .entry)) 0 r ⌝ }
+{
+    scan_names(s, 0, count)
 }
 
 // A vector of strings at a place.

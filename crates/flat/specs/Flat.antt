@@ -9,8 +9,8 @@ use lib.Dec.{ltb}
 use Rattle.fields.specs.Layouts.{num, str, dat, strs, quids, Layout}
 use Rattle.fields.specs.Values.{Value, val, span, part}
 use Rattle.fields.specs.Fields.{valuesAt, pastFields}
-use Rattle.messages.specs.Tables.{Row, row}
-use Rattle.messages.specs.Bodies.{Answer, accepted, refused}
+use Rattle.layouts.specs.Tables.{Row, row}
+use Rattle.layouts.specs.Bodies.{Answer, accepted, refused}
 use Rattle.numbers.specs.declared.Refusal.the-variants as R
 use Rattle.numbers.specs.declared.Place.{Place}
 use Rattle.numbers.specs.declared.Place.the-variants.{Refused}

@@ -13,9 +13,9 @@ use Rattle.numbers.specs.declared.Place.the-variants.{Refused}
 use Rattle.fields.specs.Layouts.{Layout}
 use Rattle.fields.specs.Values.{Value}
 use Rattle.fields.specs.Fields.{Fields}
-use Rattle.messages.specs.Tables.{Row, lookup, tableT, tableR}
-use Rattle.messages.specs.Bodies.{accepted, refused}
-use Rattle.messages.specs.BodyLaws.{Nots, no-row}
+use Rattle.layouts.specs.Tables.{Row, lookup, tableT, tableR}
+use Rattle.layouts.specs.Bodies.{accepted, refused}
+use Rattle.layouts.specs.BodyLaws.{Nots, no-row}
 use Rattle.flat.specs.Flat.{flat, low, bodyFrom, FlatRead, widest}
 
 -- 10 values hold any request and 22 any reply, and no fewer would

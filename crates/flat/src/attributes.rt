@@ -2,21 +2,21 @@
 
 use crate::U8;
 use crate::U32;
-use messages::attributes::Rgetattr;
-use messages::attributes::Rstatfs;
-use messages::attributes::Rxattrwalk;
-use messages::attributes::Tgetattr;
-use messages::attributes::Tsetattr;
-use messages::attributes::Tstatfs;
-use messages::attributes::Txattrcreate;
-use messages::attributes::Txattrwalk;
-use messages::ids::Fid;
-use messages::ids::Gid;
-use messages::qids::Qid;
+use layouts::ids::Fid;
+use layouts::ids::Gid;
+use layouts::qids::Qid;
+use metadata::attributes::Rgetattr;
+use metadata::attributes::Rstatfs;
+use metadata::attributes::Rxattrwalk;
+use metadata::attributes::Tgetattr;
+use metadata::attributes::Tsetattr;
+use metadata::attributes::Tstatfs;
+use metadata::attributes::Txattrcreate;
+use metadata::attributes::Txattrwalk;
 use strings::Span;
 ghost use mathlib.Core.Path.{_≡_};
-ghost use Rattle.messages.specs.Tables.{layoutT, layoutR};
-ghost use Rattle.messages.specs.Records.{tstatfs, rstatfs, tgetattr, rgetattr, tsetattr, txattrwalk, rxattrwalk, txattrcreate};
+ghost use Rattle.layouts.specs.Tables.{layoutT, layoutR};
+ghost use Rattle.metadata.specs.Records.{tstatfs, rstatfs, tgetattr, rgetattr, tsetattr, txattrwalk, rxattrwalk, txattrcreate};
 ghost use Rattle.flat.specs.Flat.{flat, fieldValues};
 
 pub fn flat_tstatfs(m: Tstatfs) -> [u64; 10]
@@ -92,30 +92,30 @@ pub fn flat_rgetattr(m: Rgetattr) -> [u64; 22]
 {
     let qid = m.qid;
     let gid = m.gid;
-    let mut v = [0u64; 22];
-    v[0] = m.valid;
-    v[1] = qid.ty as u64;
-    v[2] = qid.version as u64;
-    v[3] = qid.path;
-    v[4] = m.mode as u64;
-    v[5] = m.uid as u64;
-    v[6] = gid.0 as u64;
-    v[7] = m.nlink;
-    v[8] = m.rdev;
-    v[9] = m.size;
-    v[10] = m.blksize;
-    v[11] = m.blocks;
-    v[12] = m.atime_sec;
-    v[13] = m.atime_nsec;
-    v[14] = m.mtime_sec;
-    v[15] = m.mtime_nsec;
-    v[16] = m.ctime_sec;
-    v[17] = m.ctime_nsec;
-    v[18] = m.btime_sec;
-    v[19] = m.btime_nsec;
-    v[20] = m.gen_;
-    v[21] = m.data_version;
-    v
+    [
+        m.valid,
+        qid.ty as u64,
+        qid.version as u64,
+        qid.path,
+        m.mode as u64,
+        m.uid as u64,
+        gid.0 as u64,
+        m.nlink,
+        m.rdev,
+        m.size,
+        m.blksize,
+        m.blocks,
+        m.atime_sec,
+        m.atime_nsec,
+        m.mtime_sec,
+        m.mtime_nsec,
+        m.ctime_sec,
+        m.ctime_nsec,
+        m.btime_sec,
+        m.btime_nsec,
+        m.gen_,
+        m.data_version,
+    ]
 }
 
 pub fn rgetattr_of(v: [u64; 22]) -> Rgetattr
@@ -156,18 +156,18 @@ pub fn flat_tsetattr(m: Tsetattr) -> [u64; 10]
 {
     let fid = m.fid;
     let gid = m.gid;
-    let mut v = [0u64; 10];
-    v[0] = fid.0 as u64;
-    v[1] = m.valid as u64;
-    v[2] = m.mode as u64;
-    v[3] = m.uid as u64;
-    v[4] = gid.0 as u64;
-    v[5] = m.size;
-    v[6] = m.atime_sec;
-    v[7] = m.atime_nsec;
-    v[8] = m.mtime_sec;
-    v[9] = m.mtime_nsec;
-    v
+    [
+        fid.0 as u64,
+        m.valid as u64,
+        m.mode as u64,
+        m.uid as u64,
+        gid.0 as u64,
+        m.size,
+        m.atime_sec,
+        m.atime_nsec,
+        m.mtime_sec,
+        m.mtime_nsec,
+    ]
 }
 
 pub fn tsetattr_of(v: [u64; 10]) -> Tsetattr
@@ -234,13 +234,18 @@ pub fn flat_txattrcreate(m: Txattrcreate) -> [u64; 10]
 {
     let fid = m.fid;
     let name = m.name;
-    let mut v = [0u64; 10];
-    v[0] = fid.0 as u64;
-    v[1] = name.start as u64;
-    v[2] = name.len as u64;
-    v[3] = m.attr_size;
-    v[4] = m.flags as u64;
-    v
+    [
+        fid.0 as u64,
+        name.start as u64,
+        name.len as u64,
+        m.attr_size,
+        m.flags as u64,
+        0,
+        0,
+        0,
+        0,
+        0,
+    ]
 }
 
 pub fn txattrcreate_of(v: [u64; 10]) -> Txattrcreate

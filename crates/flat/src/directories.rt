@@ -2,6 +2,9 @@
 
 use crate::U8;
 use crate::U32;
+use layouts::ids::Fid;
+use layouts::ids::Gid;
+use layouts::qids::Qid;
 use messages::directories::Rmkdir;
 use messages::directories::Rmknod;
 use messages::directories::Rreaddir;
@@ -16,12 +19,9 @@ use messages::directories::Trename;
 use messages::directories::Trenameat;
 use messages::directories::Tsymlink;
 use messages::directories::Tunlinkat;
-use messages::ids::Fid;
-use messages::ids::Gid;
-use messages::qids::Qid;
 use strings::Span;
 ghost use mathlib.Core.Path.{_≡_};
-ghost use Rattle.messages.specs.Tables.{layoutT, layoutR};
+ghost use Rattle.layouts.specs.Tables.{layoutT, layoutR};
 ghost use Rattle.messages.specs.Records.{tsymlink, rsymlink, tmknod, rmknod, trename, treadlink, rreadlink, treaddir, rreaddir, tlink, tmkdir, rmkdir, trenameat, tunlinkat};
 ghost use Rattle.flat.specs.Flat.{flat, fieldValues};
 
@@ -32,14 +32,18 @@ pub fn flat_tsymlink(m: Tsymlink) -> [u64; 10]
     let name = m.name;
     let symtgt = m.symtgt;
     let gid = m.gid;
-    let mut v = [0u64; 10];
-    v[0] = fid.0 as u64;
-    v[1] = name.start as u64;
-    v[2] = name.len as u64;
-    v[3] = symtgt.start as u64;
-    v[4] = symtgt.len as u64;
-    v[5] = gid.0 as u64;
-    v
+    [
+        fid.0 as u64,
+        name.start as u64,
+        name.len as u64,
+        symtgt.start as u64,
+        symtgt.len as u64,
+        gid.0 as u64,
+        0,
+        0,
+        0,
+        0,
+    ]
 }
 
 pub fn tsymlink_of(v: [u64; 10]) -> Tsymlink
@@ -91,15 +95,18 @@ pub fn flat_tmknod(m: Tmknod) -> [u64; 10]
     let dfid = m.dfid;
     let name = m.name;
     let gid = m.gid;
-    let mut v = [0u64; 10];
-    v[0] = dfid.0 as u64;
-    v[1] = name.start as u64;
-    v[2] = name.len as u64;
-    v[3] = m.mode as u64;
-    v[4] = m.major as u64;
-    v[5] = m.minor as u64;
-    v[6] = gid.0 as u64;
-    v
+    [
+        dfid.0 as u64,
+        name.start as u64,
+        name.len as u64,
+        m.mode as u64,
+        m.major as u64,
+        m.minor as u64,
+        gid.0 as u64,
+        0,
+        0,
+        0,
+    ]
 }
 
 pub fn tmknod_of(v: [u64; 10]) -> Tmknod
@@ -279,13 +286,18 @@ pub fn flat_tmkdir(m: Tmkdir) -> [u64; 10]
     let dfid = m.dfid;
     let name = m.name;
     let gid = m.gid;
-    let mut v = [0u64; 10];
-    v[0] = dfid.0 as u64;
-    v[1] = name.start as u64;
-    v[2] = name.len as u64;
-    v[3] = m.mode as u64;
-    v[4] = gid.0 as u64;
-    v
+    [
+        dfid.0 as u64,
+        name.start as u64,
+        name.len as u64,
+        m.mode as u64,
+        gid.0 as u64,
+        0,
+        0,
+        0,
+        0,
+        0,
+    ]
 }
 
 pub fn tmkdir_of(v: [u64; 10]) -> Tmkdir
@@ -334,14 +346,18 @@ pub fn flat_trenameat(m: Trenameat) -> [u64; 10]
     let oldname = m.oldname;
     let newdirfid = m.newdirfid;
     let newname = m.newname;
-    let mut v = [0u64; 10];
-    v[0] = olddirfid.0 as u64;
-    v[1] = oldname.start as u64;
-    v[2] = oldname.len as u64;
-    v[3] = newdirfid.0 as u64;
-    v[4] = newname.start as u64;
-    v[5] = newname.len as u64;
-    v
+    [
+        olddirfid.0 as u64,
+        oldname.start as u64,
+        oldname.len as u64,
+        newdirfid.0 as u64,
+        newname.start as u64,
+        newname.len as u64,
+        0,
+        0,
+        0,
+        0,
+    ]
 }
 
 pub fn trenameat_of(v: [u64; 10]) -> Trenameat

@@ -2,23 +2,24 @@
 
 use crate::U8;
 use crate::U32;
+use common::files::Rread;
+use common::files::Rwrite;
+use common::files::Tread;
+use common::files::Tremove;
+use common::files::Twrite;
+use layouts::ids::Fid;
+use layouts::ids::Gid;
+use layouts::qids::Qid;
 use messages::files::Rlcreate;
 use messages::files::Rlopen;
-use messages::files::Rread;
-use messages::files::Rwrite;
 use messages::files::Tfsync;
 use messages::files::Tlcreate;
 use messages::files::Tlopen;
-use messages::files::Tread;
-use messages::files::Tremove;
-use messages::files::Twrite;
-use messages::ids::Fid;
-use messages::ids::Gid;
-use messages::qids::Qid;
 use strings::Span;
 ghost use mathlib.Core.Path.{_≡_};
-ghost use Rattle.messages.specs.Tables.{layoutT, layoutR};
-ghost use Rattle.messages.specs.Records.{tlopen, rlopen, tlcreate, rlcreate, tread, rread, twrite, rwrite, tfsync, tremove};
+ghost use Rattle.layouts.specs.Tables.{layoutT, layoutR};
+ghost use Rattle.common.specs.Records.{tread, rread, twrite, rwrite, tremove};
+ghost use Rattle.messages.specs.Records.{tlopen, rlopen, tlcreate, rlcreate, tfsync};
 ghost use Rattle.flat.specs.Flat.{flat, fieldValues};
 
 pub fn flat_tlopen(m: Tlopen) -> [u64; 10]
@@ -73,14 +74,18 @@ pub fn flat_tlcreate(m: Tlcreate) -> [u64; 10]
     let fid = m.fid;
     let name = m.name;
     let gid = m.gid;
-    let mut v = [0u64; 10];
-    v[0] = fid.0 as u64;
-    v[1] = name.start as u64;
-    v[2] = name.len as u64;
-    v[3] = m.flags as u64;
-    v[4] = m.mode as u64;
-    v[5] = gid.0 as u64;
-    v
+    [
+        fid.0 as u64,
+        name.start as u64,
+        name.len as u64,
+        m.flags as u64,
+        m.mode as u64,
+        gid.0 as u64,
+        0,
+        0,
+        0,
+        0,
+    ]
 }
 
 pub fn tlcreate_of(v: [u64; 10]) -> Tlcreate

@@ -2,15 +2,15 @@
 
 use crate::U8;
 use crate::U32;
-use messages::ids::Fid;
-use messages::locks::Rgetlock;
-use messages::locks::Rlock;
-use messages::locks::Tgetlock;
-use messages::locks::Tlock;
+use layouts::ids::Fid;
+use metadata::locks::Rgetlock;
+use metadata::locks::Rlock;
+use metadata::locks::Tgetlock;
+use metadata::locks::Tlock;
 use strings::Span;
 ghost use mathlib.Core.Path.{_≡_};
-ghost use Rattle.messages.specs.Tables.{layoutT, layoutR};
-ghost use Rattle.messages.specs.Records.{tlock, rlock, tgetlock, rgetlock};
+ghost use Rattle.layouts.specs.Tables.{layoutT, layoutR};
+ghost use Rattle.metadata.specs.Records.{tlock, rlock, tgetlock, rgetlock};
 ghost use Rattle.flat.specs.Flat.{flat, fieldValues};
 
 pub fn flat_tlock(m: Tlock) -> [u64; 10]
@@ -18,16 +18,18 @@ pub fn flat_tlock(m: Tlock) -> [u64; 10]
 {
     let fid = m.fid;
     let client_id = m.client_id;
-    let mut v = [0u64; 10];
-    v[0] = fid.0 as u64;
-    v[1] = m.type_ as u64;
-    v[2] = m.flags as u64;
-    v[3] = m.start;
-    v[4] = m.length;
-    v[5] = m.proc_id as u64;
-    v[6] = client_id.start as u64;
-    v[7] = client_id.len as u64;
-    v
+    [
+        fid.0 as u64,
+        m.type_ as u64,
+        m.flags as u64,
+        m.start,
+        m.length,
+        m.proc_id as u64,
+        client_id.start as u64,
+        client_id.len as u64,
+        0,
+        0,
+    ]
 }
 
 pub fn tlock_of(v: [u64; 10]) -> Tlock
@@ -70,15 +72,18 @@ pub fn flat_tgetlock(m: Tgetlock) -> [u64; 10]
 {
     let fid = m.fid;
     let client_id = m.client_id;
-    let mut v = [0u64; 10];
-    v[0] = fid.0 as u64;
-    v[1] = m.type_ as u64;
-    v[2] = m.start;
-    v[3] = m.length;
-    v[4] = m.proc_id as u64;
-    v[5] = client_id.start as u64;
-    v[6] = client_id.len as u64;
-    v
+    [
+        fid.0 as u64,
+        m.type_ as u64,
+        m.start,
+        m.length,
+        m.proc_id as u64,
+        client_id.start as u64,
+        client_id.len as u64,
+        0,
+        0,
+        0,
+    ]
 }
 
 pub fn tgetlock_of(v: [u64; 10]) -> Tgetlock

@@ -3,22 +3,23 @@
 use crate::U8;
 use crate::U16;
 use crate::U32;
-use messages::ids::Fid;
-use messages::ids::Tag;
-use messages::qids::Qid;
+use common::sessions::Rversion;
+use common::sessions::Tclunk;
+use common::sessions::Tflush;
+use common::sessions::Tversion;
+use layouts::ids::Fid;
+use layouts::ids::Tag;
+use layouts::qids::Qid;
 use messages::sessions::Rattach;
 use messages::sessions::Rauth;
 use messages::sessions::Rlerror;
-use messages::sessions::Rversion;
 use messages::sessions::Tattach;
 use messages::sessions::Tauth;
-use messages::sessions::Tclunk;
-use messages::sessions::Tflush;
-use messages::sessions::Tversion;
 use strings::Span;
 ghost use mathlib.Core.Path.{_≡_};
-ghost use Rattle.messages.specs.Tables.{layoutT, layoutR};
-ghost use Rattle.messages.specs.Records.{tversion, rversion, tauth, rauth, tattach, rattach, tflush, tclunk, rlerror};
+ghost use Rattle.layouts.specs.Tables.{layoutT, layoutR};
+ghost use Rattle.common.specs.Records.{tversion, rversion, tflush, tclunk};
+ghost use Rattle.messages.specs.Records.{tauth, rauth, tattach, rattach, rlerror};
 ghost use Rattle.flat.specs.Flat.{flat, fieldValues};
 
 pub fn flat_tversion(m: Tversion) -> [u64; 10]
@@ -75,14 +76,18 @@ pub fn flat_tauth(m: Tauth) -> [u64; 10]
     let afid = m.afid;
     let uname = m.uname;
     let aname = m.aname;
-    let mut v = [0u64; 10];
-    v[0] = afid.0 as u64;
-    v[1] = uname.start as u64;
-    v[2] = uname.len as u64;
-    v[3] = aname.start as u64;
-    v[4] = aname.len as u64;
-    v[5] = m.n_uname as u64;
-    v
+    [
+        afid.0 as u64,
+        uname.start as u64,
+        uname.len as u64,
+        aname.start as u64,
+        aname.len as u64,
+        m.n_uname as u64,
+        0,
+        0,
+        0,
+        0,
+    ]
 }
 
 pub fn tauth_of(v: [u64; 10]) -> Tauth
@@ -134,15 +139,18 @@ pub fn flat_tattach(m: Tattach) -> [u64; 10]
     let afid = m.afid;
     let uname = m.uname;
     let aname = m.aname;
-    let mut v = [0u64; 10];
-    v[0] = fid.0 as u64;
-    v[1] = afid.0 as u64;
-    v[2] = uname.start as u64;
-    v[3] = uname.len as u64;
-    v[4] = aname.start as u64;
-    v[5] = aname.len as u64;
-    v[6] = m.n_uname as u64;
-    v
+    [
+        fid.0 as u64,
+        afid.0 as u64,
+        uname.start as u64,
+        uname.len as u64,
+        aname.start as u64,
+        aname.len as u64,
+        m.n_uname as u64,
+        0,
+        0,
+        0,
+    ]
 }
 
 pub fn tattach_of(v: [u64; 10]) -> Tattach

@@ -2,14 +2,14 @@
 
 use crate::U16;
 use crate::U32;
+use common::walking::Rwalk;
+use common::walking::Twalk;
 use fields::Part;
-use messages::ids::Fid;
-use messages::walking::Rwalk;
-use messages::walking::Twalk;
+use layouts::ids::Fid;
 use strings::Span;
 ghost use mathlib.Core.Path.{_≡_};
-ghost use Rattle.messages.specs.Tables.{layoutT, layoutR};
-ghost use Rattle.messages.specs.Records.{twalk, rwalk};
+ghost use Rattle.layouts.specs.Tables.{layoutT, layoutR};
+ghost use Rattle.common.specs.Records.{twalk, rwalk};
 ghost use Rattle.flat.specs.Flat.{flat, fieldValues};
 
 pub fn flat_twalk(m: Twalk) -> [u64; 10]
@@ -19,13 +19,18 @@ pub fn flat_twalk(m: Twalk) -> [u64; 10]
     let newfid = m.newfid;
     let wnames = m.wnames;
     let elements = wnames.elements;
-    let mut v = [0u64; 10];
-    v[0] = fid.0 as u64;
-    v[1] = newfid.0 as u64;
-    v[2] = wnames.count as u64;
-    v[3] = elements.start as u64;
-    v[4] = elements.len as u64;
-    v
+    [
+        fid.0 as u64,
+        newfid.0 as u64,
+        wnames.count as u64,
+        elements.start as u64,
+        elements.len as u64,
+        0,
+        0,
+        0,
+        0,
+        0,
+    ]
 }
 
 pub fn twalk_of(v: [u64; 10]) -> Twalk

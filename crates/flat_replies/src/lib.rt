@@ -13,7 +13,7 @@ use replies::Rmessage;
 ghost use mathlib.Core.Path.{_≡_};
 ghost use mathlib.Core.List.{[]};
 ghost use Rattle.numbers.specs.declared.Place.the-variants.{At};
-ghost use Rattle.messages.specs.Tables.{lookup, tableR};
+ghost use Rattle.layouts.specs.Tables.{lookup, tableR};
 ghost use Rattle.replies.specs.Views.{viewR};
 ghost use Rattle.flat.specs.Flat.{flat, bodyFrom, FlatRead};
 
@@ -80,7 +80,7 @@ pub fn read_flat(s: &[u8], ty: u8, values: &mut [u64; 22]) -> Place
             next
         }
         9 => {
-            let r = messages::attributes::read_rstatfs(s, p);
+            let r = metadata::attributes::read_rstatfs(s, p);
             let m = r.value;
             let next = r.next;
             *values = attributes::flat_rstatfs(m);
@@ -123,7 +123,7 @@ pub fn read_flat(s: &[u8], ty: u8, values: &mut [u64; 22]) -> Place
             next
         }
         25 => {
-            let r = messages::attributes::read_rgetattr(s, p);
+            let r = metadata::attributes::read_rgetattr(s, p);
             let m = r.value;
             let next = r.next;
             *values = attributes::flat_rgetattr(m);
@@ -131,7 +131,7 @@ pub fn read_flat(s: &[u8], ty: u8, values: &mut [u64; 22]) -> Place
         }
         27 => no_values(p, values),
         31 => {
-            let r = messages::attributes::read_rxattrwalk(s, p);
+            let r = metadata::attributes::read_rxattrwalk(s, p);
             let m = r.value;
             let next = r.next;
             *values = attributes::flat_rxattrwalk(m);
@@ -147,14 +147,14 @@ pub fn read_flat(s: &[u8], ty: u8, values: &mut [u64; 22]) -> Place
         }
         51 => no_values(p, values),
         53 => {
-            let r = messages::locks::read_rlock(s, p);
+            let r = metadata::locks::read_rlock(s, p);
             let m = r.value;
             let next = r.next;
             *values = locks::flat_rlock(m);
             next
         }
         55 => {
-            let r = messages::locks::read_rgetlock(s, p);
+            let r = metadata::locks::read_rgetlock(s, p);
             let m = r.value;
             let next = r.next;
             *values = locks::flat_rgetlock(m);
@@ -171,7 +171,7 @@ pub fn read_flat(s: &[u8], ty: u8, values: &mut [u64; 22]) -> Place
         75 => no_values(p, values),
         77 => no_values(p, values),
         101 => {
-            let r = messages::sessions::read_rversion(s, p);
+            let r = common::sessions::read_rversion(s, p);
             let m = r.value;
             let next = r.next;
             *values = sessions::flat_rversion(m);
@@ -193,21 +193,21 @@ pub fn read_flat(s: &[u8], ty: u8, values: &mut [u64; 22]) -> Place
         }
         109 => no_values(p, values),
         111 => {
-            let r = messages::walking::read_rwalk(s, p);
+            let r = common::walking::read_rwalk(s, p);
             let m = r.value;
             let next = r.next;
             *values = walking::flat_rwalk(m);
             next
         }
         117 => {
-            let r = messages::files::read_rread(s, p);
+            let r = common::files::read_rread(s, p);
             let m = r.value;
             let next = r.next;
             *values = files::flat_rread(m);
             next
         }
         119 => {
-            let r = messages::files::read_rwrite(s, p);
+            let r = common::files::read_rwrite(s, p);
             let m = r.value;
             let next = r.next;
             *values = files::flat_rwrite(m);

@@ -12,7 +12,7 @@ use requests::Tbody;
 use requests::Tmessage;
 ghost use mathlib.Core.Path.{_≡_};
 ghost use Rattle.numbers.specs.declared.Place.the-variants.{At};
-ghost use Rattle.messages.specs.Tables.{lookup, tableT};
+ghost use Rattle.layouts.specs.Tables.{lookup, tableT};
 ghost use Rattle.requests.specs.Views.{viewT};
 ghost use Rattle.flat.specs.Flat.{bodyFrom, FlatRead};
 
@@ -62,7 +62,7 @@ pub fn read_flat(s: &[u8], ty: u8, values: &mut [u64; 10]) -> Place
     let p = Place::At(7);
     match ty {
         8 => {
-            let r = messages::attributes::read_tstatfs(s, p);
+            let r = metadata::attributes::read_tstatfs(s, p);
             let m = r.value;
             let next = r.next;
             *values = attributes::flat_tstatfs(m);
@@ -111,28 +111,28 @@ pub fn read_flat(s: &[u8], ty: u8, values: &mut [u64; 10]) -> Place
             next
         }
         24 => {
-            let r = messages::attributes::read_tgetattr(s, p);
+            let r = metadata::attributes::read_tgetattr(s, p);
             let m = r.value;
             let next = r.next;
             *values = attributes::flat_tgetattr(m);
             next
         }
         26 => {
-            let r = messages::attributes::read_tsetattr(s, p);
+            let r = metadata::attributes::read_tsetattr(s, p);
             let m = r.value;
             let next = r.next;
             *values = attributes::flat_tsetattr(m);
             next
         }
         30 => {
-            let r = messages::attributes::read_txattrwalk(s, p);
+            let r = metadata::attributes::read_txattrwalk(s, p);
             let m = r.value;
             let next = r.next;
             *values = attributes::flat_txattrwalk(m);
             next
         }
         32 => {
-            let r = messages::attributes::read_txattrcreate(s, p);
+            let r = metadata::attributes::read_txattrcreate(s, p);
             let m = r.value;
             let next = r.next;
             *values = attributes::flat_txattrcreate(m);
@@ -153,14 +153,14 @@ pub fn read_flat(s: &[u8], ty: u8, values: &mut [u64; 10]) -> Place
             next
         }
         52 => {
-            let r = messages::locks::read_tlock(s, p);
+            let r = metadata::locks::read_tlock(s, p);
             let m = r.value;
             let next = r.next;
             *values = locks::flat_tlock(m);
             next
         }
         54 => {
-            let r = messages::locks::read_tgetlock(s, p);
+            let r = metadata::locks::read_tgetlock(s, p);
             let m = r.value;
             let next = r.next;
             *values = locks::flat_tgetlock(m);
@@ -195,7 +195,7 @@ pub fn read_flat(s: &[u8], ty: u8, values: &mut [u64; 10]) -> Place
             next
         }
         100 => {
-            let r = messages::sessions::read_tversion(s, p);
+            let r = common::sessions::read_tversion(s, p);
             let m = r.value;
             let next = r.next;
             *values = sessions::flat_tversion(m);
@@ -216,42 +216,42 @@ pub fn read_flat(s: &[u8], ty: u8, values: &mut [u64; 10]) -> Place
             next
         }
         108 => {
-            let r = messages::sessions::read_tflush(s, p);
+            let r = common::sessions::read_tflush(s, p);
             let m = r.value;
             let next = r.next;
             *values = sessions::flat_tflush(m);
             next
         }
         110 => {
-            let r = messages::walking::read_twalk(s, p);
+            let r = common::walking::read_twalk(s, p);
             let m = r.value;
             let next = r.next;
             *values = walking::flat_twalk(m);
             next
         }
         116 => {
-            let r = messages::files::read_tread(s, p);
+            let r = common::files::read_tread(s, p);
             let m = r.value;
             let next = r.next;
             *values = files::flat_tread(m);
             next
         }
         118 => {
-            let r = messages::files::read_twrite(s, p);
+            let r = common::files::read_twrite(s, p);
             let m = r.value;
             let next = r.next;
             *values = files::flat_twrite(m);
             next
         }
         120 => {
-            let r = messages::sessions::read_tclunk(s, p);
+            let r = common::sessions::read_tclunk(s, p);
             let m = r.value;
             let next = r.next;
             *values = sessions::flat_tclunk(m);
             next
         }
         122 => {
-            let r = messages::files::read_tremove(s, p);
+            let r = common::files::read_tremove(s, p);
             let m = r.value;
             let next = r.next;
             *values = files::flat_tremove(m);

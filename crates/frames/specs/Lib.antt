@@ -1,12 +1,4 @@
-pub mod Frames
-pub mod Writing
 pub mod Views
 pub mod FrameLaws
-pub mod WritingLaws
-pub mod Examples
-pub mod Local
+pub mod RequestLaws
 pub mod One
-pub mod Tables
-pub mod TableLaws
-pub mod Qids
-pub mod QidLaws

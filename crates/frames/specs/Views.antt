@@ -1,48 +1,26 @@
 -- What the answers of the frame readers say.
-use Prim.Native.Nat.{ℕ, _≤_}
+use Prim.Native.Nat.{ℕ}
 use mathlib.Core.Path.{_≡_}
 use mathlib.Core.List.{List}
-use lib.ListN.{length, take, drop}
-use Rattle.numbers.specs.Reading.{ok, bad}
 use Rattle.numbers.specs.declared.Refusal.{Refusal}
-use Rattle.messages.specs.Bodies.{accepted}
+use Rattle.layouts.specs.Bodies.{accepted}
 use Rattle.numbers.specs.declared.Refusal.the-variants as C
 use Rattle.numbers.specs.declared.Place.{Place}
 use Rattle.numbers.specs.declared.Place.the-variants as P
-use Rattle.messages.specs.Tables.{layoutT}
+use Rattle.layouts.specs.Tables.{layoutT}
 use Rattle.requests.specs.Views.{typeT, valuesT, viewT}
 use Rattle.requests.specs.declared.Tbody.{Tbody}
 use Rattle.requests.specs.declared.Tbody.the-variants as M
 use Rattle.replies.specs.Views.{typeR, valuesR}
-use Rattle.frames.specs.Frames.{readTypeTag, readHeader, Frame, headless, framed}
-use Rattle.frames.specs.declared.Head.{Head}
-use Rattle.frames.specs.declared.Head.the-variants as H
-use Rattle.frames.specs.Writing.{FrameWritten}
+use Rattle.framing.specs.Frames.{Frame, headless, framed}
+use Rattle.framing.specs.declared.Head.{Head}
+use Rattle.framing.specs.declared.Head.the-variants as H
+use Rattle.framing.specs.Writing.{FrameWritten}
 use Rattle.frames.specs.declared.Tframe.{Tframe}
 use Rattle.frames.specs.declared.ReadTframe.{ReadTframe}
 use Rattle.frames.specs.declared.ReadTframe.the-variants as T
 use Rattle.frames.specs.declared.ReadRframe.{ReadRframe}
 use Rattle.frames.specs.declared.ReadRframe.the-variants as R
-
--- what is known of a header that was read: the first n bytes are the frame's, as far as they are held
-pub record Headed (s : List ℕ) (n ty tag : ℕ) : Type 0 where
-  pub seven : 7 ≤ n
-  pub held : n ≤ length s
-  pub reads : readHeader s ≡ ok (record { ty = ty; tag = tag }) (drop 7 (take n s))
-
-unfoldable pub HeadIs : List ℕ → Head → Type 0
-HeadIs s (H.Held n ty tag) = Headed s n ty tag
-HeadIs s (H.Refused k) = readHeader s ≡ bad k
-
--- behind the size, of the frame's own bytes: the type and the tag
-pub record Tagged (b : List ℕ) (n ty tag : ℕ) : Type 0 where
-  pub all : n ≡ length b
-  pub seven : 7 ≤ length b
-  pub reads : readTypeTag (drop 4 b) ≡ ok (record { ty = ty; tag = tag }) (drop 7 b)
-
-unfoldable pub TypeTag : List ℕ → Head → Type 0
-TypeTag b (H.Held n ty tag) = Tagged b n ty tag
-TypeTag b (H.Refused k) = readTypeTag (drop 4 b) ≡ bad k
 
 -- the refusal of a header that can't be read
 pub record Why (h : Head) (k : Refusal) : Type 0 where

@@ -6,9 +6,9 @@ use Rattle.numbers.specs.Numbers.{fromLE, toLE}
 use Rattle.numbers.specs.Reading.{raw, readNum}
 use Rattle.fields.specs.Layouts.{readField, readFields, itemBytes, itemsBytes}
 use Rattle.fields.specs.Values.{places}
-use Rattle.messages.specs.Tables.{tableT, tableR}
-use Rattle.frames.specs.Frames.{readTypeTag, readHeader, readFrame}
-use Rattle.stretch.specs.Stretch.{answerOf, front, listFrom, listing}
+use Rattle.layouts.specs.Tables.{tableT, tableR}
+use Rattle.framing.specs.Frames.{readTypeTag, readHeader, readFrame}
+use Rattle.framing.specs.Stretch.{answerOf, front, listFrom, listing}
 use Rattle.listing.specs.Text.{decimal, joined, linesFrom, report}
 
 -- the lines, parted by strokes here:

@@ -12,9 +12,9 @@ use Rattle.numbers.specs.Places.{Put}
 use Rattle.numbers.specs.declared.Refusal.{Refusal}
 use Rattle.numbers.specs.declared.Place.{Place}
 use Rattle.numbers.specs.declared.Place.the-variants.{At}
-use Rattle.messages.specs.Tables.{tableT, tableR}
-use Rattle.stretch.specs.Stretch.{entry, ends, stops, frameAt, listing}
-use Rattle.stretch.specs.ListingLaws.{goesOn, listed, Moved, moves-on}
+use Rattle.layouts.specs.Tables.{tableT, tableR}
+use Rattle.framing.specs.Stretch.{entry, ends, stops, frameAt, listing}
+use Rattle.framing.specs.ListingLaws.{goesOn, listed, Moved, moves-on}
 use Rattle.stretch.specs.Functions.{answered}
 use Rattle.stretch.specs.Views.{viewBody, viewStep, Asked}
 use Rattle.stretch.specs.declared.Listed.{Listed}

@@ -10,9 +10,9 @@ use Rattle.numbers.specs.Refusals.{numberOf}
 use Rattle.numbers.specs.Places.{putAt, pastPut, Put}
 use Rattle.numbers.specs.declared.Place.{Place}
 use Rattle.numbers.specs.declared.Place.the-variants.{At}
-use Rattle.messages.specs.Tables.{Row, tableT, tableR}
-use Rattle.messages.specs.Bodies.{Answer, accepted, refused}
-use Rattle.stretch.specs.Stretch.{Listing, entry, ends, stops, listing}
+use Rattle.layouts.specs.Tables.{Row, tableT, tableR}
+use Rattle.layouts.specs.Bodies.{Answer, accepted, refused}
+use Rattle.framing.specs.Stretch.{Listing, entry, ends, stops, listing}
 use Rattle.stretch.specs.Views.{viewBody}
 use Rattle.stretch.specs.declared.Listed.{Listed}
 

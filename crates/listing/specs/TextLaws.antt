@@ -19,8 +19,8 @@ use Rattle.numbers.specs.declared.Place.{Place}
 use Rattle.numbers.specs.declared.Place.the-variants.{At, Refused}
 use Rattle.strings.specs.Spans.{bytesIn, showSpan, checkAt, SpanPut}
 use Rattle.strings.specs.SpanLaws.{shown-in, passing}
-use Rattle.messages.specs.Tables.{tableT, tableR}
-use Rattle.frames.specs.WritingLaws.{put-fits, past-fits, put-over, over-none}
+use Rattle.layouts.specs.Tables.{tableT, tableR}
+use Rattle.framing.specs.WritingLaws.{put-fits, past-fits, put-over, over-none}
 use Rattle.listing.specs.Text.{figures, decimal, putAll, pastAll, PutAll, joined, space, newline, numberIn, DecimalPut, FieldPut, TailPut, LinePut, LastPut, report, Reported}
 use Rattle.stretch.specs.Views.{viewBody}
 use Rattle.stretch.specs.declared.Listed.{Listed}

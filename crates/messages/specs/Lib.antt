@@ -1,5 +1,1 @@
-pub mod Tables
-pub mod TableLaws
 pub mod Records
-pub mod Bodies
-pub mod BodyLaws

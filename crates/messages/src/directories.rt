@@ -1,15 +1,14 @@
 // Directories: what is made, named, linked and listed in them.
 
-use crate::ids::Fid;
-use crate::ids::Gid;
-use crate::qids;
-use crate::qids::Qid;
-use fields::lay;
+use layouts::ids::Fid;
+use layouts::ids::Gid;
+use layouts::qids;
+use layouts::qids::Qid;
 use numbers::Place;
 use strings::Span;
 ghost use Rattle.fields.specs.Fields.{Fields};
-ghost use Rattle.fields.specs.Laying.{Laid, Written};
-ghost use Rattle.messages.specs.Tables.{layoutT, layoutR};
+ghost use Rattle.laying.specs.Laying.{Laid, Written};
+ghost use Rattle.layouts.specs.Tables.{layoutT, layoutR};
 ghost use Rattle.messages.specs.Records.{tsymlink, rsymlink, tmknod, rmknod, trename, treadlink, rreadlink, treaddir, rreaddir, tlink, tmkdir, rmkdir, trenameat, tunlinkat};
 
 pub struct Tsymlink {
@@ -52,21 +51,21 @@ fn lay_tsymlink(out: &mut [u8], p: Place, lent: &[u8], m: Tsymlink, put: bool) -
     ensures { λ r. ⌜ Laid (layoutT 16) (now (lent .entry)) (tsymlink m) put (now (out .entry)) p (now (out .exit)) r ⌝ }
 {
     let fid = m.fid;
-    let p1 = lay::lay_u32(out, p, fid.0, put);
+    let p1 = laying::lay_u32(out, p, fid.0, put);
     let name = m.name;
-    let p2 = lay::lay_str(out, p1, lent, name, put);
+    let p2 = laying::lay_str(out, p1, lent, name, put);
     let symtgt = m.symtgt;
-    let p3 = lay::lay_str(out, p2, lent, symtgt, put);
+    let p3 = laying::lay_str(out, p2, lent, symtgt, put);
     let gid = m.gid;
-    lay::lay_u32(out, p3, gid.0, put)
+    laying::lay_u32(out, p3, gid.0, put)
 }
 
 pub fn write_tsymlink(out: &mut [u8], p: Place, lent: &[u8], m: Tsymlink) -> Place
     ensures { λ r. ⌜ Written (layoutT 16) (now (lent .entry)) (tsymlink m) (now (out .entry)) p (now (out .exit)) r ⌝ }
 {
-    let end = lay_tsymlink(out, p, lent, m, lay::CHECK);
-    let start = lay::begun(p, end, out.len());
-    lay_tsymlink(out, start, lent, m, lay::PUT)
+    let end = lay_tsymlink(out, p, lent, m, laying::CHECK);
+    let start = laying::begun(p, end, out.len());
+    lay_tsymlink(out, start, lent, m, laying::PUT)
 }
 
 pub struct Rsymlink {
@@ -98,9 +97,9 @@ fn lay_rsymlink(out: &mut [u8], p: Place, lent: &[u8], m: Rsymlink, put: bool) -
 pub fn write_rsymlink(out: &mut [u8], p: Place, lent: &[u8], m: Rsymlink) -> Place
     ensures { λ r. ⌜ Written (layoutR 17) (now (lent .entry)) (rsymlink m) (now (out .entry)) p (now (out .exit)) r ⌝ }
 {
-    let end = lay_rsymlink(out, p, lent, m, lay::CHECK);
-    let start = lay::begun(p, end, out.len());
-    lay_rsymlink(out, start, lent, m, lay::PUT)
+    let end = lay_rsymlink(out, p, lent, m, laying::CHECK);
+    let start = laying::begun(p, end, out.len());
+    lay_rsymlink(out, start, lent, m, laying::PUT)
 }
 
 pub struct Tmknod {
@@ -150,22 +149,22 @@ fn lay_tmknod(out: &mut [u8], p: Place, lent: &[u8], m: Tmknod, put: bool) -> Pl
     ensures { λ r. ⌜ Laid (layoutT 18) (now (lent .entry)) (tmknod m) put (now (out .entry)) p (now (out .exit)) r ⌝ }
 {
     let dfid = m.dfid;
-    let p1 = lay::lay_u32(out, p, dfid.0, put);
+    let p1 = laying::lay_u32(out, p, dfid.0, put);
     let name = m.name;
-    let p2 = lay::lay_str(out, p1, lent, name, put);
-    let p3 = lay::lay_u32(out, p2, m.mode, put);
-    let p4 = lay::lay_u32(out, p3, m.major, put);
-    let p5 = lay::lay_u32(out, p4, m.minor, put);
+    let p2 = laying::lay_str(out, p1, lent, name, put);
+    let p3 = laying::lay_u32(out, p2, m.mode, put);
+    let p4 = laying::lay_u32(out, p3, m.major, put);
+    let p5 = laying::lay_u32(out, p4, m.minor, put);
     let gid = m.gid;
-    lay::lay_u32(out, p5, gid.0, put)
+    laying::lay_u32(out, p5, gid.0, put)
 }
 
 pub fn write_tmknod(out: &mut [u8], p: Place, lent: &[u8], m: Tmknod) -> Place
     ensures { λ r. ⌜ Written (layoutT 18) (now (lent .entry)) (tmknod m) (now (out .entry)) p (now (out .exit)) r ⌝ }
 {
-    let end = lay_tmknod(out, p, lent, m, lay::CHECK);
-    let start = lay::begun(p, end, out.len());
-    lay_tmknod(out, start, lent, m, lay::PUT)
+    let end = lay_tmknod(out, p, lent, m, laying::CHECK);
+    let start = laying::begun(p, end, out.len());
+    lay_tmknod(out, start, lent, m, laying::PUT)
 }
 
 pub struct Rmknod {
@@ -197,9 +196,9 @@ fn lay_rmknod(out: &mut [u8], p: Place, lent: &[u8], m: Rmknod, put: bool) -> Pl
 pub fn write_rmknod(out: &mut [u8], p: Place, lent: &[u8], m: Rmknod) -> Place
     ensures { λ r. ⌜ Written (layoutR 19) (now (lent .entry)) (rmknod m) (now (out .entry)) p (now (out .exit)) r ⌝ }
 {
-    let end = lay_rmknod(out, p, lent, m, lay::CHECK);
-    let start = lay::begun(p, end, out.len());
-    lay_rmknod(out, start, lent, m, lay::PUT)
+    let end = lay_rmknod(out, p, lent, m, laying::CHECK);
+    let start = laying::begun(p, end, out.len());
+    lay_rmknod(out, start, lent, m, laying::PUT)
 }
 
 pub struct Trename {
@@ -233,19 +232,19 @@ fn lay_trename(out: &mut [u8], p: Place, lent: &[u8], m: Trename, put: bool) -> 
     ensures { λ r. ⌜ Laid (layoutT 20) (now (lent .entry)) (trename m) put (now (out .entry)) p (now (out .exit)) r ⌝ }
 {
     let fid = m.fid;
-    let p1 = lay::lay_u32(out, p, fid.0, put);
+    let p1 = laying::lay_u32(out, p, fid.0, put);
     let dfid = m.dfid;
-    let p2 = lay::lay_u32(out, p1, dfid.0, put);
+    let p2 = laying::lay_u32(out, p1, dfid.0, put);
     let name = m.name;
-    lay::lay_str(out, p2, lent, name, put)
+    laying::lay_str(out, p2, lent, name, put)
 }
 
 pub fn write_trename(out: &mut [u8], p: Place, lent: &[u8], m: Trename) -> Place
     ensures { λ r. ⌜ Written (layoutT 20) (now (lent .entry)) (trename m) (now (out .entry)) p (now (out .exit)) r ⌝ }
 {
-    let end = lay_trename(out, p, lent, m, lay::CHECK);
-    let start = lay::begun(p, end, out.len());
-    lay_trename(out, start, lent, m, lay::PUT)
+    let end = lay_trename(out, p, lent, m, laying::CHECK);
+    let start = laying::begun(p, end, out.len());
+    lay_trename(out, start, lent, m, laying::PUT)
 }
 
 pub struct Treadlink {
@@ -271,15 +270,15 @@ fn lay_treadlink(out: &mut [u8], p: Place, lent: &[u8], m: Treadlink, put: bool)
     ensures { λ r. ⌜ Laid (layoutT 22) (now (lent .entry)) (treadlink m) put (now (out .entry)) p (now (out .exit)) r ⌝ }
 {
     let fid = m.fid;
-    lay::lay_u32(out, p, fid.0, put)
+    laying::lay_u32(out, p, fid.0, put)
 }
 
 pub fn write_treadlink(out: &mut [u8], p: Place, lent: &[u8], m: Treadlink) -> Place
     ensures { λ r. ⌜ Written (layoutT 22) (now (lent .entry)) (treadlink m) (now (out .entry)) p (now (out .exit)) r ⌝ }
 {
-    let end = lay_treadlink(out, p, lent, m, lay::CHECK);
-    let start = lay::begun(p, end, out.len());
-    lay_treadlink(out, start, lent, m, lay::PUT)
+    let end = lay_treadlink(out, p, lent, m, laying::CHECK);
+    let start = laying::begun(p, end, out.len());
+    lay_treadlink(out, start, lent, m, laying::PUT)
 }
 
 pub struct Rreadlink {
@@ -305,15 +304,15 @@ fn lay_rreadlink(out: &mut [u8], p: Place, lent: &[u8], m: Rreadlink, put: bool)
     ensures { λ r. ⌜ Laid (layoutR 23) (now (lent .entry)) (rreadlink m) put (now (out .entry)) p (now (out .exit)) r ⌝ }
 {
     let target = m.target;
-    lay::lay_str(out, p, lent, target, put)
+    laying::lay_str(out, p, lent, target, put)
 }
 
 pub fn write_rreadlink(out: &mut [u8], p: Place, lent: &[u8], m: Rreadlink) -> Place
     ensures { λ r. ⌜ Written (layoutR 23) (now (lent .entry)) (rreadlink m) (now (out .entry)) p (now (out .exit)) r ⌝ }
 {
-    let end = lay_rreadlink(out, p, lent, m, lay::CHECK);
-    let start = lay::begun(p, end, out.len());
-    lay_rreadlink(out, start, lent, m, lay::PUT)
+    let end = lay_rreadlink(out, p, lent, m, laying::CHECK);
+    let start = laying::begun(p, end, out.len());
+    lay_rreadlink(out, start, lent, m, laying::PUT)
 }
 
 pub struct Treaddir {
@@ -349,17 +348,17 @@ fn lay_treaddir(out: &mut [u8], p: Place, lent: &[u8], m: Treaddir, put: bool) -
     ensures { λ r. ⌜ Laid (layoutT 40) (now (lent .entry)) (treaddir m) put (now (out .entry)) p (now (out .exit)) r ⌝ }
 {
     let fid = m.fid;
-    let p1 = lay::lay_u32(out, p, fid.0, put);
-    let p2 = lay::lay_u64(out, p1, m.offset, put);
-    lay::lay_u32(out, p2, m.count, put)
+    let p1 = laying::lay_u32(out, p, fid.0, put);
+    let p2 = laying::lay_u64(out, p1, m.offset, put);
+    laying::lay_u32(out, p2, m.count, put)
 }
 
 pub fn write_treaddir(out: &mut [u8], p: Place, lent: &[u8], m: Treaddir) -> Place
     ensures { λ r. ⌜ Written (layoutT 40) (now (lent .entry)) (treaddir m) (now (out .entry)) p (now (out .exit)) r ⌝ }
 {
-    let end = lay_treaddir(out, p, lent, m, lay::CHECK);
-    let start = lay::begun(p, end, out.len());
-    lay_treaddir(out, start, lent, m, lay::PUT)
+    let end = lay_treaddir(out, p, lent, m, laying::CHECK);
+    let start = laying::begun(p, end, out.len());
+    lay_treaddir(out, start, lent, m, laying::PUT)
 }
 
 pub struct Rreaddir {
@@ -385,15 +384,15 @@ fn lay_rreaddir(out: &mut [u8], p: Place, lent: &[u8], m: Rreaddir, put: bool) -
     ensures { λ r. ⌜ Laid (layoutR 41) (now (lent .entry)) (rreaddir m) put (now (out .entry)) p (now (out .exit)) r ⌝ }
 {
     let data = m.data;
-    lay::lay_data(out, p, lent, data, put)
+    laying::lay_data(out, p, lent, data, put)
 }
 
 pub fn write_rreaddir(out: &mut [u8], p: Place, lent: &[u8], m: Rreaddir) -> Place
     ensures { λ r. ⌜ Written (layoutR 41) (now (lent .entry)) (rreaddir m) (now (out .entry)) p (now (out .exit)) r ⌝ }
 {
-    let end = lay_rreaddir(out, p, lent, m, lay::CHECK);
-    let start = lay::begun(p, end, out.len());
-    lay_rreaddir(out, start, lent, m, lay::PUT)
+    let end = lay_rreaddir(out, p, lent, m, laying::CHECK);
+    let start = laying::begun(p, end, out.len());
+    lay_rreaddir(out, start, lent, m, laying::PUT)
 }
 
 pub struct Tlink {
@@ -427,19 +426,19 @@ fn lay_tlink(out: &mut [u8], p: Place, lent: &[u8], m: Tlink, put: bool) -> Plac
     ensures { λ r. ⌜ Laid (layoutT 70) (now (lent .entry)) (tlink m) put (now (out .entry)) p (now (out .exit)) r ⌝ }
 {
     let dfid = m.dfid;
-    let p1 = lay::lay_u32(out, p, dfid.0, put);
+    let p1 = laying::lay_u32(out, p, dfid.0, put);
     let fid = m.fid;
-    let p2 = lay::lay_u32(out, p1, fid.0, put);
+    let p2 = laying::lay_u32(out, p1, fid.0, put);
     let name = m.name;
-    lay::lay_str(out, p2, lent, name, put)
+    laying::lay_str(out, p2, lent, name, put)
 }
 
 pub fn write_tlink(out: &mut [u8], p: Place, lent: &[u8], m: Tlink) -> Place
     ensures { λ r. ⌜ Written (layoutT 70) (now (lent .entry)) (tlink m) (now (out .entry)) p (now (out .exit)) r ⌝ }
 {
-    let end = lay_tlink(out, p, lent, m, lay::CHECK);
-    let start = lay::begun(p, end, out.len());
-    lay_tlink(out, start, lent, m, lay::PUT)
+    let end = lay_tlink(out, p, lent, m, laying::CHECK);
+    let start = laying::begun(p, end, out.len());
+    lay_tlink(out, start, lent, m, laying::PUT)
 }
 
 pub struct Tmkdir {
@@ -481,20 +480,20 @@ fn lay_tmkdir(out: &mut [u8], p: Place, lent: &[u8], m: Tmkdir, put: bool) -> Pl
     ensures { λ r. ⌜ Laid (layoutT 72) (now (lent .entry)) (tmkdir m) put (now (out .entry)) p (now (out .exit)) r ⌝ }
 {
     let dfid = m.dfid;
-    let p1 = lay::lay_u32(out, p, dfid.0, put);
+    let p1 = laying::lay_u32(out, p, dfid.0, put);
     let name = m.name;
-    let p2 = lay::lay_str(out, p1, lent, name, put);
-    let p3 = lay::lay_u32(out, p2, m.mode, put);
+    let p2 = laying::lay_str(out, p1, lent, name, put);
+    let p3 = laying::lay_u32(out, p2, m.mode, put);
     let gid = m.gid;
-    lay::lay_u32(out, p3, gid.0, put)
+    laying::lay_u32(out, p3, gid.0, put)
 }
 
 pub fn write_tmkdir(out: &mut [u8], p: Place, lent: &[u8], m: Tmkdir) -> Place
     ensures { λ r. ⌜ Written (layoutT 72) (now (lent .entry)) (tmkdir m) (now (out .entry)) p (now (out .exit)) r ⌝ }
 {
-    let end = lay_tmkdir(out, p, lent, m, lay::CHECK);
-    let start = lay::begun(p, end, out.len());
-    lay_tmkdir(out, start, lent, m, lay::PUT)
+    let end = lay_tmkdir(out, p, lent, m, laying::CHECK);
+    let start = laying::begun(p, end, out.len());
+    lay_tmkdir(out, start, lent, m, laying::PUT)
 }
 
 pub struct Rmkdir {
@@ -526,9 +525,9 @@ fn lay_rmkdir(out: &mut [u8], p: Place, lent: &[u8], m: Rmkdir, put: bool) -> Pl
 pub fn write_rmkdir(out: &mut [u8], p: Place, lent: &[u8], m: Rmkdir) -> Place
     ensures { λ r. ⌜ Written (layoutR 73) (now (lent .entry)) (rmkdir m) (now (out .entry)) p (now (out .exit)) r ⌝ }
 {
-    let end = lay_rmkdir(out, p, lent, m, lay::CHECK);
-    let start = lay::begun(p, end, out.len());
-    lay_rmkdir(out, start, lent, m, lay::PUT)
+    let end = lay_rmkdir(out, p, lent, m, laying::CHECK);
+    let start = laying::begun(p, end, out.len());
+    lay_rmkdir(out, start, lent, m, laying::PUT)
 }
 
 pub struct Trenameat {
@@ -571,21 +570,21 @@ fn lay_trenameat(out: &mut [u8], p: Place, lent: &[u8], m: Trenameat, put: bool)
     ensures { λ r. ⌜ Laid (layoutT 74) (now (lent .entry)) (trenameat m) put (now (out .entry)) p (now (out .exit)) r ⌝ }
 {
     let olddirfid = m.olddirfid;
-    let p1 = lay::lay_u32(out, p, olddirfid.0, put);
+    let p1 = laying::lay_u32(out, p, olddirfid.0, put);
     let oldname = m.oldname;
-    let p2 = lay::lay_str(out, p1, lent, oldname, put);
+    let p2 = laying::lay_str(out, p1, lent, oldname, put);
     let newdirfid = m.newdirfid;
-    let p3 = lay::lay_u32(out, p2, newdirfid.0, put);
+    let p3 = laying::lay_u32(out, p2, newdirfid.0, put);
     let newname = m.newname;
-    lay::lay_str(out, p3, lent, newname, put)
+    laying::lay_str(out, p3, lent, newname, put)
 }
 
 pub fn write_trenameat(out: &mut [u8], p: Place, lent: &[u8], m: Trenameat) -> Place
     ensures { λ r. ⌜ Written (layoutT 74) (now (lent .entry)) (trenameat m) (now (out .entry)) p (now (out .exit)) r ⌝ }
 {
-    let end = lay_trenameat(out, p, lent, m, lay::CHECK);
-    let start = lay::begun(p, end, out.len());
-    lay_trenameat(out, start, lent, m, lay::PUT)
+    let end = lay_trenameat(out, p, lent, m, laying::CHECK);
+    let start = laying::begun(p, end, out.len());
+    lay_trenameat(out, start, lent, m, laying::PUT)
 }
 
 pub struct Tunlinkat {
@@ -622,16 +621,16 @@ fn lay_tunlinkat(out: &mut [u8], p: Place, lent: &[u8], m: Tunlinkat, put: bool)
     ensures { λ r. ⌜ Laid (layoutT 76) (now (lent .entry)) (tunlinkat m) put (now (out .entry)) p (now (out .exit)) r ⌝ }
 {
     let dirfd = m.dirfd;
-    let p1 = lay::lay_u32(out, p, dirfd.0, put);
+    let p1 = laying::lay_u32(out, p, dirfd.0, put);
     let name = m.name;
-    let p2 = lay::lay_str(out, p1, lent, name, put);
-    lay::lay_u32(out, p2, m.flags, put)
+    let p2 = laying::lay_str(out, p1, lent, name, put);
+    laying::lay_u32(out, p2, m.flags, put)
 }
 
 pub fn write_tunlinkat(out: &mut [u8], p: Place, lent: &[u8], m: Tunlinkat) -> Place
     ensures { λ r. ⌜ Written (layoutT 76) (now (lent .entry)) (tunlinkat m) (now (out .entry)) p (now (out .exit)) r ⌝ }
 {
-    let end = lay_tunlinkat(out, p, lent, m, lay::CHECK);
-    let start = lay::begun(p, end, out.len());
-    lay_tunlinkat(out, start, lent, m, lay::PUT)
+    let end = lay_tunlinkat(out, p, lent, m, laying::CHECK);
+    let start = laying::begun(p, end, out.len());
+    lay_tunlinkat(out, start, lent, m, laying::PUT)
 }

@@ -1,16 +1,15 @@
-// Files: opened, made, read, written, synced, removed.
+// Files: opened, made and synced.
 
-use crate::ids::Fid;
-use crate::ids::Gid;
-use crate::qids;
-use crate::qids::Qid;
-use fields::lay;
+use layouts::ids::Fid;
+use layouts::ids::Gid;
+use layouts::qids;
+use layouts::qids::Qid;
 use numbers::Place;
 use strings::Span;
 ghost use Rattle.fields.specs.Fields.{Fields};
-ghost use Rattle.fields.specs.Laying.{Laid, Written};
-ghost use Rattle.messages.specs.Tables.{layoutT, layoutR};
-ghost use Rattle.messages.specs.Records.{tlopen, rlopen, tlcreate, rlcreate, tread, rread, twrite, rwrite, tfsync, tremove};
+ghost use Rattle.laying.specs.Laying.{Laid, Written};
+ghost use Rattle.layouts.specs.Tables.{layoutT, layoutR};
+ghost use Rattle.messages.specs.Records.{tlopen, rlopen, tlcreate, rlcreate, tfsync};
 
 pub struct Tlopen {
     pub fid: Fid,
@@ -41,16 +40,16 @@ fn lay_tlopen(out: &mut [u8], p: Place, lent: &[u8], m: Tlopen, put: bool) -> Pl
     ensures { λ r. ⌜ Laid (layoutT 12) (now (lent .entry)) (tlopen m) put (now (out .entry)) p (now (out .exit)) r ⌝ }
 {
     let fid = m.fid;
-    let p1 = lay::lay_u32(out, p, fid.0, put);
-    lay::lay_u32(out, p1, m.flags, put)
+    let p1 = laying::lay_u32(out, p, fid.0, put);
+    laying::lay_u32(out, p1, m.flags, put)
 }
 
 pub fn write_tlopen(out: &mut [u8], p: Place, lent: &[u8], m: Tlopen) -> Place
     ensures { λ r. ⌜ Written (layoutT 12) (now (lent .entry)) (tlopen m) (now (out .entry)) p (now (out .exit)) r ⌝ }
 {
-    let end = lay_tlopen(out, p, lent, m, lay::CHECK);
-    let start = lay::begun(p, end, out.len());
-    lay_tlopen(out, start, lent, m, lay::PUT)
+    let end = lay_tlopen(out, p, lent, m, laying::CHECK);
+    let start = laying::begun(p, end, out.len());
+    lay_tlopen(out, start, lent, m, laying::PUT)
 }
 
 pub struct Rlopen {
@@ -83,15 +82,15 @@ fn lay_rlopen(out: &mut [u8], p: Place, lent: &[u8], m: Rlopen, put: bool) -> Pl
 {
     let qid = m.qid;
     let p1 = qids::lay_qid(out, p, lent, qid, put);
-    lay::lay_u32(out, p1, m.iounit, put)
+    laying::lay_u32(out, p1, m.iounit, put)
 }
 
 pub fn write_rlopen(out: &mut [u8], p: Place, lent: &[u8], m: Rlopen) -> Place
     ensures { λ r. ⌜ Written (layoutR 13) (now (lent .entry)) (rlopen m) (now (out .entry)) p (now (out .exit)) r ⌝ }
 {
-    let end = lay_rlopen(out, p, lent, m, lay::CHECK);
-    let start = lay::begun(p, end, out.len());
-    lay_rlopen(out, start, lent, m, lay::PUT)
+    let end = lay_rlopen(out, p, lent, m, laying::CHECK);
+    let start = laying::begun(p, end, out.len());
+    lay_rlopen(out, start, lent, m, laying::PUT)
 }
 
 pub struct Tlcreate {
@@ -137,21 +136,21 @@ fn lay_tlcreate(out: &mut [u8], p: Place, lent: &[u8], m: Tlcreate, put: bool) -
     ensures { λ r. ⌜ Laid (layoutT 14) (now (lent .entry)) (tlcreate m) put (now (out .entry)) p (now (out .exit)) r ⌝ }
 {
     let fid = m.fid;
-    let p1 = lay::lay_u32(out, p, fid.0, put);
+    let p1 = laying::lay_u32(out, p, fid.0, put);
     let name = m.name;
-    let p2 = lay::lay_str(out, p1, lent, name, put);
-    let p3 = lay::lay_u32(out, p2, m.flags, put);
-    let p4 = lay::lay_u32(out, p3, m.mode, put);
+    let p2 = laying::lay_str(out, p1, lent, name, put);
+    let p3 = laying::lay_u32(out, p2, m.flags, put);
+    let p4 = laying::lay_u32(out, p3, m.mode, put);
     let gid = m.gid;
-    lay::lay_u32(out, p4, gid.0, put)
+    laying::lay_u32(out, p4, gid.0, put)
 }
 
 pub fn write_tlcreate(out: &mut [u8], p: Place, lent: &[u8], m: Tlcreate) -> Place
     ensures { λ r. ⌜ Written (layoutT 14) (now (lent .entry)) (tlcreate m) (now (out .entry)) p (now (out .exit)) r ⌝ }
 {
-    let end = lay_tlcreate(out, p, lent, m, lay::CHECK);
-    let start = lay::begun(p, end, out.len());
-    lay_tlcreate(out, start, lent, m, lay::PUT)
+    let end = lay_tlcreate(out, p, lent, m, laying::CHECK);
+    let start = laying::begun(p, end, out.len());
+    lay_tlcreate(out, start, lent, m, laying::PUT)
 }
 
 pub struct Rlcreate {
@@ -184,175 +183,15 @@ fn lay_rlcreate(out: &mut [u8], p: Place, lent: &[u8], m: Rlcreate, put: bool) -
 {
     let qid = m.qid;
     let p1 = qids::lay_qid(out, p, lent, qid, put);
-    lay::lay_u32(out, p1, m.iounit, put)
+    laying::lay_u32(out, p1, m.iounit, put)
 }
 
 pub fn write_rlcreate(out: &mut [u8], p: Place, lent: &[u8], m: Rlcreate) -> Place
     ensures { λ r. ⌜ Written (layoutR 15) (now (lent .entry)) (rlcreate m) (now (out .entry)) p (now (out .exit)) r ⌝ }
 {
-    let end = lay_rlcreate(out, p, lent, m, lay::CHECK);
-    let start = lay::begun(p, end, out.len());
-    lay_rlcreate(out, start, lent, m, lay::PUT)
-}
-
-pub struct Tread {
-    pub fid: Fid,
-    pub offset: u64,
-    pub count: u32,
-}
-
-pub struct ReadTread {
-    pub value: Tread,
-    pub next: Place,
-}
-
-pub fn read_tread(s: &[u8], p: Place) -> ReadTread
-    ensures { λ r. ⌜ Fields (layoutT 116) (now (s .entry)) p (tread (r .value)) (r .next) ⌝ }
-{
-    let r1 = numbers::read_u32(s, p);
-    let p1 = r1.next;
-    let fid = Fid(r1.value);
-    let r2 = numbers::read_u64(s, p1);
-    let p2 = r2.next;
-    let r3 = numbers::read_u32(s, p2);
-    let p3 = r3.next;
-    let value = Tread {
-        fid,
-        offset: r2.value,
-        count: r3.value,
-    };
-    ReadTread { value, next: p3 }
-}
-
-fn lay_tread(out: &mut [u8], p: Place, lent: &[u8], m: Tread, put: bool) -> Place
-    ensures { λ r. ⌜ Laid (layoutT 116) (now (lent .entry)) (tread m) put (now (out .entry)) p (now (out .exit)) r ⌝ }
-{
-    let fid = m.fid;
-    let p1 = lay::lay_u32(out, p, fid.0, put);
-    let p2 = lay::lay_u64(out, p1, m.offset, put);
-    lay::lay_u32(out, p2, m.count, put)
-}
-
-pub fn write_tread(out: &mut [u8], p: Place, lent: &[u8], m: Tread) -> Place
-    ensures { λ r. ⌜ Written (layoutT 116) (now (lent .entry)) (tread m) (now (out .entry)) p (now (out .exit)) r ⌝ }
-{
-    let end = lay_tread(out, p, lent, m, lay::CHECK);
-    let start = lay::begun(p, end, out.len());
-    lay_tread(out, start, lent, m, lay::PUT)
-}
-
-pub struct Rread {
-    pub data: Span,
-}
-
-pub struct ReadRread {
-    pub value: Rread,
-    pub next: Place,
-}
-
-pub fn read_rread(s: &[u8], p: Place) -> ReadRread
-    ensures { λ r. ⌜ Fields (layoutR 117) (now (s .entry)) p (rread (r .value)) (r .next) ⌝ }
-{
-    let r1 = fields::read_data(s, p);
-    let p1 = r1.next;
-    let data = r1.value;
-    let value = Rread { data };
-    ReadRread { value, next: p1 }
-}
-
-fn lay_rread(out: &mut [u8], p: Place, lent: &[u8], m: Rread, put: bool) -> Place
-    ensures { λ r. ⌜ Laid (layoutR 117) (now (lent .entry)) (rread m) put (now (out .entry)) p (now (out .exit)) r ⌝ }
-{
-    let data = m.data;
-    lay::lay_data(out, p, lent, data, put)
-}
-
-pub fn write_rread(out: &mut [u8], p: Place, lent: &[u8], m: Rread) -> Place
-    ensures { λ r. ⌜ Written (layoutR 117) (now (lent .entry)) (rread m) (now (out .entry)) p (now (out .exit)) r ⌝ }
-{
-    let end = lay_rread(out, p, lent, m, lay::CHECK);
-    let start = lay::begun(p, end, out.len());
-    lay_rread(out, start, lent, m, lay::PUT)
-}
-
-pub struct Twrite {
-    pub fid: Fid,
-    pub offset: u64,
-    pub data: Span,
-}
-
-pub struct ReadTwrite {
-    pub value: Twrite,
-    pub next: Place,
-}
-
-pub fn read_twrite(s: &[u8], p: Place) -> ReadTwrite
-    ensures { λ r. ⌜ Fields (layoutT 118) (now (s .entry)) p (twrite (r .value)) (r .next) ⌝ }
-{
-    let r1 = numbers::read_u32(s, p);
-    let p1 = r1.next;
-    let fid = Fid(r1.value);
-    let r2 = numbers::read_u64(s, p1);
-    let p2 = r2.next;
-    let r3 = fields::read_data(s, p2);
-    let p3 = r3.next;
-    let data = r3.value;
-    let value = Twrite {
-        fid,
-        offset: r2.value,
-        data,
-    };
-    ReadTwrite { value, next: p3 }
-}
-
-fn lay_twrite(out: &mut [u8], p: Place, lent: &[u8], m: Twrite, put: bool) -> Place
-    ensures { λ r. ⌜ Laid (layoutT 118) (now (lent .entry)) (twrite m) put (now (out .entry)) p (now (out .exit)) r ⌝ }
-{
-    let fid = m.fid;
-    let p1 = lay::lay_u32(out, p, fid.0, put);
-    let p2 = lay::lay_u64(out, p1, m.offset, put);
-    let data = m.data;
-    lay::lay_data(out, p2, lent, data, put)
-}
-
-pub fn write_twrite(out: &mut [u8], p: Place, lent: &[u8], m: Twrite) -> Place
-    ensures { λ r. ⌜ Written (layoutT 118) (now (lent .entry)) (twrite m) (now (out .entry)) p (now (out .exit)) r ⌝ }
-{
-    let end = lay_twrite(out, p, lent, m, lay::CHECK);
-    let start = lay::begun(p, end, out.len());
-    lay_twrite(out, start, lent, m, lay::PUT)
-}
-
-pub struct Rwrite {
-    pub count: u32,
-}
-
-pub struct ReadRwrite {
-    pub value: Rwrite,
-    pub next: Place,
-}
-
-pub fn read_rwrite(s: &[u8], p: Place) -> ReadRwrite
-    ensures { λ r. ⌜ Fields (layoutR 119) (now (s .entry)) p (rwrite (r .value)) (r .next) ⌝ }
-{
-    let r1 = numbers::read_u32(s, p);
-    let p1 = r1.next;
-    let value = Rwrite { count: r1.value };
-    ReadRwrite { value, next: p1 }
-}
-
-fn lay_rwrite(out: &mut [u8], p: Place, lent: &[u8], m: Rwrite, put: bool) -> Place
-    ensures { λ r. ⌜ Laid (layoutR 119) (now (lent .entry)) (rwrite m) put (now (out .entry)) p (now (out .exit)) r ⌝ }
-{
-    lay::lay_u32(out, p, m.count, put)
-}
-
-pub fn write_rwrite(out: &mut [u8], p: Place, lent: &[u8], m: Rwrite) -> Place
-    ensures { λ r. ⌜ Written (layoutR 119) (now (lent .entry)) (rwrite m) (now (out .entry)) p (now (out .exit)) r ⌝ }
-{
-    let end = lay_rwrite(out, p, lent, m, lay::CHECK);
-    let start = lay::begun(p, end, out.len());
-    lay_rwrite(out, start, lent, m, lay::PUT)
+    let end = lay_rlcreate(out, p, lent, m, laying::CHECK);
+    let start = laying::begun(p, end, out.len());
+    lay_rlcreate(out, start, lent, m, laying::PUT)
 }
 
 pub struct Tfsync {
@@ -384,48 +223,14 @@ fn lay_tfsync(out: &mut [u8], p: Place, lent: &[u8], m: Tfsync, put: bool) -> Pl
     ensures { λ r. ⌜ Laid (layoutT 50) (now (lent .entry)) (tfsync m) put (now (out .entry)) p (now (out .exit)) r ⌝ }
 {
     let fid = m.fid;
-    let p1 = lay::lay_u32(out, p, fid.0, put);
-    lay::lay_u32(out, p1, m.datasync, put)
+    let p1 = laying::lay_u32(out, p, fid.0, put);
+    laying::lay_u32(out, p1, m.datasync, put)
 }
 
 pub fn write_tfsync(out: &mut [u8], p: Place, lent: &[u8], m: Tfsync) -> Place
     ensures { λ r. ⌜ Written (layoutT 50) (now (lent .entry)) (tfsync m) (now (out .entry)) p (now (out .exit)) r ⌝ }
 {
-    let end = lay_tfsync(out, p, lent, m, lay::CHECK);
-    let start = lay::begun(p, end, out.len());
-    lay_tfsync(out, start, lent, m, lay::PUT)
-}
-
-pub struct Tremove {
-    pub fid: Fid,
-}
-
-pub struct ReadTremove {
-    pub value: Tremove,
-    pub next: Place,
-}
-
-pub fn read_tremove(s: &[u8], p: Place) -> ReadTremove
-    ensures { λ r. ⌜ Fields (layoutT 122) (now (s .entry)) p (tremove (r .value)) (r .next) ⌝ }
-{
-    let r1 = numbers::read_u32(s, p);
-    let p1 = r1.next;
-    let fid = Fid(r1.value);
-    let value = Tremove { fid };
-    ReadTremove { value, next: p1 }
-}
-
-fn lay_tremove(out: &mut [u8], p: Place, lent: &[u8], m: Tremove, put: bool) -> Place
-    ensures { λ r. ⌜ Laid (layoutT 122) (now (lent .entry)) (tremove m) put (now (out .entry)) p (now (out .exit)) r ⌝ }
-{
-    let fid = m.fid;
-    lay::lay_u32(out, p, fid.0, put)
-}
-
-pub fn write_tremove(out: &mut [u8], p: Place, lent: &[u8], m: Tremove) -> Place
-    ensures { λ r. ⌜ Written (layoutT 122) (now (lent .entry)) (tremove m) (now (out .entry)) p (now (out .exit)) r ⌝ }
-{
-    let end = lay_tremove(out, p, lent, m, lay::CHECK);
-    let start = lay::begun(p, end, out.len());
-    lay_tremove(out, start, lent, m, lay::PUT)
+    let end = lay_tfsync(out, p, lent, m, laying::CHECK);
+    let start = laying::begun(p, end, out.len());
+    lay_tfsync(out, start, lent, m, laying::PUT)
 }

@@ -1,98 +1,14 @@
-// Opening and closing a session: version, auth, attach, flush, clunk, and the error reply.
+// Opening a session in 9P2000.L: auth, attach, and the error reply.
 
-use crate::ids::Fid;
-use crate::ids::Tag;
-use crate::qids;
-use crate::qids::Qid;
-use fields::lay;
+use layouts::ids::Fid;
+use layouts::qids;
+use layouts::qids::Qid;
 use numbers::Place;
 use strings::Span;
 ghost use Rattle.fields.specs.Fields.{Fields};
-ghost use Rattle.fields.specs.Laying.{Laid, Written};
-ghost use Rattle.messages.specs.Tables.{layoutT, layoutR};
-ghost use Rattle.messages.specs.Records.{tversion, rversion, tauth, rauth, tattach, rattach, tflush, tclunk, rlerror};
-
-pub struct Tversion {
-    pub msize: u32,
-    pub version: Span,
-}
-
-pub struct ReadTversion {
-    pub value: Tversion,
-    pub next: Place,
-}
-
-pub fn read_tversion(s: &[u8], p: Place) -> ReadTversion
-    ensures { λ r. ⌜ Fields (layoutT 100) (now (s .entry)) p (tversion (r .value)) (r .next) ⌝ }
-{
-    let r1 = numbers::read_u32(s, p);
-    let p1 = r1.next;
-    let r2 = strings::read_str(s, p1);
-    let p2 = r2.next;
-    let version = r2.value;
-    let value = Tversion {
-        msize: r1.value,
-        version,
-    };
-    ReadTversion { value, next: p2 }
-}
-
-fn lay_tversion(out: &mut [u8], p: Place, lent: &[u8], m: Tversion, put: bool) -> Place
-    ensures { λ r. ⌜ Laid (layoutT 100) (now (lent .entry)) (tversion m) put (now (out .entry)) p (now (out .exit)) r ⌝ }
-{
-    let p1 = lay::lay_u32(out, p, m.msize, put);
-    let version = m.version;
-    lay::lay_str(out, p1, lent, version, put)
-}
-
-pub fn write_tversion(out: &mut [u8], p: Place, lent: &[u8], m: Tversion) -> Place
-    ensures { λ r. ⌜ Written (layoutT 100) (now (lent .entry)) (tversion m) (now (out .entry)) p (now (out .exit)) r ⌝ }
-{
-    let end = lay_tversion(out, p, lent, m, lay::CHECK);
-    let start = lay::begun(p, end, out.len());
-    lay_tversion(out, start, lent, m, lay::PUT)
-}
-
-pub struct Rversion {
-    pub msize: u32,
-    pub version: Span,
-}
-
-pub struct ReadRversion {
-    pub value: Rversion,
-    pub next: Place,
-}
-
-pub fn read_rversion(s: &[u8], p: Place) -> ReadRversion
-    ensures { λ r. ⌜ Fields (layoutR 101) (now (s .entry)) p (rversion (r .value)) (r .next) ⌝ }
-{
-    let r1 = numbers::read_u32(s, p);
-    let p1 = r1.next;
-    let r2 = strings::read_str(s, p1);
-    let p2 = r2.next;
-    let version = r2.value;
-    let value = Rversion {
-        msize: r1.value,
-        version,
-    };
-    ReadRversion { value, next: p2 }
-}
-
-fn lay_rversion(out: &mut [u8], p: Place, lent: &[u8], m: Rversion, put: bool) -> Place
-    ensures { λ r. ⌜ Laid (layoutR 101) (now (lent .entry)) (rversion m) put (now (out .entry)) p (now (out .exit)) r ⌝ }
-{
-    let p1 = lay::lay_u32(out, p, m.msize, put);
-    let version = m.version;
-    lay::lay_str(out, p1, lent, version, put)
-}
-
-pub fn write_rversion(out: &mut [u8], p: Place, lent: &[u8], m: Rversion) -> Place
-    ensures { λ r. ⌜ Written (layoutR 101) (now (lent .entry)) (rversion m) (now (out .entry)) p (now (out .exit)) r ⌝ }
-{
-    let end = lay_rversion(out, p, lent, m, lay::CHECK);
-    let start = lay::begun(p, end, out.len());
-    lay_rversion(out, start, lent, m, lay::PUT)
-}
+ghost use Rattle.laying.specs.Laying.{Laid, Written};
+ghost use Rattle.layouts.specs.Tables.{layoutT, layoutR};
+ghost use Rattle.messages.specs.Records.{tauth, rauth, tattach, rattach, rlerror};
 
 pub struct Tauth {
     pub afid: Fid,
@@ -133,20 +49,20 @@ fn lay_tauth(out: &mut [u8], p: Place, lent: &[u8], m: Tauth, put: bool) -> Plac
     ensures { λ r. ⌜ Laid (layoutT 102) (now (lent .entry)) (tauth m) put (now (out .entry)) p (now (out .exit)) r ⌝ }
 {
     let afid = m.afid;
-    let p1 = lay::lay_u32(out, p, afid.0, put);
+    let p1 = laying::lay_u32(out, p, afid.0, put);
     let uname = m.uname;
-    let p2 = lay::lay_str(out, p1, lent, uname, put);
+    let p2 = laying::lay_str(out, p1, lent, uname, put);
     let aname = m.aname;
-    let p3 = lay::lay_str(out, p2, lent, aname, put);
-    lay::lay_u32(out, p3, m.n_uname, put)
+    let p3 = laying::lay_str(out, p2, lent, aname, put);
+    laying::lay_u32(out, p3, m.n_uname, put)
 }
 
 pub fn write_tauth(out: &mut [u8], p: Place, lent: &[u8], m: Tauth) -> Place
     ensures { λ r. ⌜ Written (layoutT 102) (now (lent .entry)) (tauth m) (now (out .entry)) p (now (out .exit)) r ⌝ }
 {
-    let end = lay_tauth(out, p, lent, m, lay::CHECK);
-    let start = lay::begun(p, end, out.len());
-    lay_tauth(out, start, lent, m, lay::PUT)
+    let end = lay_tauth(out, p, lent, m, laying::CHECK);
+    let start = laying::begun(p, end, out.len());
+    lay_tauth(out, start, lent, m, laying::PUT)
 }
 
 pub struct Rauth {
@@ -178,9 +94,9 @@ fn lay_rauth(out: &mut [u8], p: Place, lent: &[u8], m: Rauth, put: bool) -> Plac
 pub fn write_rauth(out: &mut [u8], p: Place, lent: &[u8], m: Rauth) -> Place
     ensures { λ r. ⌜ Written (layoutR 103) (now (lent .entry)) (rauth m) (now (out .entry)) p (now (out .exit)) r ⌝ }
 {
-    let end = lay_rauth(out, p, lent, m, lay::CHECK);
-    let start = lay::begun(p, end, out.len());
-    lay_rauth(out, start, lent, m, lay::PUT)
+    let end = lay_rauth(out, p, lent, m, laying::CHECK);
+    let start = laying::begun(p, end, out.len());
+    lay_rauth(out, start, lent, m, laying::PUT)
 }
 
 pub struct Tattach {
@@ -227,22 +143,22 @@ fn lay_tattach(out: &mut [u8], p: Place, lent: &[u8], m: Tattach, put: bool) -> 
     ensures { λ r. ⌜ Laid (layoutT 104) (now (lent .entry)) (tattach m) put (now (out .entry)) p (now (out .exit)) r ⌝ }
 {
     let fid = m.fid;
-    let p1 = lay::lay_u32(out, p, fid.0, put);
+    let p1 = laying::lay_u32(out, p, fid.0, put);
     let afid = m.afid;
-    let p2 = lay::lay_u32(out, p1, afid.0, put);
+    let p2 = laying::lay_u32(out, p1, afid.0, put);
     let uname = m.uname;
-    let p3 = lay::lay_str(out, p2, lent, uname, put);
+    let p3 = laying::lay_str(out, p2, lent, uname, put);
     let aname = m.aname;
-    let p4 = lay::lay_str(out, p3, lent, aname, put);
-    lay::lay_u32(out, p4, m.n_uname, put)
+    let p4 = laying::lay_str(out, p3, lent, aname, put);
+    laying::lay_u32(out, p4, m.n_uname, put)
 }
 
 pub fn write_tattach(out: &mut [u8], p: Place, lent: &[u8], m: Tattach) -> Place
     ensures { λ r. ⌜ Written (layoutT 104) (now (lent .entry)) (tattach m) (now (out .entry)) p (now (out .exit)) r ⌝ }
 {
-    let end = lay_tattach(out, p, lent, m, lay::CHECK);
-    let start = lay::begun(p, end, out.len());
-    lay_tattach(out, start, lent, m, lay::PUT)
+    let end = lay_tattach(out, p, lent, m, laying::CHECK);
+    let start = laying::begun(p, end, out.len());
+    lay_tattach(out, start, lent, m, laying::PUT)
 }
 
 pub struct Rattach {
@@ -274,77 +190,9 @@ fn lay_rattach(out: &mut [u8], p: Place, lent: &[u8], m: Rattach, put: bool) -> 
 pub fn write_rattach(out: &mut [u8], p: Place, lent: &[u8], m: Rattach) -> Place
     ensures { λ r. ⌜ Written (layoutR 105) (now (lent .entry)) (rattach m) (now (out .entry)) p (now (out .exit)) r ⌝ }
 {
-    let end = lay_rattach(out, p, lent, m, lay::CHECK);
-    let start = lay::begun(p, end, out.len());
-    lay_rattach(out, start, lent, m, lay::PUT)
-}
-
-pub struct Tflush {
-    pub oldtag: Tag,
-}
-
-pub struct ReadTflush {
-    pub value: Tflush,
-    pub next: Place,
-}
-
-pub fn read_tflush(s: &[u8], p: Place) -> ReadTflush
-    ensures { λ r. ⌜ Fields (layoutT 108) (now (s .entry)) p (tflush (r .value)) (r .next) ⌝ }
-{
-    let r1 = numbers::read_u16(s, p);
-    let p1 = r1.next;
-    let oldtag = Tag(r1.value);
-    let value = Tflush { oldtag };
-    ReadTflush { value, next: p1 }
-}
-
-fn lay_tflush(out: &mut [u8], p: Place, lent: &[u8], m: Tflush, put: bool) -> Place
-    ensures { λ r. ⌜ Laid (layoutT 108) (now (lent .entry)) (tflush m) put (now (out .entry)) p (now (out .exit)) r ⌝ }
-{
-    let oldtag = m.oldtag;
-    lay::lay_u16(out, p, oldtag.0, put)
-}
-
-pub fn write_tflush(out: &mut [u8], p: Place, lent: &[u8], m: Tflush) -> Place
-    ensures { λ r. ⌜ Written (layoutT 108) (now (lent .entry)) (tflush m) (now (out .entry)) p (now (out .exit)) r ⌝ }
-{
-    let end = lay_tflush(out, p, lent, m, lay::CHECK);
-    let start = lay::begun(p, end, out.len());
-    lay_tflush(out, start, lent, m, lay::PUT)
-}
-
-pub struct Tclunk {
-    pub fid: Fid,
-}
-
-pub struct ReadTclunk {
-    pub value: Tclunk,
-    pub next: Place,
-}
-
-pub fn read_tclunk(s: &[u8], p: Place) -> ReadTclunk
-    ensures { λ r. ⌜ Fields (layoutT 120) (now (s .entry)) p (tclunk (r .value)) (r .next) ⌝ }
-{
-    let r1 = numbers::read_u32(s, p);
-    let p1 = r1.next;
-    let fid = Fid(r1.value);
-    let value = Tclunk { fid };
-    ReadTclunk { value, next: p1 }
-}
-
-fn lay_tclunk(out: &mut [u8], p: Place, lent: &[u8], m: Tclunk, put: bool) -> Place
-    ensures { λ r. ⌜ Laid (layoutT 120) (now (lent .entry)) (tclunk m) put (now (out .entry)) p (now (out .exit)) r ⌝ }
-{
-    let fid = m.fid;
-    lay::lay_u32(out, p, fid.0, put)
-}
-
-pub fn write_tclunk(out: &mut [u8], p: Place, lent: &[u8], m: Tclunk) -> Place
-    ensures { λ r. ⌜ Written (layoutT 120) (now (lent .entry)) (tclunk m) (now (out .entry)) p (now (out .exit)) r ⌝ }
-{
-    let end = lay_tclunk(out, p, lent, m, lay::CHECK);
-    let start = lay::begun(p, end, out.len());
-    lay_tclunk(out, start, lent, m, lay::PUT)
+    let end = lay_rattach(out, p, lent, m, laying::CHECK);
+    let start = laying::begun(p, end, out.len());
+    lay_rattach(out, start, lent, m, laying::PUT)
 }
 
 pub struct Rlerror {
@@ -368,13 +216,13 @@ pub fn read_rlerror(s: &[u8], p: Place) -> ReadRlerror
 fn lay_rlerror(out: &mut [u8], p: Place, lent: &[u8], m: Rlerror, put: bool) -> Place
     ensures { λ r. ⌜ Laid (layoutR 7) (now (lent .entry)) (rlerror m) put (now (out .entry)) p (now (out .exit)) r ⌝ }
 {
-    lay::lay_u32(out, p, m.ecode, put)
+    laying::lay_u32(out, p, m.ecode, put)
 }
 
 pub fn write_rlerror(out: &mut [u8], p: Place, lent: &[u8], m: Rlerror) -> Place
     ensures { λ r. ⌜ Written (layoutR 7) (now (lent .entry)) (rlerror m) (now (out .entry)) p (now (out .exit)) r ⌝ }
 {
-    let end = lay_rlerror(out, p, lent, m, lay::CHECK);
-    let start = lay::begun(p, end, out.len());
-    lay_rlerror(out, start, lent, m, lay::PUT)
+    let end = lay_rlerror(out, p, lent, m, laying::CHECK);
+    let start = laying::begun(p, end, out.len());
+    lay_rlerror(out, start, lent, m, laying::PUT)
 }

@@ -2,8 +2,10 @@
 use Prim.Native.Nat.{ℕ}
 use mathlib.Core.List.{List, []}
 use Rattle.fields.specs.Values.{Value}
-use Rattle.messages.specs.Records.{rversion, rwalk, rread, rwrite, rattach, rauth, rstatfs, rlopen, rlcreate, rsymlink, rmknod, rreadlink, rgetattr, rxattrwalk, rreaddir, rlock, rgetlock, rmkdir, rlerror}
-use Rattle.messages.specs.Bodies.{Answer, accepted, refused}
+use Rattle.common.specs.Records.{rversion, rwalk, rread, rwrite}
+use Rattle.messages.specs.Records.{rattach, rauth, rlopen, rlcreate, rsymlink, rmknod, rreadlink, rreaddir, rmkdir, rlerror}
+use Rattle.metadata.specs.Records.{rstatfs, rgetattr, rxattrwalk, rlock, rgetlock}
+use Rattle.layouts.specs.Bodies.{Answer, accepted, refused}
 use Rattle.replies.specs.declared.Rmessage.{Rmessage}
 use Rattle.replies.specs.declared.Rmessage.the-variants as M
 use Rattle.replies.specs.declared.Rbody.{Rbody}

@@ -1,37 +1,30 @@
 // The 29 replies in one enum: a body read by its type number, and written by its case.
 
-use fields::lay;
-use messages::attributes;
-use messages::attributes::Rgetattr;
-use messages::attributes::Rstatfs;
-use messages::attributes::Rxattrwalk;
-use messages::directories;
+use common::files::Rread;
+use common::files::Rwrite;
+use common::sessions::Rversion;
+use common::walking::Rwalk;
 use messages::directories::Rmkdir;
 use messages::directories::Rmknod;
 use messages::directories::Rreaddir;
 use messages::directories::Rreadlink;
 use messages::directories::Rsymlink;
-use messages::files;
 use messages::files::Rlcreate;
 use messages::files::Rlopen;
-use messages::files::Rread;
-use messages::files::Rwrite;
-use messages::locks;
-use messages::locks::Rgetlock;
-use messages::locks::Rlock;
-use messages::sessions;
 use messages::sessions::Rattach;
 use messages::sessions::Rauth;
 use messages::sessions::Rlerror;
-use messages::sessions::Rversion;
-use messages::walking;
-use messages::walking::Rwalk;
+use metadata::attributes::Rgetattr;
+use metadata::attributes::Rstatfs;
+use metadata::attributes::Rxattrwalk;
+use metadata::locks::Rgetlock;
+use metadata::locks::Rlock;
 use numbers::Place;
 use numbers::Refusal;
 ghost use mathlib.Core.Path.{_≡_};
-ghost use Rattle.fields.specs.Laying.{Written};
-ghost use Rattle.messages.specs.Tables.{tableR, layoutR};
-ghost use Rattle.messages.specs.Bodies.{readBody, finishAt};
+ghost use Rattle.laying.specs.Laying.{Written};
+ghost use Rattle.layouts.specs.Tables.{tableR, layoutR};
+ghost use Rattle.layouts.specs.Bodies.{readBody, finishAt};
 ghost use Rattle.replies.specs.Views.{typeR, valuesR, viewR};
 
 pub enum Rmessage {
@@ -87,84 +80,84 @@ pub fn read_rmessage(s: &[u8], ty: u8, p: Place) -> Rbody
 {
     match ty {
         7 => {
-            let r = sessions::read_rlerror(s, p);
+            let r = messages::sessions::read_rlerror(s, p);
             let m = r.value;
             let e = r.next;
             finish(Rmessage::Lerror(m), e)
         }
         9 => {
-            let r = attributes::read_rstatfs(s, p);
+            let r = metadata::attributes::read_rstatfs(s, p);
             let m = r.value;
             let e = r.next;
             finish(Rmessage::Statfs(m), e)
         }
         13 => {
-            let r = files::read_rlopen(s, p);
+            let r = messages::files::read_rlopen(s, p);
             let m = r.value;
             let e = r.next;
             finish(Rmessage::Lopen(m), e)
         }
         15 => {
-            let r = files::read_rlcreate(s, p);
+            let r = messages::files::read_rlcreate(s, p);
             let m = r.value;
             let e = r.next;
             finish(Rmessage::Lcreate(m), e)
         }
         17 => {
-            let r = directories::read_rsymlink(s, p);
+            let r = messages::directories::read_rsymlink(s, p);
             let m = r.value;
             let e = r.next;
             finish(Rmessage::Symlink(m), e)
         }
         19 => {
-            let r = directories::read_rmknod(s, p);
+            let r = messages::directories::read_rmknod(s, p);
             let m = r.value;
             let e = r.next;
             finish(Rmessage::Mknod(m), e)
         }
         21 => finish(Rmessage::Rename, p),
         23 => {
-            let r = directories::read_rreadlink(s, p);
+            let r = messages::directories::read_rreadlink(s, p);
             let m = r.value;
             let e = r.next;
             finish(Rmessage::Readlink(m), e)
         }
         25 => {
-            let r = attributes::read_rgetattr(s, p);
+            let r = metadata::attributes::read_rgetattr(s, p);
             let m = r.value;
             let e = r.next;
             finish(Rmessage::GetAttr(m), e)
         }
         27 => finish(Rmessage::SetAttr, p),
         31 => {
-            let r = attributes::read_rxattrwalk(s, p);
+            let r = metadata::attributes::read_rxattrwalk(s, p);
             let m = r.value;
             let e = r.next;
             finish(Rmessage::XattrWalk(m), e)
         }
         33 => finish(Rmessage::XattrCreate, p),
         41 => {
-            let r = directories::read_rreaddir(s, p);
+            let r = messages::directories::read_rreaddir(s, p);
             let m = r.value;
             let e = r.next;
             finish(Rmessage::Readdir(m), e)
         }
         51 => finish(Rmessage::Fsync, p),
         53 => {
-            let r = locks::read_rlock(s, p);
+            let r = metadata::locks::read_rlock(s, p);
             let m = r.value;
             let e = r.next;
             finish(Rmessage::Lock(m), e)
         }
         55 => {
-            let r = locks::read_rgetlock(s, p);
+            let r = metadata::locks::read_rgetlock(s, p);
             let m = r.value;
             let e = r.next;
             finish(Rmessage::GetLock(m), e)
         }
         71 => finish(Rmessage::Link, p),
         73 => {
-            let r = directories::read_rmkdir(s, p);
+            let r = messages::directories::read_rmkdir(s, p);
             let m = r.value;
             let e = r.next;
             finish(Rmessage::Mkdir(m), e)
@@ -172,38 +165,38 @@ pub fn read_rmessage(s: &[u8], ty: u8, p: Place) -> Rbody
         75 => finish(Rmessage::RenameAt, p),
         77 => finish(Rmessage::UnlinkAt, p),
         101 => {
-            let r = sessions::read_rversion(s, p);
+            let r = common::sessions::read_rversion(s, p);
             let m = r.value;
             let e = r.next;
             finish(Rmessage::Version(m), e)
         }
         103 => {
-            let r = sessions::read_rauth(s, p);
+            let r = messages::sessions::read_rauth(s, p);
             let m = r.value;
             let e = r.next;
             finish(Rmessage::Auth(m), e)
         }
         105 => {
-            let r = sessions::read_rattach(s, p);
+            let r = messages::sessions::read_rattach(s, p);
             let m = r.value;
             let e = r.next;
             finish(Rmessage::Attach(m), e)
         }
         109 => finish(Rmessage::Flush, p),
         111 => {
-            let r = walking::read_rwalk(s, p);
+            let r = common::walking::read_rwalk(s, p);
             let m = r.value;
             let e = r.next;
             finish(Rmessage::Walk(m), e)
         }
         117 => {
-            let r = files::read_rread(s, p);
+            let r = common::files::read_rread(s, p);
             let m = r.value;
             let e = r.next;
             finish(Rmessage::Read(m), e)
         }
         119 => {
-            let r = files::read_rwrite(s, p);
+            let r = common::files::read_rwrite(s, p);
             let m = r.value;
             let e = r.next;
             finish(Rmessage::Write(m), e)
@@ -256,34 +249,34 @@ pub fn write_rmessage(out: &mut [u8], p: Place, lent: &[u8], m: Rmessage) -> Pla
     ensures { λ r. ⌜ Written (layoutR (typeR m)) (now (lent .entry)) (valuesR m) (now (out .entry)) p (now (out .exit)) r ⌝ }
 {
     match m {
-        Rmessage::Version(x) => sessions::write_rversion(out, p, lent, x),
-        Rmessage::Flush => lay::begun(p, p, out.len()),
-        Rmessage::Walk(x) => walking::write_rwalk(out, p, lent, x),
-        Rmessage::Read(x) => files::write_rread(out, p, lent, x),
-        Rmessage::Write(x) => files::write_rwrite(out, p, lent, x),
-        Rmessage::Clunk => lay::begun(p, p, out.len()),
-        Rmessage::Remove => lay::begun(p, p, out.len()),
-        Rmessage::Attach(x) => sessions::write_rattach(out, p, lent, x),
-        Rmessage::Auth(x) => sessions::write_rauth(out, p, lent, x),
-        Rmessage::Statfs(x) => attributes::write_rstatfs(out, p, lent, x),
-        Rmessage::Lopen(x) => files::write_rlopen(out, p, lent, x),
-        Rmessage::Lcreate(x) => files::write_rlcreate(out, p, lent, x),
-        Rmessage::Symlink(x) => directories::write_rsymlink(out, p, lent, x),
-        Rmessage::Mknod(x) => directories::write_rmknod(out, p, lent, x),
-        Rmessage::Rename => lay::begun(p, p, out.len()),
-        Rmessage::Readlink(x) => directories::write_rreadlink(out, p, lent, x),
-        Rmessage::GetAttr(x) => attributes::write_rgetattr(out, p, lent, x),
-        Rmessage::SetAttr => lay::begun(p, p, out.len()),
-        Rmessage::XattrWalk(x) => attributes::write_rxattrwalk(out, p, lent, x),
-        Rmessage::XattrCreate => lay::begun(p, p, out.len()),
-        Rmessage::Readdir(x) => directories::write_rreaddir(out, p, lent, x),
-        Rmessage::Fsync => lay::begun(p, p, out.len()),
-        Rmessage::Lock(x) => locks::write_rlock(out, p, lent, x),
-        Rmessage::GetLock(x) => locks::write_rgetlock(out, p, lent, x),
-        Rmessage::Link => lay::begun(p, p, out.len()),
-        Rmessage::Mkdir(x) => directories::write_rmkdir(out, p, lent, x),
-        Rmessage::RenameAt => lay::begun(p, p, out.len()),
-        Rmessage::UnlinkAt => lay::begun(p, p, out.len()),
-        Rmessage::Lerror(x) => sessions::write_rlerror(out, p, lent, x),
+        Rmessage::Version(x) => common::sessions::write_rversion(out, p, lent, x),
+        Rmessage::Flush => laying::begun(p, p, out.len()),
+        Rmessage::Walk(x) => common::walking::write_rwalk(out, p, lent, x),
+        Rmessage::Read(x) => common::files::write_rread(out, p, lent, x),
+        Rmessage::Write(x) => common::files::write_rwrite(out, p, lent, x),
+        Rmessage::Clunk => laying::begun(p, p, out.len()),
+        Rmessage::Remove => laying::begun(p, p, out.len()),
+        Rmessage::Attach(x) => messages::sessions::write_rattach(out, p, lent, x),
+        Rmessage::Auth(x) => messages::sessions::write_rauth(out, p, lent, x),
+        Rmessage::Statfs(x) => metadata::attributes::write_rstatfs(out, p, lent, x),
+        Rmessage::Lopen(x) => messages::files::write_rlopen(out, p, lent, x),
+        Rmessage::Lcreate(x) => messages::files::write_rlcreate(out, p, lent, x),
+        Rmessage::Symlink(x) => messages::directories::write_rsymlink(out, p, lent, x),
+        Rmessage::Mknod(x) => messages::directories::write_rmknod(out, p, lent, x),
+        Rmessage::Rename => laying::begun(p, p, out.len()),
+        Rmessage::Readlink(x) => messages::directories::write_rreadlink(out, p, lent, x),
+        Rmessage::GetAttr(x) => metadata::attributes::write_rgetattr(out, p, lent, x),
+        Rmessage::SetAttr => laying::begun(p, p, out.len()),
+        Rmessage::XattrWalk(x) => metadata::attributes::write_rxattrwalk(out, p, lent, x),
+        Rmessage::XattrCreate => laying::begun(p, p, out.len()),
+        Rmessage::Readdir(x) => messages::directories::write_rreaddir(out, p, lent, x),
+        Rmessage::Fsync => laying::begun(p, p, out.len()),
+        Rmessage::Lock(x) => metadata::locks::write_rlock(out, p, lent, x),
+        Rmessage::GetLock(x) => metadata::locks::write_rgetlock(out, p, lent, x),
+        Rmessage::Link => laying::begun(p, p, out.len()),
+        Rmessage::Mkdir(x) => messages::directories::write_rmkdir(out, p, lent, x),
+        Rmessage::RenameAt => laying::begun(p, p, out.len()),
+        Rmessage::UnlinkAt => laying::begun(p, p, out.len()),
+        Rmessage::Lerror(x) => messages::sessions::write_rlerror(out, p, lent, x),
     }
 }

@@ -6,7 +6,7 @@ use mathlib.Core.List.{List}
 use lib.ListN.{getD}
 use lib.Dec.{eqb}
 use Rattle.fields.specs.Values.{Value, val, numOf, startOf, lenOf, countOf}
-use Rattle.messages.specs.Bodies.{Answer, accepted, refused}
+use Rattle.layouts.specs.Bodies.{Answer, accepted, refused}
 use Rattle.requests.specs.Views.{typeT, valuesT, viewT}
 use Rattle.requests.specs.declared.Tmessage.{Tmessage}
 use Rattle.requests.specs.declared.Tmessage.the-variants as M

@@ -2,8 +2,10 @@
 use Prim.Native.Nat.{ℕ}
 use mathlib.Core.List.{List, []}
 use Rattle.fields.specs.Values.{Value}
-use Rattle.messages.specs.Records.{tversion, tflush, twalk, tread, twrite, tclunk, tremove, tattach, tauth, tstatfs, tlopen, tlcreate, tsymlink, tmknod, trename, treadlink, tgetattr, tsetattr, txattrwalk, txattrcreate, treaddir, tfsync, tlock, tgetlock, tlink, tmkdir, trenameat, tunlinkat}
-use Rattle.messages.specs.Bodies.{Answer, accepted, refused}
+use Rattle.common.specs.Records.{tversion, tflush, twalk, tread, twrite, tclunk, tremove}
+use Rattle.messages.specs.Records.{tattach, tauth, tlopen, tlcreate, tsymlink, tmknod, trename, treadlink, treaddir, tfsync, tlink, tmkdir, trenameat, tunlinkat}
+use Rattle.metadata.specs.Records.{tstatfs, tgetattr, tsetattr, txattrwalk, txattrcreate, tlock, tgetlock}
+use Rattle.layouts.specs.Bodies.{Answer, accepted, refused}
 use Rattle.requests.specs.declared.Tmessage.{Tmessage}
 use Rattle.requests.specs.declared.Tmessage.the-variants as M
 use Rattle.requests.specs.declared.Tbody.{Tbody}

@@ -8,10 +8,10 @@ use Rattle.numbers.specs.Reading.{raw, readNum}
 use Rattle.numbers.specs.declared.Refusal.the-variants as R
 use Rattle.fields.specs.Layouts.{readField, readFields, itemBytes, itemsBytes}
 use Rattle.fields.specs.Values.{val, places}
-use Rattle.messages.specs.Tables.{tableT, tableR}
-use Rattle.messages.specs.Bodies.{accepted, refused}
-use Rattle.frames.specs.Frames.{readTypeTag, readHeader, readFrame}
-use Rattle.stretch.specs.Stretch.{answerOf, front, entry, ends, listFrom, listing}
+use Rattle.layouts.specs.Tables.{tableT, tableR}
+use Rattle.layouts.specs.Bodies.{accepted, refused}
+use Rattle.framing.specs.Frames.{readTypeTag, readHeader, readFrame}
+use Rattle.framing.specs.Stretch.{answerOf, front, entry, ends, listFrom, listing}
 use Rattle.stretch.specs.Pairs.{pairs}
 
 pub b-c-k-j :

@@ -12,16 +12,16 @@ use Rattle.numbers.specs.declared.Refusal.the-variants as R
 use Rattle.numbers.specs.declared.Place.{Place}
 use Rattle.numbers.specs.declared.Place.the-variants.{At}
 use Rattle.fields.specs.Values.{Value}
-use Rattle.messages.specs.Tables.{tableT, tableR, layoutT, layoutR}
-use Rattle.messages.specs.Bodies.{accepted, refused}
+use Rattle.layouts.specs.Tables.{tableT, tableR, layoutT, layoutR}
+use Rattle.layouts.specs.Bodies.{accepted, refused}
 use Rattle.requests.specs.Views.{typeT, valuesT, viewT}
 use Rattle.requests.specs.declared.Tmessage.{Tmessage}
 use Rattle.requests.specs.declared.Tbody.the-variants as M
 use Rattle.replies.specs.Views.{typeR, valuesR}
-use Rattle.frames.specs.Frames.{Frame, headless, framed, refusedWhole, readFrame}
-use Rattle.frames.specs.Writing.{FrameWritten}
+use Rattle.framing.specs.Frames.{Frame, headless, framed, refusedWhole, readFrame}
+use Rattle.framing.specs.Writing.{FrameWritten}
 use Rattle.frames.specs.Views.{viewTframe, viewRframe, TbodyWritten, TframeWritten}
-use Rattle.frames.specs.Local.{sizeIn, local}
+use Rattle.framing.specs.Local.{sizeIn, local}
 use Rattle.frames.specs.One.{one-tframe, one-rframe}
 use Rattle.frames.specs.declared.Tframe.{Tframe}
 use Rattle.frames.specs.declared.Rframe.{Rframe}
@@ -29,14 +29,14 @@ use Rattle.frames.specs.declared.ReadTframe.{ReadTframe}
 use Rattle.frames.specs.declared.ReadTframe.the-variants as T
 use Rattle.frames.specs.declared.ReadRframe.{ReadRframe}
 use Rattle.frames.specs.declared.ReadRframe.the-variants as Q
-use Rattle.stretch.specs.Stretch.{typeIn, tagIn, answerIn, answerOf, Listing, entry, ends, stops, listing}
-use Rattle.stretch.specs.ListingLaws.{goesOn, listed, list-step, moves-on}
+use Rattle.framing.specs.Stretch.{typeIn, tagIn, answerIn, answerOf, Listing, entry, ends, stops, listing}
+use Rattle.framing.specs.ListingLaws.{goesOn, listed, list-step, moves-on}
 use Rattle.stretch.specs.Views.{viewBody, viewStep, Asked}
-use Rattle.stretch.specs.Accepted.{Accepts, accepts}
-use Rattle.stretch.specs.ReadBack.{Fits, Back, read-back}
+use Rattle.framing.specs.Accepted.{Accepts, accepts}
+use Rattle.framing.specs.ReadBack.{Fits, Back, read-back}
 use Rattle.stretch.specs.Known.{row-of-request, type-of-request, row-of-reply, type-of-reply}
-use Rattle.stretch.specs.Stripped.{resized, stripped-read, stripped-written, cutAt, cut-short}
-use Rattle.stretch.specs.Demand.{Whole, Edited, oldLines, newLines, old-listed, new-listed, recordsIn, same-records, repeated, accident}
+use Rattle.framing.specs.Stripped.{resized, stripped-read, stripped-written, cutAt, cut-short}
+use Rattle.framing.specs.Demand.{Whole, Edited, oldLines, newLines, old-listed, new-listed, recordsIn, same-records, repeated, accident}
 use Rattle.stretch.specs.declared.Listed.{Listed}
 use Rattle.stretch.specs.declared.Step.{Step}
 use Rattle.stretch.specs.declared.Step.the-variants as S

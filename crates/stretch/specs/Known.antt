@@ -8,7 +8,7 @@ use mathlib.Core.Option.{some}
 use lib.Dec.{ltb, eqb}
 use borrow.Author.Tests.{ltb-true, eqb-true}
 use Rattle.fields.specs.Layouts.{Layout}
-use Rattle.messages.specs.Tables.{Row, row, tableT, tableR, layoutT, layoutR, lookup}
+use Rattle.layouts.specs.Tables.{Row, row, tableT, tableR, layoutT, layoutR, lookup}
 use Rattle.requests.specs.Views.{typeT}
 use Rattle.requests.specs.declared.Tmessage.{Tmessage}
 use Rattle.requests.specs.declared.Tmessage.the-variants as M

@@ -1,15 +1,9 @@
-pub mod Stretch
 pub mod Views
 pub mod Pairs
 pub mod StepLaws
 pub mod PairLaws
-pub mod ListingLaws
 pub mod One
 pub mod Examples
-pub mod Accepted
-pub mod Stripped
-pub mod Demand
-pub mod ReadBack
 pub mod Known
 pub mod Functions
 pub mod TablesBack

@@ -7,14 +7,10 @@ use lib.ListN.{length}
 use Rattle.numbers.specs.PlaceLaws.{one-answer}
 use Rattle.requests.specs.Built.{one-body}
 use Rattle.replies.specs.Built.{one-body as one-reply}
-use Rattle.messages.specs.declared.ids.Tag.{Tag}
-use Rattle.stretch.specs.Stretch.{typeIn, tagIn}
-use Rattle.stretch.specs.Views.{viewBody, Way, between, CutAt, viewStep, StepWay, Asked}
-use Rattle.stretch.specs.StepLaws.{length-whole}
+use Rattle.layouts.specs.declared.ids.Tag.{Tag}
+use Rattle.stretch.specs.Views.{viewBody, Way, viewStep, StepWay, Asked}
 use Rattle.stretch.specs.declared.Body.{Body}
 use Rattle.stretch.specs.declared.Body.the-variants as B
-use Rattle.stretch.specs.declared.Cut.{Cut}
-use Rattle.stretch.specs.declared.Cut.the-variants as C
 use Rattle.stretch.specs.declared.Listed.{Listed}
 use Rattle.stretch.specs.declared.Step.{Step}
 use Rattle.stretch.specs.declared.Step.the-variants as S
@@ -54,21 +50,3 @@ same-step (S.Refused k p) (S.End q) e v w = absurd (let z : _≡_ {A = ℕ} 0 1 
 
 pub step-one : {s : List ℕ} {p : ℕ} (r r' : Step) → Asked s p r → Asked s p r' → r ≡ r'
 step-one r r' a b = same-step r r' (one-answer (a .is) (b .is)) (a .way) (b .way)
-
-pub cut-one : (s : List ℕ) (p : ℕ) (r r' : Cut) → CutAt s p r → CutAt s p r' → r ≡ r'
-unfolding CutAt
-cut-one s p (C.Whole k g e) (C.Whole j h d) v w =
-    let q = one-answer (v .is) (w .is) in
-    let a : typeIn (between p e s) ≡ typeIn (between p d s) = cc q in
-    let b : tagIn (between p e s) ≡ tagIn (between p d s) = cc q in
-    let n : length (between p e s) ≡ length (between p d s) = cc q in
-    let z : e ≡ d = (let x = length-whole v in let y = length-whole w in let l = v .seven in let m = w .seven in omega arith) in
-    rw (v .ty ∙ a ∙ sym (w .ty), v .tag ∙ b ∙ sym (w .tag), z)
-cut-one s p C.End C.End v w = refl
-cut-one s p (C.Refused k) (C.Refused j) v w = let q = one-answer v w in let a : k ≡ j = cc q in ap C.Refused a
-cut-one s p (C.Whole k g e) C.End v w = absurd (let q = one-answer (v .is) w in let z : _≡_ {A = ℕ} 0 1 = cc q in omega arith)
-cut-one s p (C.Whole k g e) (C.Refused j) v w = absurd (let q = one-answer (v .is) w in let z : _≡_ {A = ℕ} 0 1 = cc q in omega arith)
-cut-one s p C.End (C.Whole j h d) v w = absurd (let q = one-answer v (w .is) in let z : _≡_ {A = ℕ} 0 1 = cc q in omega arith)
-cut-one s p C.End (C.Refused j) v w = absurd (let q = one-answer v w in let z : _≡_ {A = ℕ} 0 1 = cc q in omega arith)
-cut-one s p (C.Refused k) (C.Whole j h d) v w = absurd (let q = one-answer v (w .is) in let z : _≡_ {A = ℕ} 0 1 = cc q in omega arith)
-cut-one s p (C.Refused k) C.End v w = absurd (let q = one-answer v w in let z : _≡_ {A = ℕ} 0 1 = cc q in omega arith)

@@ -9,7 +9,7 @@ use lib.Dec.{eqb}
 use types.Run.{OneOf}
 use borrow.Author.Tests.{eq-eqb, ne-eqb}
 use Rattle.fields.specs.Layouts.{Layout}
-use Rattle.messages.specs.Tables.{Row, row, lookup, tableT}
+use Rattle.layouts.specs.Tables.{Row, row, lookup, tableT}
 use Rattle.stretch.specs.Pairs.{knows, pairs}
 
 abbrev pub keys : List Row → List ℕ

@@ -5,7 +5,7 @@ use mathlib.Core.List.{List}
 use mathlib.Core.Option.{Option, none, some}
 use lib.Dec.{eqb}
 use Rattle.fields.specs.Layouts.{Layout}
-use Rattle.messages.specs.Tables.{Row, lookup}
+use Rattle.layouts.specs.Tables.{Row, lookup}
 
 abbrev has : Option Layout → Bool
 has none = false

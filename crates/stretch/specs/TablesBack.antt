@@ -17,15 +17,15 @@ use Rattle.strings.specs.Strings.{stringBytes}
 use Rattle.strings.specs.Spans.{showString}
 use Rattle.fields.specs.Layouts.{Item, number, string, strings, qids, manyBytes, itemBytes, itemsBytes, AllGood, Goods}
 use Rattle.fields.specs.Values.{val, span, places, show, shows}
-use Rattle.messages.specs.Tables.{Row, tableT, tableR}
-use Rattle.messages.specs.Bodies.{accepted}
-use Rattle.messages.specs.declared.qids.Qid.{Qid}
-use Rattle.frames.specs.Frames.{framed, readFrame}
-use Rattle.frames.specs.Writing.{headBytes, frameOut, framePast}
-use Rattle.frames.specs.Tables.{TableWritten, fromTable, nameFields, nameValues, walkFields, walkValues, TwalkWritten, qidItems, RwalkWritten}
-use Rattle.frames.specs.QidLaws.{qidsBytes, qids-length}
-use Rattle.stretch.specs.Accepted.{Stands, reads-frame}
-use Rattle.stretch.specs.ReadBack.{good-text, Wrote, wrote}
+use Rattle.layouts.specs.Tables.{Row, tableT, tableR}
+use Rattle.layouts.specs.Bodies.{accepted}
+use Rattle.layouts.specs.declared.qids.Qid.{Qid}
+use Rattle.framing.specs.Frames.{framed, readFrame}
+use Rattle.framing.specs.Writing.{headBytes, frameOut, framePast}
+use Rattle.tables.specs.Tables.{TableWritten, fromTable, nameFields, nameValues, walkFields, walkValues, TwalkWritten, qidItems, RwalkWritten}
+use Rattle.tables.specs.QidLaws.{qidsBytes, qids-length}
+use Rattle.framing.specs.Accepted.{Stands, reads-frame}
+use Rattle.framing.specs.ReadBack.{good-text, Wrote, wrote}
 
 -- what a table that was written had: no more elements than a vector may
 in-table : (k : ℕ) (m : Result (List Item)) {ty tag n : ℕ} {o o' : List ℕ} → TableWritten ty tag (fromTable k m) o o' (At n) → (k ≤ 65535) × Wrote m ty tag o o' n

@@ -1,19 +1,16 @@
 -- What the answers of the stretch's functions say.
-use Prim.Native.Nat.{ℕ, _+_, _-_, _%_, _≤_}
+use Prim.Native.Nat.{ℕ, _-_, _%_}
 use mathlib.Core.Path.{_≡_}
 use mathlib.Core.List.{List}
-use lib.ListN.{length, take, drop}
+use lib.ListN.{length}
 use Rattle.numbers.specs.declared.Place.the-variants.{At}
-use Rattle.messages.specs.Tables.{tableT, tableR}
-use Rattle.messages.specs.Bodies.{Answer, readBody}
+use Rattle.layouts.specs.Tables.{tableT, tableR}
+use Rattle.layouts.specs.Bodies.{Answer, readBody}
 use Rattle.requests.specs.Views.{viewT}
 use Rattle.replies.specs.Views.{viewR}
-use Rattle.frames.specs.Local.{sizeIn}
-use Rattle.stretch.specs.Stretch.{typeIn, tagIn, tableFor, tailIn, Step, frame, end, stop, frameOf, frameAt}
+use Rattle.framing.specs.Stretch.{tableFor, tailIn, Step, frame, end, stop, frameAt}
 use Rattle.stretch.specs.declared.Body.{Body}
 use Rattle.stretch.specs.declared.Body.the-variants as B
-use Rattle.stretch.specs.declared.Cut.{Cut}
-use Rattle.stretch.specs.declared.Cut.the-variants as C
 use Rattle.stretch.specs.declared.Listed.{Listed}
 use Rattle.stretch.specs.declared.Step.{Step as Answered}
 use Rattle.stretch.specs.declared.Step.the-variants as S
@@ -35,25 +32,6 @@ pub record BodyOf (f : List ℕ) (ty : ℕ) (b : Body) : Type 0 where
 -- where the fields end, so far that what is left of the size is the tail
 pub record Leaves (size : ℕ) (a : Answer) (used : ℕ) : Type 0 where
   pub is : size - used ≡ tailIn size a
-
--- the bytes from a position to the next
-abbrev pub between : ℕ → ℕ → List ℕ → List ℕ
-between p e s = take (e - p) (drop p s)
-
--- a whole frame from p to e, of the size that it declares; k is its type and g its tag
-pub record Whole (s : List ℕ) (p k g e : ℕ) : Type 0 where
-  pub seven : p + 7 ≤ e
-  pub held : e ≤ length s
-  pub size : sizeIn (between p e s) ≡ e - p
-  pub ty : k ≡ typeIn (between p e s)
-  pub tag : g ≡ tagIn (between p e s)
-  pub is : frameOf tableT tableR p (between p e s) ≡ frameAt tableT tableR s p
-
--- how a stretch is cut at a position
-unfoldable pub CutAt : List ℕ → ℕ → Cut → Type 0
-CutAt s p (C.Whole ty tag e) = Whole s p ty tag e
-CutAt s p C.End = end p ≡ frameAt tableT tableR s p
-CutAt s p (C.Refused k) = stop k p ≡ frameAt tableT tableR s p
 
 -- a frame of the bytes f, the type k and the tag g, that stands from p to e
 pub record ListedAs (f : List ℕ) (k g p e : ℕ) (l : Listed) : Type 0 where

@@ -1,14 +1,15 @@
 // A stretch: frames back to back. One frame at a position, and which reply answers which request.
 
-use messages::ids::Tag;
+use framing::Cut;
+use layouts::ids::Tag;
 use numbers::Place;
 use numbers::Refusal;
 use replies::Rbody;
 use requests::Tbody;
 ghost use mathlib.Core.Path.{_≡_};
 ghost use Prim.Native.Nat.{_-_};
-ghost use Rattle.messages.specs.Tables.{tableT};
-ghost use Rattle.stretch.specs.Views.{BodyOf, Leaves, viewBody, ListedAs, CutAt, Asked};
+ghost use Rattle.layouts.specs.Tables.{tableT};
+ghost use Rattle.stretch.specs.Views.{BodyOf, Leaves, viewBody, ListedAs, Asked};
 ghost use Rattle.stretch.specs.Pairs.{knows, pairs};
 
 // What a frame's body comes to: that of a request if the type is even, else that of a reply.
@@ -87,47 +88,11 @@ fn whole_frame(frame: &[u8], ty: u8, tag: u16, at: usize, next: usize) -> Listed
     }
 }
 
-// How a stretch is cut at a position: a whole frame, told by its type, its tag and the next position; the end; or 12, 13. Its body is
-// not looked at.
-pub enum Cut {
-    Whole(u8, u16, usize),
-    End,
-    Refused(Refusal),
-}
-
-pub fn cut_at(bytes: &[u8], position: usize) -> Cut
-    ensures { λ r. ⌜ CutAt (now (bytes .entry)) position r ⌝ }
-{
-    if bytes.len() < position {
-        return Cut::Refused(Refusal::StretchCut);
-    }
-    if bytes.len() == position {
-        return Cut::End;
-    }
-    let size = numbers::read_u32(bytes, Place::At(position));
-    let a = size.next;
-    let Place::At(_) = a else {
-        return Cut::Refused(Refusal::StretchCut);
-    };
-    if size.value < 7 {
-        return Cut::Refused(Refusal::StretchSize);
-    }
-    let len = size.value as usize;
-    if numbers::within(position, len, bytes.len()) {
-        let next = position + len;
-        let frame = &bytes[position..next];
-        let ty = numbers::read_u8(frame, Place::At(4));
-        let tag = numbers::read_u16(frame, Place::At(5));
-        return Cut::Whole(ty.value, tag.value, next);
-    }
-    Cut::Refused(Refusal::StretchCut)
-}
-
 // One frame and the next position; or the end; or 12, 13 with the position.
 pub fn frame_at(bytes: &[u8], position: usize) -> Step
     ensures { λ r. ⌜ Asked (now (bytes .entry)) position r ⌝ }
 {
-    let cut = cut_at(bytes, position);
+    let cut = framing::cut_at(bytes, position);
     match cut {
         Cut::Whole(ty, tag, next) => {
             Step::Frame(whole_frame(&bytes[position..next], ty, tag, position, next))

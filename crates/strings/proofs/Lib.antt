@@ -1,3 +1,1 @@
-pub mod Rows
-pub mod Texts
 pub mod Ways

@@ -18,7 +18,7 @@ use Rattle.numbers.specs.declared.Refusal.{Refusal}
 use Rattle.numbers.specs.declared.Refusal.the-variants as R
 use Rattle.numbers.specs.declared.Place.{Place}
 use Rattle.numbers.specs.declared.Place.the-variants.{At, Refused}
-use Rattle.strings.specs.Utf8.{utf8, noZero}
+use Rattle.utf8.specs.Utf8.{utf8, noZero}
 use Rattle.strings.specs.Strings.{okText, readString, stringBytes}
 use Rattle.strings.specs.SpanLaws.{first-refuses, shown-in, shown-out, shown-length, passed, whole, passing, string-at, start-bad, string-held, string-short, text-refused, text-passed}
 use Rattle.strings.specs.Spans.{bytesIn, showSpan, showString, checkAt, Shown, TextCheck, SpanCheck, StrCheck, startIn, strStart, strLen, pastStr, StrRead, SpanPut, StrPut}

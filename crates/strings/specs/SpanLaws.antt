@@ -16,7 +16,7 @@ use Rattle.numbers.specs.declared.Refusal.{Refusal}
 use Rattle.numbers.specs.declared.Refusal.the-variants as R
 use Rattle.numbers.specs.declared.Place.{Place}
 use Rattle.numbers.specs.declared.Place.the-variants.{At, Refused}
-use Rattle.strings.specs.Utf8.{utf8, noZero}
+use Rattle.utf8.specs.Utf8.{utf8, noZero}
 use Rattle.strings.specs.Strings.{okText, readString}
 use Rattle.strings.specs.Spans.{showSpan, showString, checkAt, TextCheck, SpanCheck, StrCheck, startIn}
 

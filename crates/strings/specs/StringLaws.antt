@@ -10,7 +10,7 @@ use Rattle.numbers.specs.ReadingLaws.{Reads, reads-raw, reads-then, reads-after
 use Rattle.numbers.specs.PlaceLaws.{one-answer}
 use Rattle.numbers.specs.declared.Refusal.the-variants as R
 use Rattle.numbers.specs.declared.Place.{Place}
-use Rattle.strings.specs.Utf8.{CharAt, utf8, noZero}
+use Rattle.utf8.specs.Utf8.{CharAt, utf8, noZero}
 use Rattle.strings.specs.Strings.{okText, readString, stringBytes, GoodText}
 use Rattle.strings.specs.Spans.{TextCheck, Shown, SpanCheck, StrCheck, StrRead}
 

@@ -7,7 +7,7 @@ use lib.ListN.{length}
 use Rattle.numbers.specs.Numbers.{toLE}
 use Rattle.numbers.specs.Reading.{Result, ok, bad, after, raw, readNum}
 use Rattle.numbers.specs.declared.Refusal.the-variants as R
-use Rattle.strings.specs.Utf8.{utf8, noZero}
+use Rattle.utf8.specs.Utf8.{utf8, noZero}
 
 -- the check of a string's bytes: UTF-8 over the whole string first (5), then the zero byte (6)
 abbrev pub okText : List ℕ → List ℕ → Result (List ℕ)

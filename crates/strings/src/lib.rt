@@ -1,14 +1,12 @@
 // Strings: n[2] and n bytes of well-formed UTF-8 with no zero byte, read and put by spans.
 
-pub mod utf8;
-
 use numbers::Place;
 use numbers::Refusal;
 ghost use mathlib.Core.Path.{_≡_};
 ghost use Prim.Native.Nat.{_+_, _≤_, min};
 ghost use lib.ListN.{length, take, drop};
 ghost use Rattle.numbers.specs.Places.{over};
-ghost use Rattle.strings.specs.Spans.{Shown, SpanCheck, StrCheck, StrRead, SpanPut, StrPut};
+ghost use Rattle.strings.specs.Spans.{TextCheck, Shown, SpanCheck, StrCheck, StrRead, SpanPut, StrPut};
 
 // A part of some bytes: where it starts among them, and its length.
 pub struct Span {
@@ -20,6 +18,26 @@ pub struct Span {
 pub struct ReadSpan {
     pub value: Span,
     pub next: Place,
+}
+
+// The check of a string's bytes: the place itself; or 5, then 6.
+pub fn check_text(s: &[u8], p: Place) -> Place
+    ensures { λ r. ⌜ TextCheck (now (s .entry)) p r ⌝ }
+{
+    let Place::At(_) = p else {
+        return p;
+    };
+    let e = utf8::extremes_of(s);
+    if 128 <= e.high {
+        let well_formed = utf8::all_characters(s);
+        if !well_formed {
+            return Place::Refused(Refusal::NotUtf8);
+        }
+    }
+    if e.low == 0 {
+        return Place::Refused(Refusal::ZeroByte);
+    }
+    p
 }
 
 // The part of the lent bytes that a span shows; the empty part where it lies outside them.
@@ -59,7 +77,7 @@ pub fn check_str(lent: &[u8], v: Span, p: Place) -> Place
     if 65535 < v.len {
         return Place::Refused(Refusal::StringTooLong);
     }
-    utf8::check_text(shown(lent, v), q)
+    check_text(shown(lent, v), q)
 }
 
 // A string at a place: count, bytes, UTF-8, zero byte.
@@ -78,7 +96,7 @@ pub fn read_str(s: &[u8], p: Place) -> ReadSpan
     let len = count.value as usize;
     if numbers::within(start, len, s.len()) {
         let end = start + len;
-        let q = utf8::check_text(&s[start..end], Place::At(end));
+        let q = check_text(&s[start..end], Place::At(end));
         let Place::At(_) = q else {
             return ReadSpan {
                 value: none,

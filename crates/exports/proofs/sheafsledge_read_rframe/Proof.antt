@@ -2,8 +2,8 @@ use borrow.Author.Needs.{needs}
 use mathlib.Core.Path.{sym, _∙_}
 use lib.Seq.{length-take-le}
 use Rattle.numbers.specs.Numbers.{bytes-all}
-use Rattle.messages.specs.Tables.{tableR}
-use Rattle.frames.specs.FrameLaws.{head-yes}
+use Rattle.layouts.specs.Tables.{tableR}
+use Rattle.framing.specs.HeaderLaws.{head-yes}
 use Rattle.exports.specs.ReadingLaws.{none-kept, frame-kept, reply-headless, reply-flat}
 use Rattle.exports.proofs.sheafsledge_read_rframe.Statement.{statement}
 use Rattle.exports.proofs.sheafsledge_read_rframe.Tie as tie

@@ -2,8 +2,8 @@ use borrow.Author.Needs.{needs}
 use mathlib.Core.Path.{sym, _∙_}
 use lib.Seq.{length-take-le}
 use Rattle.numbers.specs.Numbers.{bytes-all}
-use Rattle.messages.specs.Tables.{tableT}
-use Rattle.frames.specs.FrameLaws.{head-yes}
+use Rattle.layouts.specs.Tables.{tableT}
+use Rattle.framing.specs.HeaderLaws.{head-yes}
 use Rattle.exports.specs.ReadingLaws.{none-kept, frame-kept, request-headless, request-flat}
 use Rattle.exports.proofs.sheafsledge_read_tframe.Statement.{statement}
 use Rattle.exports.proofs.sheafsledge_read_tframe.Tie as tie

@@ -1,5 +1,5 @@
 -- Each arm is the row of its number; the rest is a number that has no row.
-use Rattle.messages.specs.Tables.{tableR}
+use Rattle.layouts.specs.Tables.{tableR}
 use Rattle.replies.specs.Views.{valuesR, viewR}
 use Rattle.flat.specs.FlatLaws.{known-from, unknown-from}
 use Rattle.flat_replies.proofs.rbody_of.Statement.{statement}

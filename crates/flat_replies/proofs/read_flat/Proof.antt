@@ -1,6 +1,6 @@
 -- Each arm is the row of its number, laid flat; the rest is a number that has no row.
 use Rattle.fields.specs.Fields.{valuesAt, pastFields}
-use Rattle.messages.specs.Tables.{tableR}
+use Rattle.layouts.specs.Tables.{tableR}
 use Rattle.flat.specs.FlatLaws.{flat-known, flat-unknown}
 use Rattle.flat_replies.proofs.read_flat.Statement.{statement}
 use Rattle.flat_replies.proofs.read_flat.Tie as tie

@@ -1,6 +1,6 @@
 -- Each arm is the row of its number, laid flat; the rest is a number that has no row.
 use mathlib.Core.Path.{refl}
-use Rattle.messages.specs.Tables.{tableT}
+use Rattle.layouts.specs.Tables.{tableT}
 use Rattle.flat.specs.FlatLaws.{flat-known, flat-unknown}
 use Rattle.flat_requests.proofs.read_flat.Statement.{statement}
 use Rattle.flat_requests.proofs.read_flat.Tie as tie

@@ -1,5 +1,5 @@
 -- Each arm is the row of its number; the rest is a number that has no row.
-use Rattle.messages.specs.Tables.{tableT}
+use Rattle.layouts.specs.Tables.{tableT}
 use Rattle.requests.specs.Views.{valuesT, viewT}
 use Rattle.flat.specs.FlatLaws.{known-from, unknown-from}
 use Rattle.flat_requests.proofs.tbody_of.Statement.{statement}

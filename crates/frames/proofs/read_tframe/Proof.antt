@@ -2,7 +2,8 @@ use borrow.Author.Needs.{needs}
 use mathlib.Core.Path.{sym}
 use lib.Seq.{length-take-le}
 use Rattle.numbers.specs.Numbers.{bytes-all}
-use Rattle.frames.specs.FrameLaws.{head-yes, tframe-no, tframe-yes}
+use Rattle.framing.specs.HeaderLaws.{head-yes}
+use Rattle.frames.specs.FrameLaws.{tframe-no, tframe-yes}
 use Rattle.frames.proofs.read_tframe.Statement.{statement}
 use Rattle.frames.proofs.read_tframe.Tie as tie
 

@@ -1,5 +1,5 @@
 use borrow.Author.Needs.{needs}
-use Rattle.frames.specs.WritingLaws.{frame-as}
+use Rattle.framing.specs.WritingLaws.{frame-as}
 use Rattle.frames.proofs.write_rframe.Statement.{statement}
 use Rattle.frames.proofs.write_rframe.Tie as tie
 

@@ -1,5 +1,6 @@
 use borrow.Author.Needs.{needs}
-use Rattle.frames.specs.WritingLaws.{frame-as, request-written, request-refused}
+use Rattle.framing.specs.WritingLaws.{frame-as}
+use Rattle.frames.specs.RequestLaws.{request-written, request-refused}
 use Rattle.frames.proofs.write_tframe.Statement.{statement}
 use Rattle.frames.proofs.write_tframe.Tie as tie
 

@@ -2,8 +2,8 @@
 use Prim.Native.Nat.{ℕ}
 use mathlib.Core.Path.{_∙_}
 use Rattle.fields.specs.FieldLaws.{done}
-use Rattle.messages.specs.Tables.{tableR}
-use Rattle.messages.specs.BodyLaws.{known-body, unknown-body}
+use Rattle.layouts.specs.Tables.{tableR}
+use Rattle.layouts.specs.BodyLaws.{known-body, unknown-body}
 use Rattle.replies.specs.Views.{valuesR, viewR}
 use Rattle.replies.proofs.read_rmessage.Statement.{statement}
 use Rattle.replies.proofs.read_rmessage.Tie as tie

@@ -1,6 +1,6 @@
 -- Each arm is the record that its case holds.
 use borrow.Author.Needs.{needs}
-use Rattle.fields.specs.WritingLaws.{written-nothing}
+use Rattle.laying.specs.WritingLaws.{written-nothing}
 use Rattle.replies.specs.Views.{valuesR}
 use Rattle.replies.proofs.write_rmessage.Statement.{statement}
 use Rattle.replies.proofs.write_rmessage.Tie as tie

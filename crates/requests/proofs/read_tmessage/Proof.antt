@@ -2,8 +2,8 @@
 use Prim.Native.Nat.{ℕ}
 use mathlib.Core.Path.{_∙_}
 use Rattle.fields.specs.FieldLaws.{done}
-use Rattle.messages.specs.Tables.{tableT}
-use Rattle.messages.specs.BodyLaws.{known-body, unknown-body}
+use Rattle.layouts.specs.Tables.{tableT}
+use Rattle.layouts.specs.BodyLaws.{known-body, unknown-body}
 use Rattle.requests.specs.Views.{valuesT, viewT}
 use Rattle.requests.proofs.read_tmessage.Statement.{statement}
 use Rattle.requests.proofs.read_tmessage.Tie as tie

@@ -1,6 +1,6 @@
 use borrow.Author.Needs.{needs}
 use mathlib.Core.Path.{sym, _∙_}
-use Rattle.messages.specs.Tables.{tableT}
+use Rattle.layouts.specs.Tables.{tableT}
 use Rattle.stretch.specs.PairLaws.{other-tag, same-tag, no-request}
 use Rattle.stretch.proofs.answers.Statement.{statement}
 use Rattle.stretch.proofs.answers.Tie as tie

@@ -1,7 +1,9 @@
 use borrow.Author.Needs.{needs}
 use native.Mathlib.Omega.{arith}
 use Rattle.numbers.specs.Numbers.{bytes-all}
-use Rattle.stretch.specs.StepLaws.{cut-whole, cut-end, cut-stop, at-frame, asked-end, asked-stop}
+use Rattle.layouts.specs.Tables.{tableT, tableR}
+use Rattle.framing.specs.CutLaws.{cut-whole, cut-end, cut-stop}
+use Rattle.stretch.specs.StepLaws.{at-frame, asked-end, asked-stop}
 use Rattle.stretch.proofs.frame_at.Statement.{statement}
 use Rattle.stretch.proofs.frame_at.Tie as tie
 
@@ -31,10 +33,10 @@ returns c =
     at-frame _ b (cut-whole _ _ (a .cut-at .ensures) (k .cut .given .1)) (c .whole-frame .ensures)
 
 returns-2 : tie.Need-returns-2
-returns-2 c = asked-end (cut-end _ _ (c .before .before .cut-at .ensures) (c .enum-told .given .1))
+returns-2 c = asked-end (cut-end _ _ (c .before .before .cut-at .ensures) (c .enum-told .given .1) tableT tableR)
 
 returns-3 : tie.Need-returns-3
-returns-3 c = asked-stop (cut-stop _ _ (c .before .before .before .cut-at .ensures) (c .before .cut2 .given .1))
+returns-3 c = asked-stop (cut-stop _ _ (c .before .before .before .cut-at .ensures) (c .before .cut2 .given .1) tableT tableR)
 
 pub frame-at-spec : {M : Type 1} → statement M
 frame-at-spec =

@@ -1,4 +1,4 @@
-use Rattle.messages.specs.Tables.{tableT}
+use Rattle.layouts.specs.Tables.{tableT}
 use Rattle.stretch.specs.PairLaws.{known, unknown}
 use Rattle.stretch.proofs.known_request.Statement.{statement}
 use Rattle.stretch.proofs.known_request.Tie as tie

@@ -1,5 +1,5 @@
 use borrow.Author.Needs.{needs}
-use Rattle.fields.specs.Elements.{viewElement}
+use Rattle.laying.specs.Elements.{viewElement}
 use Rattle.exports.proofs.walks.flat_span.Statement.{statement}
 use Rattle.exports.proofs.walks.flat_span.Tie as tie
 

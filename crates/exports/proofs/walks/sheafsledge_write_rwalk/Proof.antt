@@ -36,24 +36,24 @@ use denote.Triple.Spec.{Meets, tripleOf}
 use denote.Triple.Table.{entered, cited}
 use denote.Triple.Walked.{says, Stays, gave-slice, stay-dropped, walkOf, Walks, ends-at, walked, goes-gave-slice, goes-dropped, walk-meets}
 use denote.Exit.{yes}
-use Rattle.messages.specs.declared.qids.Qid.{Qid}
-use Rattle.messages.specs.declared.ids.Tag.{Tag}
+use Rattle.layouts.specs.declared.qids.Qid.{Qid}
+use Rattle.layouts.specs.declared.ids.Tag.{Tag}
 use Rattle.numbers.specs.declared.Place.{Place}
 use Rattle.exports.specs.declared.Wrote.{Wrote}
-use Rattle.frames.specs.Tables.{RwalkWritten}
+use Rattle.tables.specs.Tables.{RwalkWritten}
 use Rattle.exports.specs.Answers.{wroteOf}
 use Rattle.exports.specs.Walks.{table-wrote}
-use Rattle.messages.proofs.qids.Qid as T
-use Rattle.messages.proofs.ids.Tag as G
-use Rattle.messages.proofs.ids.Tag.Laws as G′
+use Rattle.layouts.proofs.qids.Qid as T
+use Rattle.layouts.proofs.ids.Tag as G
+use Rattle.layouts.proofs.ids.Tag.Laws as G′
 use Rattle.numbers.proofs.Place as O
 use Rattle.numbers.proofs.Place.Laws as O′
 use Rattle.exports.proofs.Wrote as An
 use Rattle.exports.proofs.Wrote.Laws as An′
-use Rattle.frames.proofs.tables.write_rwalk as puts
-use Rattle.frames.proofs.tables.write_rwalk.Symbol as puts-def
-use Rattle.frames.proofs.tables.write_rwalk.Symbol.{name as #write-rwalk}
-use Rattle.frames.proofs.tables.write_rwalk.Met as puts-thm
+use Rattle.tables.proofs.write_rwalk as puts
+use Rattle.tables.proofs.write_rwalk.Symbol as puts-def
+use Rattle.tables.proofs.write_rwalk.Symbol.{name as #write-rwalk}
+use Rattle.tables.proofs.write_rwalk.Met as puts-thm
 use Rattle.exports.proofs.wrote_of as ans
 use Rattle.exports.proofs.wrote_of.Symbol as ans-def
 use Rattle.exports.proofs.wrote_of.Symbol.{name as #wrote-of}
@@ -187,5 +187,5 @@ sheafsledge-write-rwalk-spec 𝓤 H 𝓜 𝓖 𝓡 =
     entered 𝓤 H (tripleOf 𝓤 H (𝓖 .A) f.signature (f.spec 𝓤 H (𝓖 .A) (𝓜 .mem) (𝓡 .run)))
     (tables 𝓤 H 𝓜 𝓡 code.env .C) (tables 𝓤 H 𝓜 𝓡 code.env .Λ) #self code.function (code.unfolded 𝓤 H 𝓜 𝓡)
     (rwalk-meets 𝓤 H (𝓖 .A) (givenOf 𝓤 H 𝓜 𝓖) (𝓜 .mem) (𝓡 .run) (tablesOf 𝓤 H 𝓜 (tables 𝓤 H 𝓜 𝓡 code.env))
-    (cited 𝓤 H (Puts 𝓤 H (𝓖 .A) (𝓜 .mem) (𝓡 .run)) 𝓜 𝓡 code.env #write-rwalk puts-def.routine code.calls-frames·tables·write-rwalk (puts-thm.met 𝓤 H 𝓜 𝓖 𝓡))
+    (cited 𝓤 H (Puts 𝓤 H (𝓖 .A) (𝓜 .mem) (𝓡 .run)) 𝓜 𝓡 code.env #write-rwalk puts-def.routine code.calls-tables·write-rwalk (puts-thm.met 𝓤 H 𝓜 𝓖 𝓡))
     (cited 𝓤 H (Ans 𝓤 H (𝓖 .A) (𝓜 .mem) (𝓡 .run)) 𝓜 𝓡 code.env #wrote-of ans-def.routine code.calls-exports·wrote-of (ans-thm.met 𝓤 H 𝓜 𝓖 𝓡)))

@@ -1,4 +1,4 @@
-use Rattle.fields.specs.LayingLaws.{lay, laid-none, laid-length}
+use Rattle.laying.specs.LayingLaws.{lay, laid-none, laid-length}
 use Rattle.messages.proofs.directories.lay_rreadlink.Statement.{statement}
 use Rattle.messages.proofs.directories.lay_rreadlink.Tie as tie
 

@@ -1,4 +1,4 @@
-use Rattle.fields.specs.LayingLaws.{lay-num, lay, laid-none, laid-length}
+use Rattle.laying.specs.LayingLaws.{lay-num, lay, laid-none, laid-length}
 use Rattle.messages.proofs.directories.lay_tsymlink.Statement.{statement}
 use Rattle.messages.proofs.directories.lay_tsymlink.Tie as tie
 

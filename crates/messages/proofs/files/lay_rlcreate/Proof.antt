@@ -1,4 +1,4 @@
-use Rattle.fields.specs.LayingLaws.{lay-num, lay, lay-qid, laid-none, laid-length}
+use Rattle.laying.specs.LayingLaws.{lay-num, lay, lay-qid, laid-none, laid-length}
 use Rattle.messages.proofs.files.lay_rlcreate.Statement.{statement}
 use Rattle.messages.proofs.files.lay_rlcreate.Tie as tie
 

@@ -1,6 +1,6 @@
 use borrow.Author.Needs.{needs}
 use Rattle.numbers.specs.Numbers.{bytes-all}
-use Rattle.fields.specs.WritingLaws.{written}
+use Rattle.laying.specs.WritingLaws.{written}
 use Rattle.messages.proofs.files.write_tfsync.Statement.{statement}
 use Rattle.messages.proofs.files.write_tfsync.Tie as tie
 

@@ -1,4 +1,4 @@
-use Rattle.fields.specs.LayingLaws.{lay-qid, laid-none, laid-length}
+use Rattle.laying.specs.LayingLaws.{lay-qid, laid-none, laid-length}
 use Rattle.messages.proofs.sessions.lay_rauth.Statement.{statement}
 use Rattle.messages.proofs.sessions.lay_rauth.Tie as tie
 

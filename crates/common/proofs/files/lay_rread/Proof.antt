@@ -1,0 +1,14 @@
+use Rattle.laying.specs.LayingLaws.{lay, laid-none, laid-length}
+use Rattle.common.proofs.files.lay_rread.Statement.{statement}
+use Rattle.common.proofs.files.lay_rread.Tie as tie
+
+returns : tie.Need-returns
+returns c =
+    let c1 = c .before .before in
+    lay (c1 .lay-data .ensures) laid-none
+
+same-length : tie.Need-same-length
+same-length c = laid-length (returns c)
+
+pub lay-rread-spec : {M : Type 1} → statement M
+lay-rread-spec = tie.close (tie.spec (λ _ _. tt) same-length returns)

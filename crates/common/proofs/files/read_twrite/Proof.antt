@@ -1,0 +1,13 @@
+use Rattle.fields.specs.FieldLaws.{number-field, field, done}
+use Rattle.common.proofs.files.read_twrite.Statement.{statement}
+use Rattle.common.proofs.files.read_twrite.Tie as tie
+
+returns : tie.Need-returns
+returns c =
+    let c3 = c .before in
+    let c2 = c3 .before in
+    let c1 = c2 .before in
+    field (number-field (c1 .read-u32 .ensures)) (field (number-field (c2 .read-u64 .ensures)) (field (c3 .read-data .ensures) done))
+
+pub read-twrite-spec : {M : Type 1} → statement M
+read-twrite-spec = tie.close (tie.spec (λ _ _. tt) (λ _ _. tt) (λ _ _. tt) returns)

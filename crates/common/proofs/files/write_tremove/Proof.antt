@@ -1,0 +1,18 @@
+use borrow.Author.Needs.{needs}
+use Rattle.numbers.specs.Numbers.{bytes-all}
+use Rattle.laying.specs.WritingLaws.{written}
+use Rattle.common.proofs.files.write_tremove.Statement.{statement}
+use Rattle.common.proofs.files.write_tremove.Tie as tie
+
+same-length : tie.Need-same-length
+same-length c = search needs
+
+returns : tie.Need-returns
+returns c =
+    let d = c .before .before .before .before in
+    let e = d .before .before .before in
+    let b = bytes-all (e .before .before .before .before .args .lent .now) (λ i. e .before .before .shared-slice-known .given i .fits) in
+    written b (e .lay-tremove .ensures) (d .begun .ensures) (c .before .before .lay-tremove2 .ensures)
+
+pub write-tremove-spec : {M : Type 1} → statement M
+write-tremove-spec = tie.close (tie.spec (λ _ _. tt) (λ _ _. tt) (λ _ _. tt) same-length returns)

@@ -1,0 +1,15 @@
+use Rattle.laying.specs.LayingLaws.{lay-num, lay, laid-none, laid-length}
+use Rattle.common.proofs.sessions.lay_rversion.Statement.{statement}
+use Rattle.common.proofs.sessions.lay_rversion.Tie as tie
+
+returns : tie.Need-returns
+returns c =
+    let c2 = c .before .before in
+    let c1 = c2 .before .before .before .before .before in
+    lay (lay-num (c1 .lay-u32 .ensures)) (lay (c2 .lay-str .ensures) laid-none)
+
+same-length : tie.Need-same-length
+same-length c = laid-length (returns c)
+
+pub lay-rversion-spec : {M : Type 1} → statement M
+lay-rversion-spec = tie.close (tie.spec (λ _ _. tt) (λ _ _. tt) same-length returns)

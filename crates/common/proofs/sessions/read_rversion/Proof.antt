@@ -1,0 +1,12 @@
+use Rattle.fields.specs.FieldLaws.{number-field, string-field, field, done}
+use Rattle.common.proofs.sessions.read_rversion.Statement.{statement}
+use Rattle.common.proofs.sessions.read_rversion.Tie as tie
+
+returns : tie.Need-returns
+returns c =
+    let c2 = c .before in
+    let c1 = c2 .before in
+    field (number-field (c1 .read-u32 .ensures)) (field (string-field (c2 .read-str .ensures)) done)
+
+pub read-rversion-spec : {M : Type 1} → statement M
+read-rversion-spec = tie.close (tie.spec (λ _ _. tt) (λ _ _. tt) returns)

@@ -1,0 +1,14 @@
+use Rattle.laying.specs.LayingLaws.{lay, laid-none, laid-length}
+use Rattle.common.proofs.walking.lay_rwalk.Statement.{statement}
+use Rattle.common.proofs.walking.lay_rwalk.Tie as tie
+
+returns : tie.Need-returns
+returns c =
+    let c1 = c .before .before in
+    lay (c1 .lay-qids .ensures) laid-none
+
+same-length : tie.Need-same-length
+same-length c = laid-length (returns c)
+
+pub lay-rwalk-spec : {M : Type 1} → statement M
+lay-rwalk-spec = tie.close (tie.spec (λ _ _. tt) same-length returns)

@@ -1,0 +1,203 @@
+// Files, as every dialect reads, writes and removes them.
+
+use layouts::ids::Fid;
+use numbers::Place;
+use strings::Span;
+ghost use Rattle.fields.specs.Fields.{Fields};
+ghost use Rattle.laying.specs.Laying.{Laid, Written};
+ghost use Rattle.layouts.specs.Tables.{layoutT, layoutR};
+ghost use Rattle.common.specs.Records.{tread, rread, twrite, rwrite, tremove};
+
+pub struct Tread {
+    pub fid: Fid,
+    pub offset: u64,
+    pub count: u32,
+}
+
+pub struct ReadTread {
+    pub value: Tread,
+    pub next: Place,
+}
+
+pub fn read_tread(s: &[u8], p: Place) -> ReadTread
+    ensures { λ r. ⌜ Fields (layoutT 116) (now (s .entry)) p (tread (r .value)) (r .next) ⌝ }
+{
+    let r1 = numbers::read_u32(s, p);
+    let p1 = r1.next;
+    let fid = Fid(r1.value);
+    let r2 = numbers::read_u64(s, p1);
+    let p2 = r2.next;
+    let r3 = numbers::read_u32(s, p2);
+    let p3 = r3.next;
+    let value = Tread {
+        fid,
+        offset: r2.value,
+        count: r3.value,
+    };
+    ReadTread { value, next: p3 }
+}
+
+fn lay_tread(out: &mut [u8], p: Place, lent: &[u8], m: Tread, put: bool) -> Place
+    ensures { λ r. ⌜ Laid (layoutT 116) (now (lent .entry)) (tread m) put (now (out .entry)) p (now (out .exit)) r ⌝ }
+{
+    let fid = m.fid;
+    let p1 = laying::lay_u32(out, p, fid.0, put);
+    let p2 = laying::lay_u64(out, p1, m.offset, put);
+    laying::lay_u32(out, p2, m.count, put)
+}
+
+pub fn write_tread(out: &mut [u8], p: Place, lent: &[u8], m: Tread) -> Place
+    ensures { λ r. ⌜ Written (layoutT 116) (now (lent .entry)) (tread m) (now (out .entry)) p (now (out .exit)) r ⌝ }
+{
+    let end = lay_tread(out, p, lent, m, laying::CHECK);
+    let start = laying::begun(p, end, out.len());
+    lay_tread(out, start, lent, m, laying::PUT)
+}
+
+pub struct Rread {
+    pub data: Span,
+}
+
+pub struct ReadRread {
+    pub value: Rread,
+    pub next: Place,
+}
+
+pub fn read_rread(s: &[u8], p: Place) -> ReadRread
+    ensures { λ r. ⌜ Fields (layoutR 117) (now (s .entry)) p (rread (r .value)) (r .next) ⌝ }
+{
+    let r1 = fields::read_data(s, p);
+    let p1 = r1.next;
+    let data = r1.value;
+    let value = Rread { data };
+    ReadRread { value, next: p1 }
+}
+
+fn lay_rread(out: &mut [u8], p: Place, lent: &[u8], m: Rread, put: bool) -> Place
+    ensures { λ r. ⌜ Laid (layoutR 117) (now (lent .entry)) (rread m) put (now (out .entry)) p (now (out .exit)) r ⌝ }
+{
+    let data = m.data;
+    laying::lay_data(out, p, lent, data, put)
+}
+
+pub fn write_rread(out: &mut [u8], p: Place, lent: &[u8], m: Rread) -> Place
+    ensures { λ r. ⌜ Written (layoutR 117) (now (lent .entry)) (rread m) (now (out .entry)) p (now (out .exit)) r ⌝ }
+{
+    let end = lay_rread(out, p, lent, m, laying::CHECK);
+    let start = laying::begun(p, end, out.len());
+    lay_rread(out, start, lent, m, laying::PUT)
+}
+
+pub struct Twrite {
+    pub fid: Fid,
+    pub offset: u64,
+    pub data: Span,
+}
+
+pub struct ReadTwrite {
+    pub value: Twrite,
+    pub next: Place,
+}
+
+pub fn read_twrite(s: &[u8], p: Place) -> ReadTwrite
+    ensures { λ r. ⌜ Fields (layoutT 118) (now (s .entry)) p (twrite (r .value)) (r .next) ⌝ }
+{
+    let r1 = numbers::read_u32(s, p);
+    let p1 = r1.next;
+    let fid = Fid(r1.value);
+    let r2 = numbers::read_u64(s, p1);
+    let p2 = r2.next;
+    let r3 = fields::read_data(s, p2);
+    let p3 = r3.next;
+    let data = r3.value;
+    let value = Twrite {
+        fid,
+        offset: r2.value,
+        data,
+    };
+    ReadTwrite { value, next: p3 }
+}
+
+fn lay_twrite(out: &mut [u8], p: Place, lent: &[u8], m: Twrite, put: bool) -> Place
+    ensures { λ r. ⌜ Laid (layoutT 118) (now (lent .entry)) (twrite m) put (now (out .entry)) p (now (out .exit)) r ⌝ }
+{
+    let fid = m.fid;
+    let p1 = laying::lay_u32(out, p, fid.0, put);
+    let p2 = laying::lay_u64(out, p1, m.offset, put);
+    let data = m.data;
+    laying::lay_data(out, p2, lent, data, put)
+}
+
+pub fn write_twrite(out: &mut [u8], p: Place, lent: &[u8], m: Twrite) -> Place
+    ensures { λ r. ⌜ Written (layoutT 118) (now (lent .entry)) (twrite m) (now (out .entry)) p (now (out .exit)) r ⌝ }
+{
+    let end = lay_twrite(out, p, lent, m, laying::CHECK);
+    let start = laying::begun(p, end, out.len());
+    lay_twrite(out, start, lent, m, laying::PUT)
+}
+
+pub struct Rwrite {
+    pub count: u32,
+}
+
+pub struct ReadRwrite {
+    pub value: Rwrite,
+    pub next: Place,
+}
+
+pub fn read_rwrite(s: &[u8], p: Place) -> ReadRwrite
+    ensures { λ r. ⌜ Fields (layoutR 119) (now (s .entry)) p (rwrite (r .value)) (r .next) ⌝ }
+{
+    let r1 = numbers::read_u32(s, p);
+    let p1 = r1.next;
+    let value = Rwrite { count: r1.value };
+    ReadRwrite { value, next: p1 }
+}
+
+fn lay_rwrite(out: &mut [u8], p: Place, lent: &[u8], m: Rwrite, put: bool) -> Place
+    ensures { λ r. ⌜ Laid (layoutR 119) (now (lent .entry)) (rwrite m) put (now (out .entry)) p (now (out .exit)) r ⌝ }
+{
+    laying::lay_u32(out, p, m.count, put)
+}
+
+pub fn write_rwrite(out: &mut [u8], p: Place, lent: &[u8], m: Rwrite) -> Place
+    ensures { λ r. ⌜ Written (layoutR 119) (now (lent .entry)) (rwrite m) (now (out .entry)) p (now (out .exit)) r ⌝ }
+{
+    let end = lay_rwrite(out, p, lent, m, laying::CHECK);
+    let start = laying::begun(p, end, out.len());
+    lay_rwrite(out, start, lent, m, laying::PUT)
+}
+
+pub struct Tremove {
+    pub fid: Fid,
+}
+
+pub struct ReadTremove {
+    pub value: Tremove,
+    pub next: Place,
+}
+
+pub fn read_tremove(s: &[u8], p: Place) -> ReadTremove
+    ensures { λ r. ⌜ Fields (layoutT 122) (now (s .entry)) p (tremove (r .value)) (r .next) ⌝ }
+{
+    let r1 = numbers::read_u32(s, p);
+    let p1 = r1.next;
+    let fid = Fid(r1.value);
+    let value = Tremove { fid };
+    ReadTremove { value, next: p1 }
+}
+
+fn lay_tremove(out: &mut [u8], p: Place, lent: &[u8], m: Tremove, put: bool) -> Place
+    ensures { λ r. ⌜ Laid (layoutT 122) (now (lent .entry)) (tremove m) put (now (out .entry)) p (now (out .exit)) r ⌝ }
+{
+    let fid = m.fid;
+    laying::lay_u32(out, p, fid.0, put)
+}
+
+pub fn write_tremove(out: &mut [u8], p: Place, lent: &[u8], m: Tremove) -> Place
+    ensures { λ r. ⌜ Written (layoutT 122) (now (lent .entry)) (tremove m) (now (out .entry)) p (now (out .exit)) r ⌝ }
+{
+    let end = lay_tremove(out, p, lent, m, laying::CHECK);
+    let start = laying::begun(p, end, out.len());
+    lay_tremove(out, start, lent, m, laying::PUT)
+}

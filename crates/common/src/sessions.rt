@@ -1,0 +1,160 @@
+// Opening and closing a session, as every dialect does: version, flush, clunk.
+
+use layouts::ids::Fid;
+use layouts::ids::Tag;
+use numbers::Place;
+use strings::Span;
+ghost use Rattle.fields.specs.Fields.{Fields};
+ghost use Rattle.laying.specs.Laying.{Laid, Written};
+ghost use Rattle.layouts.specs.Tables.{layoutT, layoutR};
+ghost use Rattle.common.specs.Records.{tversion, rversion, tflush, tclunk};
+
+pub struct Tversion {
+    pub msize: u32,
+    pub version: Span,
+}
+
+pub struct ReadTversion {
+    pub value: Tversion,
+    pub next: Place,
+}
+
+pub fn read_tversion(s: &[u8], p: Place) -> ReadTversion
+    ensures { λ r. ⌜ Fields (layoutT 100) (now (s .entry)) p (tversion (r .value)) (r .next) ⌝ }
+{
+    let r1 = numbers::read_u32(s, p);
+    let p1 = r1.next;
+    let r2 = strings::read_str(s, p1);
+    let p2 = r2.next;
+    let version = r2.value;
+    let value = Tversion {
+        msize: r1.value,
+        version,
+    };
+    ReadTversion { value, next: p2 }
+}
+
+fn lay_tversion(out: &mut [u8], p: Place, lent: &[u8], m: Tversion, put: bool) -> Place
+    ensures { λ r. ⌜ Laid (layoutT 100) (now (lent .entry)) (tversion m) put (now (out .entry)) p (now (out .exit)) r ⌝ }
+{
+    let p1 = laying::lay_u32(out, p, m.msize, put);
+    let version = m.version;
+    laying::lay_str(out, p1, lent, version, put)
+}
+
+pub fn write_tversion(out: &mut [u8], p: Place, lent: &[u8], m: Tversion) -> Place
+    ensures { λ r. ⌜ Written (layoutT 100) (now (lent .entry)) (tversion m) (now (out .entry)) p (now (out .exit)) r ⌝ }
+{
+    let end = lay_tversion(out, p, lent, m, laying::CHECK);
+    let start = laying::begun(p, end, out.len());
+    lay_tversion(out, start, lent, m, laying::PUT)
+}
+
+pub struct Rversion {
+    pub msize: u32,
+    pub version: Span,
+}
+
+pub struct ReadRversion {
+    pub value: Rversion,
+    pub next: Place,
+}
+
+pub fn read_rversion(s: &[u8], p: Place) -> ReadRversion
+    ensures { λ r. ⌜ Fields (layoutR 101) (now (s .entry)) p (rversion (r .value)) (r .next) ⌝ }
+{
+    let r1 = numbers::read_u32(s, p);
+    let p1 = r1.next;
+    let r2 = strings::read_str(s, p1);
+    let p2 = r2.next;
+    let version = r2.value;
+    let value = Rversion {
+        msize: r1.value,
+        version,
+    };
+    ReadRversion { value, next: p2 }
+}
+
+fn lay_rversion(out: &mut [u8], p: Place, lent: &[u8], m: Rversion, put: bool) -> Place
+    ensures { λ r. ⌜ Laid (layoutR 101) (now (lent .entry)) (rversion m) put (now (out .entry)) p (now (out .exit)) r ⌝ }
+{
+    let p1 = laying::lay_u32(out, p, m.msize, put);
+    let version = m.version;
+    laying::lay_str(out, p1, lent, version, put)
+}
+
+pub fn write_rversion(out: &mut [u8], p: Place, lent: &[u8], m: Rversion) -> Place
+    ensures { λ r. ⌜ Written (layoutR 101) (now (lent .entry)) (rversion m) (now (out .entry)) p (now (out .exit)) r ⌝ }
+{
+    let end = lay_rversion(out, p, lent, m, laying::CHECK);
+    let start = laying::begun(p, end, out.len());
+    lay_rversion(out, start, lent, m, laying::PUT)
+}
+
+pub struct Tflush {
+    pub oldtag: Tag,
+}
+
+pub struct ReadTflush {
+    pub value: Tflush,
+    pub next: Place,
+}
+
+pub fn read_tflush(s: &[u8], p: Place) -> ReadTflush
+    ensures { λ r. ⌜ Fields (layoutT 108) (now (s .entry)) p (tflush (r .value)) (r .next) ⌝ }
+{
+    let r1 = numbers::read_u16(s, p);
+    let p1 = r1.next;
+    let oldtag = Tag(r1.value);
+    let value = Tflush { oldtag };
+    ReadTflush { value, next: p1 }
+}
+
+fn lay_tflush(out: &mut [u8], p: Place, lent: &[u8], m: Tflush, put: bool) -> Place
+    ensures { λ r. ⌜ Laid (layoutT 108) (now (lent .entry)) (tflush m) put (now (out .entry)) p (now (out .exit)) r ⌝ }
+{
+    let oldtag = m.oldtag;
+    laying::lay_u16(out, p, oldtag.0, put)
+}
+
+pub fn write_tflush(out: &mut [u8], p: Place, lent: &[u8], m: Tflush) -> Place
+    ensures { λ r. ⌜ Written (layoutT 108) (now (lent .entry)) (tflush m) (now (out .entry)) p (now (out .exit)) r ⌝ }
+{
+    let end = lay_tflush(out, p, lent, m, laying::CHECK);
+    let start = laying::begun(p, end, out.len());
+    lay_tflush(out, start, lent, m, laying::PUT)
+}
+
+pub struct Tclunk {
+    pub fid: Fid,
+}
+
+pub struct ReadTclunk {
+    pub value: Tclunk,
+    pub next: Place,
+}
+
+pub fn read_tclunk(s: &[u8], p: Place) -> ReadTclunk
+    ensures { λ r. ⌜ Fields (layoutT 120) (now (s .entry)) p (tclunk (r .value)) (r .next) ⌝ }
+{
+    let r1 = numbers::read_u32(s, p);
+    let p1 = r1.next;
+    let fid = Fid(r1.value);
+    let value = Tclunk { fid };
+    ReadTclunk { value, next: p1 }
+}
+
+fn lay_tclunk(out: &mut [u8], p: Place, lent: &[u8], m: Tclunk, put: bool) -> Place
+    ensures { λ r. ⌜ Laid (layoutT 120) (now (lent .entry)) (tclunk m) put (now (out .entry)) p (now (out .exit)) r ⌝ }
+{
+    let fid = m.fid;
+    laying::lay_u32(out, p, fid.0, put)
+}
+
+pub fn write_tclunk(out: &mut [u8], p: Place, lent: &[u8], m: Tclunk) -> Place
+    ensures { λ r. ⌜ Written (layoutT 120) (now (lent .entry)) (tclunk m) (now (out .entry)) p (now (out .exit)) r ⌝ }
+{
+    let end = lay_tclunk(out, p, lent, m, laying::CHECK);
+    let start = laying::begun(p, end, out.len());
+    lay_tclunk(out, start, lent, m, laying::PUT)
+}

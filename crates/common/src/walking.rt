@@ -1,0 +1,93 @@
+// Walking from a fid to another: names in the request, a qid for each step in the reply.
+
+use fields::Part;
+use layouts::ids::Fid;
+use numbers::Place;
+ghost use Rattle.fields.specs.Fields.{Fields};
+ghost use Rattle.laying.specs.Laying.{Laid, Written};
+ghost use Rattle.layouts.specs.Tables.{layoutT, layoutR};
+ghost use Rattle.common.specs.Records.{twalk, rwalk};
+
+pub struct Twalk {
+    pub fid: Fid,
+    pub newfid: Fid,
+    pub wnames: Part,
+}
+
+pub struct ReadTwalk {
+    pub value: Twalk,
+    pub next: Place,
+}
+
+pub fn read_twalk(s: &[u8], p: Place) -> ReadTwalk
+    ensures { λ r. ⌜ Fields (layoutT 110) (now (s .entry)) p (twalk (r .value)) (r .next) ⌝ }
+{
+    let r1 = numbers::read_u32(s, p);
+    let p1 = r1.next;
+    let fid = Fid(r1.value);
+    let r2 = numbers::read_u32(s, p1);
+    let p2 = r2.next;
+    let newfid = Fid(r2.value);
+    let r3 = fields::read_names(s, p2);
+    let p3 = r3.next;
+    let wnames = r3.value;
+    let value = Twalk {
+        fid,
+        newfid,
+        wnames,
+    };
+    ReadTwalk { value, next: p3 }
+}
+
+fn lay_twalk(out: &mut [u8], p: Place, lent: &[u8], m: Twalk, put: bool) -> Place
+    ensures { λ r. ⌜ Laid (layoutT 110) (now (lent .entry)) (twalk m) put (now (out .entry)) p (now (out .exit)) r ⌝ }
+{
+    let fid = m.fid;
+    let p1 = laying::lay_u32(out, p, fid.0, put);
+    let newfid = m.newfid;
+    let p2 = laying::lay_u32(out, p1, newfid.0, put);
+    let wnames = m.wnames;
+    laying::lay_names(out, p2, lent, wnames, put)
+}
+
+pub fn write_twalk(out: &mut [u8], p: Place, lent: &[u8], m: Twalk) -> Place
+    ensures { λ r. ⌜ Written (layoutT 110) (now (lent .entry)) (twalk m) (now (out .entry)) p (now (out .exit)) r ⌝ }
+{
+    let end = lay_twalk(out, p, lent, m, laying::CHECK);
+    let start = laying::begun(p, end, out.len());
+    lay_twalk(out, start, lent, m, laying::PUT)
+}
+
+pub struct Rwalk {
+    pub wqids: Part,
+}
+
+pub struct ReadRwalk {
+    pub value: Rwalk,
+    pub next: Place,
+}
+
+pub fn read_rwalk(s: &[u8], p: Place) -> ReadRwalk
+    ensures { λ r. ⌜ Fields (layoutR 111) (now (s .entry)) p (rwalk (r .value)) (r .next) ⌝ }
+{
+    let r1 = fields::read_qids(s, p);
+    let p1 = r1.next;
+    let wqids = r1.value;
+    let value = Rwalk { wqids };
+    ReadRwalk { value, next: p1 }
+}
+
+fn lay_rwalk(out: &mut [u8], p: Place, lent: &[u8], m: Rwalk, put: bool) -> Place
+    ensures { λ r. ⌜ Laid (layoutR 111) (now (lent .entry)) (rwalk m) put (now (out .entry)) p (now (out .exit)) r ⌝ }
+{
+    let wqids = m.wqids;
+    laying::lay_qids(out, p, lent, wqids, put)
+}
+
+pub fn write_rwalk(out: &mut [u8], p: Place, lent: &[u8], m: Rwalk) -> Place
+    ensures { λ r. ⌜ Written (layoutR 111) (now (lent .entry)) (rwalk m) (now (out .entry)) p (now (out .exit)) r ⌝ }
+{
+    let end = lay_rwalk(out, p, lent, m, laying::CHECK);
+    let start = laying::begun(p, end, out.len());
+    lay_rwalk(out, start, lent, m, laying::PUT)
+}

@@ -1,0 +1,16 @@
+pub mod Frames
+pub mod Writing
+pub mod Local
+pub mod Stretch
+pub mod Headers
+pub mod Cuts
+pub mod HeaderLaws
+pub mod WritingLaws
+pub mod CutLaws
+pub mod One
+pub mod Examples
+pub mod ListingLaws
+pub mod Accepted
+pub mod Stripped
+pub mod Demand
+pub mod ReadBack

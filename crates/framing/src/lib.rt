@@ -1,0 +1,110 @@
+// Where a frame begins and ends: its header read and put, and a stretch of frames cut by their sizes. No body is looked at here, and no table
+// of types; the definition of a frame and of a stretch, over any tables, and what is proved of it stand in this crate's specs.
+
+use numbers::Place;
+use numbers::Refusal;
+ghost use mathlib.Core.Path.{_≡_};
+ghost use Prim.Native.Nat.{min};
+ghost use Rattle.framing.specs.Writing.{HeadPut};
+ghost use Rattle.framing.specs.Headers.{TypeTag, HeadIs};
+ghost use Rattle.framing.specs.Cuts.{CutAt};
+
+// A header: how many bytes of the slice are the frame's, its type and its tag; or why it can't be read.
+pub enum Head {
+    Held(usize, u8, u16),
+    Refused(Refusal),
+}
+
+fn lesser(a: usize, b: usize) -> usize
+    ensures { λ r. ⌜ r ≡ min a b ⌝ }
+{
+    if b < a {
+        return b;
+    }
+    a
+}
+
+// Behind the size: the type and the tag, of the frame's own bytes.
+fn type_and_tag(held: &[u8]) -> Head
+    ensures { λ r. ⌜ TypeTag (now (held .entry)) r ⌝ }
+{
+    let t = numbers::read_u8(held, Place::At(4));
+    let a = t.next;
+    let g = numbers::read_u16(held, a);
+    let b = g.next;
+    match b {
+        Place::At(_) => Head::Held(held.len(), t.value, g.value),
+        Place::Refused(k) => Head::Refused(k),
+    }
+}
+
+// size[4]; size 0 to 3 refused; type; tag.
+pub fn read_header(s: &[u8]) -> Head
+    ensures { λ r. ⌜ HeadIs (now (s .entry)) r ⌝ }
+{
+    let size = numbers::read_u32(s, Place::At(0));
+    let a = size.next;
+    match a {
+        Place::At(_) => {
+            if size.value < 4 {
+                return Head::Refused(Refusal::SizeBelowFour);
+            }
+            let limit = lesser(size.value as usize, s.len());
+            type_and_tag(&s[..limit])
+        }
+        Place::Refused(k) => Head::Refused(k),
+    }
+}
+
+// The header in front of a body that ends at `end`: 11 where there is no room for it, and nothing is put where the body was refused. Size
+// counts itself, so it is that end.
+pub fn put_header(out: &mut [u8], end: Place, ty: u8, tag: u16) -> Place
+    ensures { λ r. ⌜ HeadPut ty tag end (now (out .entry)) (now (out .exit)) r ⌝ }
+{
+    let Place::At(n) = end else {
+        return end;
+    };
+    if out.len() < 7 {
+        return Place::Refused(Refusal::NoRoom);
+    }
+    let a = numbers::put_num(out, Place::At(0), n as u64, 4);
+    let b = numbers::put_u8(out, a, ty);
+    numbers::put_u16(out, b, tag);
+    Place::At(n)
+}
+
+// How a stretch is cut at a position: a whole frame, told by its type, its tag and the next position; the end; or 12, 13. Its body is
+// not looked at.
+pub enum Cut {
+    Whole(u8, u16, usize),
+    End,
+    Refused(Refusal),
+}
+
+pub fn cut_at(bytes: &[u8], position: usize) -> Cut
+    ensures { λ r. ⌜ CutAt (now (bytes .entry)) position r ⌝ }
+{
+    if bytes.len() < position {
+        return Cut::Refused(Refusal::StretchCut);
+    }
+    if bytes.len() == position {
+        return Cut::End;
+    }
+    let size = numbers::read_u32(bytes, Place::At(position));
+    let a = size.next;
+    let Place::At(_) = a else {
+        return Cut::Refused(Refusal::StretchCut);
+    };
+    if size.value < 7 {
+        return Cut::Refused(Refusal::StretchSize);
+    }
+    let len = size.value as usize;
+    if numbers::within(position, len, bytes.len()) {
+        let next = position + len;
+        let frame = &bytes[position..next];
+        let ty = numbers::read_u8(frame, Place::At(4));
+        let tag = numbers::read_u16(frame, Place::At(5));
+        return Cut::Whole(ty.value, tag.value, next);
+    }
+    Cut::Refused(Refusal::StretchCut)
+}

@@ -1,0 +1,181 @@
+-- The ways that the two passes over a field go: one law for each way out, over plain variables.
+use Prim.Native.Nat.{ℕ, suc, _+_, _-_, _*_, _≤_, _<_, min}
+use native.Mathlib.Omega.{arith}
+use mathlib.Core.Path.{_≡_, refl, sym, ap, ap₂, _∙_}
+use mathlib.Core.Bool.{Bool, true, false, cond}
+use mathlib.Core.List.{List, [], _∷_, _++_, append-nil}
+use lib.ListN.{length, take, drop, length-append, length-drop}
+use lib.Seq.{length-take-le}
+use lib.Dec.{leb, eqb}
+use borrow.Author.Tests.{eq-eqb, ne-eqb, lt-ltb, le-ltb, le-leb, lt-leb}
+use Rattle.numbers.specs.Numbers.{Bytes, toLE, length-toLE, bytes-take, bytes-drop}
+use Rattle.numbers.specs.Reading.{Result, ok, bad, after}
+use Rattle.numbers.specs.ReadingLaws.{after-inv, cond-inv, Took}
+use Rattle.numbers.specs.Places.{restAt, putAt, pastPut, Put}
+use Rattle.numbers.specs.declared.Refusal.{Refusal}
+use Rattle.numbers.specs.declared.Refusal.the-variants as R
+use Rattle.numbers.specs.declared.Place.{Place}
+use Rattle.numbers.specs.declared.Place.the-variants.{At, Refused}
+use Rattle.strings.specs.Strings.{stringBytes}
+use Rattle.strings.specs.Spans.{bytesIn, showSpan, showString, checkAt, Shown, SpanCheck, StrCheck, SpanPut}
+use Rattle.strings.specs.SpanLaws.{check-inv, first-refuses, passed, whole, shown-length, span-inv, shown-in, string-inv}
+use Rattle.fields.specs.Layouts.{Field, num, str, dat, strs, quids, Item, number, string, bytes, strings, qids, readMany, manyBytes, itemBytes}
+use Rattle.fields.specs.LayoutLaws.{took-many}
+use Rattle.laying.specs.LayingLaws.{Unless, behind}
+use Rattle.fields.specs.Values.{Value, val, span, part, startOf, lenOf, cutOff, wholePart, show}
+use Rattle.fields.specs.Fields.{ManyRead}
+use Rattle.laying.specs.Laying.{limit, advance, sizeIn, checkField, headWidth, headOf, putField, pastPutField, FieldLaid, NumLaid, Advanced, CountedPut, ShowCheck, filledAt, Filled, settledAt, Settled, Begun}
+
+-- ---- a place on
+
+pub on-refused : {n : ℕ} {p : Place} {k : Refusal} → p ≡ Refused k → Advanced n p p
+on-refused e = record { is = rw e }
+
+pub on-over : {n a : ℕ} {p : Place} → p ≡ At a → limit ≤ a + n → Advanced n p (At limit)
+on-over {n} {a} e h = record { is = rw e (ap At (omega arith)) }
+
+pub on-within : {n a : ℕ} {p : Place} → p ≡ At a → a + n ≤ limit → Advanced n p (At (a + n))
+on-within {n} {a} e h = record { is = rw e (ap At (omega arith)) }
+
+twice : (m n : ℕ) (p : Place) → advance n (advance m p) ≡ advance (m + n) p
+twice m n (At a) = ap At (omega arith)
+twice m n (Refused k) = refl
+
+-- ---- the second pass
+
+pub number-put : {w x : ℕ} {o o' : List ℕ} {p q : Place} → Put (toLE w x) o p o' q → NumLaid w x true o p o' q
+number-put a = record { bytes = a .bytes; next = a .next }
+
+pub number-measured : {w x : ℕ} {o : List ℕ} {p q : Place} → Advanced w p q → NumLaid w x false o p o q
+number-measured a = record { bytes = refl; next = a .is }
+
+pub counted-put : {w n x y : ℕ} {lent o o1 o2 : List ℕ} {p q r : Place} → Put (toLE w n) o p o1 q → SpanPut lent x y o1 q o2 r → CountedPut w n lent x y o p o2 r
+counted-put a b = record { bytes = b .put .bytes ∙ rw (a .bytes, a .next); next = b .put .next ∙ rw (a .bytes, a .next) }
+
+pub put-laid : {lent o o' : List ℕ} {p q : Place} (f : Field) (v : Value) → Unless f → CountedPut (headWidth f) (headOf f v) lent (startOf v) (lenOf v) o p o' q
+    → FieldLaid f lent v true o p o' q
+unfolding putField pastPutField
+put-laid (num w) v u a = absurd u
+put-laid str v u a = record { bytes = a .bytes; next = a .next }
+put-laid dat v u a = record { bytes = a .bytes; next = a .next }
+put-laid strs v u a = record { bytes = a .bytes; next = a .next }
+put-laid quids v u a = record { bytes = a .bytes; next = a .next }
+
+-- ---- the first pass: a field that passes is as long as its count and its bytes
+
+-- the bytes of a field that is no number are behind a count
+pub record Sized (f : Field) (lent : List ℕ) (v : Value) : Type 0 where
+  pub is : (i : Item) (r : List ℕ) → show f lent v ≡ ok i r → length (itemBytes i) ≡ headWidth f + lenOf v
+
+pub check-laid : {f : Field} {lent o : List ℕ} {v : Value} {p q a r : Place} → Sized f lent v → ShowCheck f lent v p q → Advanced (headWidth f) q a → Advanced (lenOf v) a r
+    → FieldLaid f lent v false o p o r
+unfolding checkField
+check-laid {f} {lent} {o} {v} {p} {q} z c x y = record {
+  bytes = refl;
+  next = y .is ∙ ap (advance (lenOf v)) (x .is) ∙ twice (headWidth f) (lenOf v) q ∙ ap (advance (headWidth f + lenOf v)) (c .is) ∙ go (show f lent v) refl p;
+}
+  where
+    go : (m : Result Item) → show f lent v ≡ m → (p' : Place) → advance (headWidth f + lenOf v) (checkAt m p') ≡ advance (sizeIn m) (checkAt m p')
+    go m e (Refused k) = refl
+    go (ok i s) e (At n) = ap (λ k. At (min (n + k) limit)) (sym (z .is i s e))
+    go (bad k) e (At n) = refl
+
+pub sized : {f : Field} {lent : List ℕ} {v : Value} → Unless f → Bytes lent → Sized f lent v
+sized {f} {lent} {v} u b = record {
+  is =
+      λ i r e.
+      let k = behind f lent v u b e in
+      ap length (k .item) ∙ length-append (toLE (headWidth f) (headOf f v)) (k .tail) ∙ ap₂ (λ x y. x + y) (length-toLE (headWidth f) (headOf f v)) (k .size);
+}
+
+-- ---- the checks
+
+checked-map : {A B : Type 0} (f : A → B) (m : Result A) (p : Place) → checkAt m p ≡ checkAt (after m (λ x r. ok (f x) r)) p
+checked-map f m (Refused k) = refl
+checked-map f (ok x r) (At n) = refl
+checked-map f (bad k) (At n) = refl
+
+module _ {lent : List ℕ} {x y : ℕ} {p q : Place} where
+  pub str-check : StrCheck lent x y p q → ShowCheck str lent (span x y) p q
+  unfolding show
+  str-check c = record { is = c .is ∙ checked-map string (showString lent x y) p }
+
+  pub dat-check : SpanCheck lent x y p q → ShowCheck dat lent (span x y) p q
+  unfolding show
+  dat-check c = record { is = c .is ∙ checked-map bytes (showSpan lent x y) p }
+
+  pub quids-outside : {n : ℕ} {k : Refusal} → SpanCheck lent x y p q → q ≡ Refused k → ShowCheck quids lent (part n x y) p q
+  unfolding show
+  quids-outside c e = record { is = e ∙ sym (first-refuses (showSpan lent x y) _ p (sym (c .is) ∙ e)) }
+
+  pub quids-fine : {n a : ℕ} → SpanCheck lent x y p q → q ≡ At a → y ≡ 13 * n → ShowCheck quids lent (part n x y) p q
+  unfolding show
+  quids-fine {n} c e h = let k = passed c e in record { is = e ∙ rw (k .place, k .shows, eq-eqb y (13 * n) h) }
+
+  pub quids-malformed : {n a : ℕ} → SpanCheck lent x y p q → q ≡ At a → (y ≡ 13 * n → ⊥) → ShowCheck quids lent (part n x y) p (Refused R.PartMalformed)
+  unfolding show
+  quids-malformed {n} c e h = let k = passed c e in record { is = rw (k .place, k .shows, ne-eqb y (13 * n) h) }
+
+  pub strs-outside : {n : ℕ} {k : Refusal} → SpanCheck lent x y p q → q ≡ Refused k → ShowCheck strs lent (part n x y) p q
+  unfolding show
+  strs-outside c e = record { is = e ∙ sym (first-refuses (showSpan lent x y) _ p (sym (c .is) ∙ e)) }
+
+-- the scan's end tells whether the strings fill the part
+fills : (n a : ℕ) (bs : List ℕ) → Bytes bs → (m : Result (List (List ℕ))) → readMany n bs ≡ m
+    → filledAt (restAt (length bs) m) (length bs) (At a) ≡ checkAt (after (wholePart m) (λ l s. ok (strings l) s)) (At a)
+fills n a bs b (bad k) e = refl
+fills n a bs b (ok l []) e = rw (eq-eqb (length bs - 0) (length bs) (omega arith))
+fills n a bs b (ok l (x ∷ r)) e =
+    let t = took-many n bs b e in
+    let h : length bs ≡ length (manyBytes l) + suc (length r) = ap length (t .whole) ∙ length-append (manyBytes l) (x ∷ r) in
+    rw (ne-eqb (length bs - suc (length r)) (length bs) (λ z. omega arith))
+
+pub strs-scanned : {lent : List ℕ} {n x y a : ℕ} {bs : List ℕ} {p q e r : Place} → Bytes lent → SpanCheck lent x y p q → q ≡ At a → Shown lent x y bs → ManyRead n bs 0 e
+    → Filled e (length bs) q r → ShowCheck strs lent (part n x y) p r
+unfolding show
+strs-scanned {lent} {n} {x} {y} {a} {bs} b c h s m f =
+    let k = passed c h in
+    let i : bs ≡ take y (drop x lent) = s .is ∙ rw (k .shows) in
+    let g = rw (m .next, h) at (f .is) in
+    record { is = g ∙ fills n a bs (rw i (bytes-take y (drop x lent) (bytes-drop x lent b))) (readMany n bs) refl ∙ rw (k .place, k .shows, i) }
+
+-- ---- in whichever pass it is
+
+pub in-pass : {f : Field} {lent o o' : List ℕ} {v : Value} {ps ps' : Bool} {p q : Place} → ps ≡ ps' → FieldLaid f lent v ps' o p o' q → FieldLaid f lent v ps o p o' q
+in-pass e a = rw e a
+
+pub num-in-pass : {w x : ℕ} {o o' : List ℕ} {ps ps' : Bool} {p q : Place} → ps ≡ ps' → NumLaid w x ps' o p o' q → NumLaid w x ps o p o' q
+num-in-pass e a = rw e a
+
+pub fills-at : {e p : Place} {n m : ℕ} → e ≡ At m → m ≡ n → Filled e n p p
+fills-at {n = n} {m = m} e h = record { is = rw (e, eq-eqb m n h) }
+
+pub fills-not : {e p : Place} {n m : ℕ} → e ≡ At m → (m ≡ n → ⊥) → Filled e n p (Refused R.PartMalformed)
+fills-not {n = n} {m = m} e h = record { is = rw (e, ne-eqb m n h) }
+
+pub fills-refused : {e p : Place} {n : ℕ} {k j : Refusal} → e ≡ Refused k → j ≡ cutOff k → Filled e n p (Refused j)
+fills-refused e h = record { is = rw e (ap Refused h) }
+
+-- ---- the end of the first pass
+
+pub settles-refused : {e : Place} {n : ℕ} {k : Refusal} → e ≡ Refused k → Settled e n e
+settles-refused e = record { is = rw e }
+
+module _ {e : Place} {n m : ℕ} where
+  pub settles-over : e ≡ At m → limit ≤ m → Settled e n (Refused R.FrameTooLong)
+  settles-over f h = record { is = rw (f, le-ltb m limit h) }
+
+  pub settles-full : e ≡ At m → m < limit → n < m → Settled e n (Refused R.NoRoom)
+  settles-full f h k = record { is = rw (f, lt-ltb m limit h, lt-leb m n k) }
+
+  pub settles-fits : e ≡ At m → m < limit → m ≤ n → Settled e n (At m)
+  settles-fits f h k = record { is = rw (f, lt-ltb m limit h, le-leb m n k) }
+
+-- ---- where the second pass begins
+
+module _ {p e q : Place} {n : ℕ} where
+  pub begins-not : {k : Refusal} → Settled e n q → q ≡ Refused k → Begun p e n q
+  begins-not s h = record { is = rw (← (s .is), h) }
+
+  pub begins : {m : ℕ} → Settled e n q → q ≡ At m → Begun p e n p
+  begins s h = record { is = rw (← (s .is), h) }

@@ -1,0 +1,189 @@
+-- An element of a vector stands where the definition says: what each way of asking comes to, over plain variables.
+use Prim.Native.Nat.{ℕ, zero, suc, _+_, _-_, _*_, _≤_, _<_}
+use native.Mathlib.Omega.{arith}
+use mathlib.Core.Path.{_≡_, refl, sym, ap, ap₂, _∙_}
+use mathlib.Core.Bool.{Bool, true, false, cond}
+use mathlib.Core.List.{List, [], _∷_, _++_, append-assoc, append-nil}
+use lib.ListN.{length, take, drop, getD, length-append}
+use lib.Seq.{drop-append-seam}
+use lib.Dec.{ltb, eqb}
+use borrow.Author.Tests.{lt-ltb, le-ltb, ltb-true, eqb-true}
+use Rattle.numbers.specs.Numbers.{Bytes, length-toLE, bytes-take, bytes-drop}
+use Rattle.numbers.specs.Reading.{Result, ok, bad, after}
+use Rattle.numbers.specs.ReadingLaws.{after-inv, cond-inv, Reads}
+use Rattle.numbers.specs.Places.{readAt, restAt}
+use Rattle.numbers.specs.PlaceLaws.{one-answer}
+use Rattle.numbers.specs.declared.Refusal.{Refusal}
+use Rattle.numbers.specs.declared.Refusal.the-variants as R
+use Rattle.numbers.specs.declared.Place.{Place}
+use Rattle.numbers.specs.declared.Place.the-variants.{At, Refused}
+use Rattle.strings.specs.Strings.{readString, stringBytes, GoodText}
+use Rattle.strings.specs.StringLaws.{reads-string}
+use Rattle.strings.specs.Spans.{bytesIn, showSpan, checkAt, Shown, SpanCheck, strStart, strLen, StrRead}
+use Rattle.strings.specs.SpanLaws.{first-refuses, passed, check-inv, span-inv}
+use Rattle.fields.specs.Layouts.{Field, strs, quids, Item, strings, qids, readMany, manyBytes, AllGood}
+use Rattle.fields.specs.LayoutLaws.{took-many}
+use Rattle.laying.specs.LayingLaws.{span-shown, whole-inv}
+use Rattle.fields.specs.Values.{Value, span, part, startOf, lenOf, countOf, wholePart, show}
+use Rattle.fields.specs.Fields.{ManyRead}
+use Rattle.laying.specs.Laying.{ShowCheck}
+use Rattle.laying.specs.Elements.{elementIn, askedFor, elementAt, viewElement, Asked}
+use Rattle.laying.specs.declared.elements.Element.{Element as Answer}
+use Rattle.laying.specs.declared.elements.Element.the-variants as E
+
+-- ---- one answer
+
+pub element-one : {m : Result Value} (r r' : Answer) → viewElement r ≡ m → viewElement r' ≡ m → r ≡ r'
+unfolding viewElement
+element-one (E.Found s) (E.Found t) e f =
+    let g = one-answer e f in
+    let h : span (s .start) (s .len) ≡ span (t .start) (t .len) = cc g in
+    ap E.Found (ap₂ (λ x y. record { start = x; len = y }) (ap startOf h) (ap lenOf h))
+element-one (E.Refused k) (E.Refused j) e f = let g = one-answer e f in let h : k ≡ j = cc g in ap E.Refused h
+element-one (E.Found s) (E.Refused k) e f = absurd (let g = one-answer e f in let z : _≡_ {A = ℕ} 0 1 = cc g in omega arith)
+element-one (E.Refused k) (E.Found s) e f = absurd (let g = one-answer e f in let z : _≡_ {A = ℕ} 0 1 = cc g in omega arith)
+
+-- ---- 9, then 15
+
+module _ {lent : List ℕ} {c x y i : ℕ} {q : Place} where
+  pub asked-outside : {k : Refusal} → SpanCheck lent x y (At 0) q → q ≡ Refused k → Asked lent (part c x y) i q
+  unfolding askedFor
+  asked-outside s e = record { is = e ∙ sym (first-refuses (showSpan lent x y) _ (At 0) (sym (s .is) ∙ e)) }
+
+  pub asked-below : {a : ℕ} → SpanCheck lent x y (At 0) q → q ≡ At a → i < c → Asked lent (part c x y) i q
+  unfolding askedFor
+  asked-below s e h = let p = passed s e in record { is = e ∙ sym (p .place) ∙ rw (p .shows, lt-ltb i c h) }
+
+  pub asked-past : {a : ℕ} → SpanCheck lent x y (At 0) q → q ≡ At a → c ≤ i → Asked lent (part c x y) i (Refused R.NoSuchElement)
+  unfolding askedFor
+  asked-past s e h = let p = passed s e in record { is = rw (p .shows, le-ltb i c h) }
+
+-- ---- any vector
+
+pub element-refused : {f : Field} {lent : List ℕ} {v : Value} {i : ℕ} {p q : Place} {k : Refusal} → Asked lent v i p → ShowCheck f lent v p q → q ≡ Refused k
+    → bad k ≡ elementAt f lent v i
+unfolding elementAt
+element-refused {f} {lent} {v} {i} {p} {q} {k} a s e = go (askedFor lent v i) (show f lent v) (sym e ∙ s .is ∙ ap (checkAt (show f lent v)) (a .is))
+  where
+    go : (m : Result (List ℕ)) (w : Result Item) → Refused k ≡ checkAt w (checkAt m (At 0)) → bad k ≡ after m (λ bs r. after w (λ it t. ok (elementIn (startOf v) i it) []))
+    go (bad j) w d = let g : k ≡ j = cc d in ap bad g
+    go (ok bs r) (bad j) d = let g : k ≡ j = cc d in ap bad g
+    go (ok bs r) (ok it t) d = absurd (let z : _≡_ {A = ℕ} 0 1 = cc d in omega arith)
+
+-- what is known once every check is passed
+pub record Element (f : Field) (lent : List ℕ) (v : Value) (i : ℕ) : Type 0 where
+  pub item : Item
+  pub rest : List ℕ
+  pub shows : show f lent v ≡ ok item rest
+  pub below : i < countOf v
+  pub is : elementAt f lent v i ≡ ok (elementIn (startOf v) i item) []
+
+asked-inv : (lent : List ℕ) (v : Value) (i : ℕ) {bs r : List ℕ} → askedFor lent v i ≡ ok bs r → i < countOf v
+unfolding askedFor
+asked-inv lent v i e =
+    after-inv (showSpan lent (startOf v) (lenOf v)) _ e (λ cs s e1 e2. ltb-true i (countOf v) (cond-inv (ltb i (countOf v)) _ R.NoSuchElement e2 .0))
+
+pub element : {f : Field} {lent : List ℕ} {v : Value} {i a : ℕ} {p q : Place} → Asked lent v i p → ShowCheck f lent v p q → q ≡ At a → Element f lent v i
+unfolding elementAt
+element {f} {lent} {v} {i} {a} {p} n s e =
+    check-inv (show f lent v) p (sym (s .is) ∙ e)
+    (λ it r d g. check-inv (askedFor lent v i) (At 0) (sym (n .is) ∙ g)
+    (λ bs t u w. record { item = it; rest = r; shows = d; below = asked-inv lent v i u; is = rw (u, d) }))
+
+-- ---- qids
+
+-- where qid i stands, and that it lies within the lent bytes
+pub record Qid (lent : List ℕ) (c x y i : ℕ) : Type 0 where
+  pub lies : x + 13 * i ≤ length lent
+  pub is : ok (span (x + 13 * i) 13) [] ≡ elementAt quids lent (part c x y) i
+
+pub qid-found : {lent : List ℕ} {c x y i : ℕ} → Element quids lent (part c x y) i → Qid lent c x y i
+unfolding show
+qid-found {lent} {c} {x} {y} {i} l =
+    after-inv (showSpan lent x y) _ (l .shows)
+    (λ bs s e1 e2.
+    let u = cond-inv (eqb y (13 * c)) _ R.PartMalformed e2 in
+    let f : qids c bs ≡ l .item = (let g = u .1 in cc g) in
+    let h = span-inv lent x y e1 in
+    let n = eqb-true y (13 * c) (u .0) in
+    let b = l .below in
+    record { lies = omega arith; is = sym (l .is ∙ ap (λ it. ok (elementIn x i it) []) (sym f)) })
+
+-- ---- names
+
+-- a vector of strings parted at its i-th
+record Parted (i : ℕ) (l : List (List ℕ)) : Type 0 where
+  pub bytes : manyBytes l ≡ manyBytes (take i l) ++ (stringBytes (getD l i []) ++ manyBytes (drop (suc i) l))
+  pub before : readMany i (manyBytes l) ≡ ok (take i l) (stringBytes (getD l i []) ++ manyBytes (drop (suc i) l))
+  pub good : GoodText (getD l i [])
+
+parted : (i : ℕ) (l : List (List ℕ)) → i < length l → AllGood l → Parted i l
+unfolding manyBytes readMany
+parted i [] h g = absurd (omega arith)
+parted zero (b ∷ bs) h g = record { bytes = refl; before = refl; good = g .0 }
+parted (suc i) (b ∷ bs) h g =
+    let p = parted i bs (omega arith) (g .1) in
+    record {
+      bytes = ap (λ (z : List ℕ). stringBytes b ++ z) (p .bytes) ∙ sym (append-assoc (stringBytes b) (manyBytes (take i bs)) _);
+      before = rw (reads-string b (g .0) .back (manyBytes bs), p .before);
+      good = p .good;
+    }
+
+string-length : (bs : List ℕ) → length (stringBytes bs) ≡ 2 + length bs
+unfolding stringBytes
+string-length bs = simp (length-append, length-toLE)
+
+-- where name i stands, and that it begins within the lent bytes
+pub record Name (lent : List ℕ) (c x y i sx sy : ℕ) : Type 0 where
+  pub lies : x + sx ≤ length lent
+  pub is : ok (span (x + sx) sy) [] ≡ elementAt strs lent (part c x y) i
+
+-- the names of a part that passed, as they stand in it
+record Names (lent : List ℕ) (c x y : ℕ) (it : Item) : Type 0 where
+  pub names : List (List ℕ)
+  pub bytes : showSpan lent x y ≡ ok (manyBytes names) []
+  pub size : length (manyBytes names) ≡ y
+  pub lies : x + y ≤ length lent
+  pub item : it ≡ strings names
+  pub count : length names ≡ c
+  pub good : AllGood names
+
+names-in : {lent : List ℕ} {c x y : ℕ} {it : Item} {r : List ℕ} → Bytes lent → show strs lent (part c x y) ≡ ok it r → Names lent c x y it
+unfolding show
+names-in {lent} {c} {x} {y} {it} b e =
+    after-inv (showSpan lent x y) _ e
+    (λ bs s e1 e2. after-inv (wholePart (readMany c bs)) _ e2
+    (λ l t e3 e4. whole-inv (readMany c bs) e3
+    (λ e5.
+    let k = span-shown lent x y e1 in
+    let f : it ≡ strings l = cc e4 in
+    let h = took-many c bs (rw (k .2) (bytes-take y (drop x lent) (bytes-drop x lent b))) e5 in
+    let m : bs ≡ manyBytes l = h .whole ∙ append-nil (manyBytes l) in
+    record { names = l; bytes = k .0 ∙ ap (λ z. ok z []) m; size = ap length (sym m) ∙ k .1; lies = span-inv lent x y e1; item = f; count = h .good .0; good = h .good .1 })))
+
+pub name-found : {lent s : List ℕ} {c x y i sx sy : ℕ} {p q : Place} → Bytes lent → Element strs lent (part c x y) i → Shown lent x y s → ManyRead i s 0 p → StrRead s p sx sy q
+    → Name lent c x y i sx sy
+unfolding strStart strLen
+name-found {lent} {s} {c} {x} {y} {i} {sx} {sy} {p} b l w m r =
+    let n = names-in b (l .shows) in
+    let ns : List (List ℕ) = n .names in
+    let g : List ℕ = getD ns i [] in
+    let a : List ℕ = manyBytes (take i ns) in
+    let z : List ℕ = stringBytes g ++ manyBytes (drop (suc i) ns) in
+    let h = l .below in
+    let k = n .count in
+    let t = parted i ns (omega arith) (n .good) in
+    let es : s ≡ manyBytes ns = w .is ∙ rw (n .bytes) in
+    let ez : length (a ++ z) ≡ length a + length z = length-append a z in
+    let el : length (manyBytes ns) ≡ length a + length z = ap length (t .bytes) ∙ ez in
+    let ep : p ≡ At (length a) = m .next ∙ rw (es, t .before) (ap At (omega arith)) in
+    let er : readAt readString s p ≡ ok g (manyBytes (drop (suc i) ns))
+    = rw (ep, es) (ap readString (ap (drop (length a)) (t .bytes) ∙ drop-append-seam a z) ∙ reads-string g (t .good) .back (manyBytes (drop (suc i) ns))) in
+    let ex : sx ≡ length a + 2 = r .start ∙ rw (er, ep) in
+    let ey : sy ≡ length g = r .len ∙ rw er in
+    let u : length z ≡ length (stringBytes g) + length (manyBytes (drop (suc i) ns)) = length-append (stringBytes g) (manyBytes (drop (suc i) ns)) in
+    let t2 = string-length g in
+    record {
+      lies = (let e1 = n .size in let e2 = n .lies in omega arith);
+      is = rw (ex, ey) (sym (l .is ∙ ap (λ it. ok (elementIn x i it) []) (n .item)));
+    }

@@ -1,0 +1,169 @@
+-- Writing fields at places, in two passes: the first checks and measures and touches nothing, the second puts bytes. What the contracts cite.
+use Prim.Native.Nat.{ℕ, _+_, min}
+use mathlib.Core.Path.{_≡_}
+use mathlib.Core.Bool.{Bool, true, false, cond}
+use mathlib.Core.List.{List, [], _∷_}
+use lib.ListN.{length}
+use lib.Dec.{eqb, leb, ltb}
+use Rattle.numbers.specs.Numbers.{toLE}
+use Rattle.numbers.specs.Reading.{Result, ok, bad}
+use Rattle.numbers.specs.Places.{putAt, pastPut}
+use Rattle.numbers.specs.declared.Refusal.the-variants as R
+use Rattle.numbers.specs.declared.Place.{Place}
+use Rattle.numbers.specs.declared.Place.the-variants.{At, Refused}
+use Rattle.strings.specs.Spans.{bytesIn, showSpan, checkAt}
+use Rattle.fields.specs.Layouts.{Field, num, str, dat, strs, quids, Layout, Item, itemBytes, itemsBytes}
+use Rattle.fields.specs.Values.{Value, numOf, startOf, lenOf, countOf, cutOff, show, firstOf, othersOf, shows}
+
+-- ---- the first pass
+
+-- one more than the largest frame has bytes; it stands for every place past that, so that no sum wraps
+abbrev pub limit : ℕ
+limit = 4294967296
+
+abbrev pub advance : ℕ → Place → Place
+advance n (At a) = At (min (a + n) limit)
+advance n (Refused k) = Refused k
+
+-- how long an item is that a value shows
+abbrev pub sizeIn : Result Item → ℕ
+sizeIn (ok i r) = length (itemBytes i)
+sizeIn (bad k) = 0
+
+unfoldable pub checkField : Field → List ℕ → Value → Place → Place
+checkField f lent v p = advance (sizeIn (show f lent v)) (checkAt (show f lent v) p)
+
+unfoldable pub checkFields : Layout → List ℕ → List Value → Place → Place
+checkFields [] lent vs p = p
+checkFields (f ∷ fs) lent vs p = checkFields fs lent (othersOf vs) (checkField f lent (firstOf vs) p)
+
+-- ---- the second pass
+
+-- a count of w bytes, then the bytes that a span shows
+abbrev pub countedOut : ℕ → ℕ → List ℕ → ℕ → ℕ → List ℕ → Place → List ℕ
+countedOut w n lent x y o p =
+    putAt (bytesIn (showSpan lent x y)) (putAt (toLE w n) o p) (checkAt (showSpan lent x y) (pastPut (toLE w n) o p))
+
+abbrev pub countedPast : ℕ → ℕ → List ℕ → ℕ → ℕ → List ℕ → Place → Place
+countedPast w n lent x y o p =
+    pastPut (bytesIn (showSpan lent x y)) (putAt (toLE w n) o p) (checkAt (showSpan lent x y) (pastPut (toLE w n) o p))
+
+-- the count that stands before the bytes of a field: of how many bytes it is, and what it says
+abbrev pub headWidth : Field → ℕ
+headWidth (num w) = w
+headWidth str = 2
+headWidth dat = 4
+headWidth strs = 2
+headWidth quids = 2
+
+abbrev pub headOf : Field → Value → ℕ
+headOf (num w) v = numOf v
+headOf str v = lenOf v
+headOf dat v = lenOf v
+headOf strs v = countOf v
+headOf quids v = countOf v
+
+abbrev pub countedField : Field → List ℕ → Value → List ℕ → Place → List ℕ
+countedField f lent v o p = countedOut (headWidth f) (headOf f v) lent (startOf v) (lenOf v) o p
+
+abbrev pub pastCounted : Field → List ℕ → Value → List ℕ → Place → Place
+pastCounted f lent v o p = countedPast (headWidth f) (headOf f v) lent (startOf v) (lenOf v) o p
+
+unfoldable pub putField : Field → List ℕ → Value → List ℕ → Place → List ℕ
+putField (num w) lent v o p = putAt (toLE w (numOf v)) o p
+putField str lent v o p = countedField str lent v o p
+putField dat lent v o p = countedField dat lent v o p
+putField strs lent v o p = countedField strs lent v o p
+putField quids lent v o p = countedField quids lent v o p
+
+unfoldable pub pastPutField : Field → List ℕ → Value → List ℕ → Place → Place
+pastPutField (num w) lent v o p = pastPut (toLE w (numOf v)) o p
+pastPutField str lent v o p = pastCounted str lent v o p
+pastPutField dat lent v o p = pastCounted dat lent v o p
+pastPutField strs lent v o p = pastCounted strs lent v o p
+pastPutField quids lent v o p = pastCounted quids lent v o p
+
+unfoldable pub putFields : Layout → List ℕ → List Value → List ℕ → Place → List ℕ
+putFields [] lent vs o p = o
+putFields (f ∷ fs) lent vs o p =
+    putFields fs lent (othersOf vs) (putField f lent (firstOf vs) o p) (pastPutField f lent (firstOf vs) o p)
+
+unfoldable pub pastPutFields : Layout → List ℕ → List Value → List ℕ → Place → Place
+pastPutFields [] lent vs o p = p
+pastPutFields (f ∷ fs) lent vs o p =
+    pastPutFields fs lent (othersOf vs) (putField f lent (firstOf vs) o p) (pastPutField f lent (firstOf vs) o p)
+
+-- ---- both
+
+-- the first fact in the pass that checks, the second in the pass that puts
+abbrev pub ByPass : Bool → Type 0 → Type 0 → Type 0
+ByPass false A B = A
+ByPass true A B = B
+
+-- what laying a field, and the fields of a layout, at p of the output o leaves and answers
+pub record FieldLaid (f : Field) (lent : List ℕ) (v : Value) (ps : Bool) (o : List ℕ) (p : Place) (o' : List ℕ) (q : Place) : Type 0 where
+  pub bytes : ByPass ps (o' ≡ o) (o' ≡ putField f lent v o p)
+  pub next : ByPass ps (q ≡ checkField f lent v p) (q ≡ pastPutField f lent v o p)
+
+pub record Laid (fs : Layout) (lent : List ℕ) (vs : List Value) (ps : Bool) (o : List ℕ) (p : Place) (o' : List ℕ) (q : Place) : Type 0 where
+  pub bytes : ByPass ps (o' ≡ o) (o' ≡ putFields fs lent vs o p)
+  pub next : ByPass ps (q ≡ checkFields fs lent vs p) (q ≡ pastPutFields fs lent vs o p)
+
+-- a number needs no lent bytes
+pub record NumLaid (w x : ℕ) (ps : Bool) (o : List ℕ) (p : Place) (o' : List ℕ) (q : Place) : Type 0 where
+  pub bytes : ByPass ps (o' ≡ o) (o' ≡ putAt (toLE w x) o p)
+  pub next : ByPass ps (q ≡ advance w p) (q ≡ pastPut (toLE w x) o p)
+
+-- the place n bytes on, in the first pass
+pub record Advanced (n : ℕ) (p q : Place) : Type 0 where
+  pub is : q ≡ advance n p
+
+-- a count of w bytes and the bytes that a span shows, put
+pub record CountedPut (w n : ℕ) (lent : List ℕ) (x y : ℕ) (o : List ℕ) (p : Place) (o' : List ℕ) (q : Place) : Type 0 where
+  pub bytes : o' ≡ countedOut w n lent x y o p
+  pub next : q ≡ countedPast w n lent x y o p
+
+-- the check of a value that is to be written: the place itself, or the refusal
+pub record ShowCheck (f : Field) (lent : List ℕ) (v : Value) (p q : Place) : Type 0 where
+  pub is : q ≡ checkAt (show f lent v) p
+
+-- where the scan of a part of n bytes has ended: at its end, or it is malformed
+abbrev pub filledAt : Place → ℕ → Place → Place
+filledAt (At e) n p = cond (eqb e n) p (Refused R.PartMalformed)
+filledAt (Refused k) n p = Refused (cutOff k)
+
+pub record Filled (e : Place) (n : ℕ) (p q : Place) : Type 0 where
+  pub is : q ≡ filledAt e n p
+
+-- ---- a whole layout written: "fields in order", "then 10; then 11", and a refusal leaves the output as it was
+
+abbrev pub writtenOut : Result (List Item) → List ℕ → Place → List ℕ
+writtenOut m o (Refused k) = o
+writtenOut (bad k) o (At a) = o
+writtenOut (ok is r) o (At a) = cond (ltb (a + length (itemsBytes is)) limit) (putAt (itemsBytes is) o (At a)) o
+
+abbrev pub writtenPast : Result (List Item) → List ℕ → Place → Place
+writtenPast m o (Refused k) = Refused k
+writtenPast (bad k) o (At a) = Refused k
+writtenPast (ok is r) o (At a) =
+    cond (ltb (a + length (itemsBytes is)) limit) (pastPut (itemsBytes is) o (At a)) (Refused R.FrameTooLong)
+
+pub record Written (fs : Layout) (lent : List ℕ) (vs : List Value) (o : List ℕ) (p : Place) (o' : List ℕ) (q : Place) : Type 0 where
+  pub bytes : o' ≡ writtenOut (shows fs lent vs) o p
+  pub next : q ≡ writtenPast (shows fs lent vs) o p
+
+-- the end that the first pass found, in an output of n bytes
+abbrev pub settledAt : Place → ℕ → Place
+settledAt (At e) n = cond (ltb e limit) (cond (leb e n) (At e) (Refused R.NoRoom)) (Refused R.FrameTooLong)
+settledAt (Refused k) n = Refused k
+
+pub record Settled (e : Place) (n : ℕ) (q : Place) : Type 0 where
+  pub is : q ≡ settledAt e n
+
+-- where the second pass begins: where the first one did, unless that was refused
+abbrev pub begunAt : Place → Place → Place
+begunAt p (At n) = p
+begunAt p (Refused k) = Refused k
+
+pub record Begun (p e : Place) (n : ℕ) (q : Place) : Type 0 where
+  pub is : q ≡ begunAt p (settledAt e n)

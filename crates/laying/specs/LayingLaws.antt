@@ -1,0 +1,208 @@
+-- Fields laid one after another; and the one law that takes both passes to the definition, over any layout.
+use Prim.Native.Nat.{ℕ, _+_, _*_, _≤_, _<_, min}
+use native.Mathlib.Omega.{arith}
+use mathlib.Core.Path.{_≡_, refl, sym, ap, ap₂, _∙_}
+use mathlib.Core.Bool.{Bool, true, false}
+use mathlib.Core.List.{List, [], _∷_, _++_, append-nil}
+use lib.ListN.{length, take, drop, length-append, take-append-drop}
+use lib.Dec.{eqb}
+use borrow.Author.Tests.{le-leb}
+use Rattle.numbers.specs.Numbers.{Bytes, toLE, length-toLE, bytes-take, bytes-drop}
+use Rattle.numbers.specs.Reading.{Result, ok, bad, after}
+use Rattle.numbers.specs.ReadingLaws.{after-inv, cond-inv, Took}
+use Rattle.numbers.specs.Places.{putAt, pastPut, Put}
+use Rattle.numbers.specs.PlaceLaws.{length-put, put-then, put-length}
+use Rattle.numbers.specs.declared.Refusal.{Refusal}
+use Rattle.numbers.specs.declared.Refusal.the-variants as R
+use Rattle.numbers.specs.declared.Place.{Place}
+use Rattle.numbers.specs.declared.Place.the-variants.{At, Refused}
+use Rattle.strings.specs.Strings.{stringBytes}
+use Rattle.strings.specs.Spans.{bytesIn, showSpan, showString, checkAt}
+use Rattle.strings.specs.SpanLaws.{shown-in, shown-length, span-inv, string-inv, passing}
+use Rattle.fields.specs.Layouts.{Field, num, str, dat, strs, quids, Layout, q, Item, number, string, bytes, strings, qids, readMany, manyBytes, itemBytes, itemsBytes}
+use Rattle.fields.specs.LayoutLaws.{took-many}
+use Rattle.fields.specs.Values.{Value, val, numOf, startOf, lenOf, countOf, wholePart, show, firstOf, othersOf, shows}
+use Rattle.laying.specs.Laying.{limit, advance, sizeIn, checkField, checkFields, headWidth, headOf, countedField, pastCounted, putField, pastPutField, putFields, pastPutFields, ByPass, FieldLaid, Laid, NumLaid}
+
+pub laid-none : {lent : List ℕ} {ps : Bool} {o : List ℕ} {p : Place} → Laid [] lent [] ps o p o p
+unfolding checkFields putFields pastPutFields
+laid-none {ps = false} = record { bytes = refl; next = refl }
+laid-none {ps = true} = record { bytes = refl; next = refl }
+
+module _ {f : Field} {fs : Layout} {lent : List ℕ} {v : Value} {vs : List Value} {ps : Bool} {o o1 o2 : List ℕ} {p q e : Place} where
+  pub lay : FieldLaid f lent v ps o p o1 q → Laid fs lent vs ps o1 q o2 e → Laid (f ∷ fs) lent (v ∷ vs) ps o p o2 e
+  unfolding checkFields putFields pastPutFields
+  lay a b = go ps a b
+    where
+      go : (x : Bool) → FieldLaid f lent v x o p o1 q → Laid fs lent vs x o1 q o2 e → Laid (f ∷ fs) lent (v ∷ vs) x o p o2 e
+      go false a b = record { bytes = b .bytes ∙ a .bytes; next = b .next ∙ ap (checkFields fs lent vs) (a .next) }
+      go true a b = record {
+        bytes = b .bytes ∙ rw (a .bytes, a .next);
+        next = b .next ∙ rw (a .bytes, a .next);
+      }
+
+-- a qid in front
+pub lay-qid : {fs : Layout} {lent : List ℕ} {t v x : ℕ} {vs : List Value} {ps : Bool} {o o1 o2 : List ℕ} {p p' e : Place}
+    → Laid q lent (val t ∷ val v ∷ val x ∷ []) ps o p o1 p' → Laid fs lent vs ps o1 p' o2 e → Laid (num 1 ∷ num 4 ∷ num 8 ∷ fs) lent (val t ∷ val v ∷ val x ∷ vs) ps o p o2 e
+unfolding checkFields putFields pastPutFields
+lay-qid {ps = false} a b = record { bytes = b .bytes ∙ a .bytes; next = b .next ∙ rw (a .next) }
+lay-qid {ps = true} a b = record { bytes = b .bytes ∙ rw (a .bytes, a .next); next = b .next ∙ rw (a .bytes, a .next) }
+
+size : (w x : ℕ) → length (itemBytes (number w x)) ≡ w
+unfolding itemBytes
+size w x = length-toLE w x
+
+pub lay-num : {w x : ℕ} {lent : List ℕ} {ps : Bool} {o o1 : List ℕ} {p q : Place} → NumLaid w x ps o p o1 q → FieldLaid (num w) lent (val x) ps o p o1 q
+unfolding checkField putField pastPutField show
+lay-num {w} {x} {ps = false} {p = At a} b = record { bytes = b .bytes; next = b .next ∙ ap (λ n. At (min (a + n) 4294967296)) (sym (size w x)) }
+lay-num {w} {x} {ps = false} {p = Refused k} b = record { bytes = b .bytes; next = b .next }
+lay-num {ps = true} b = record { bytes = b .bytes; next = b .next }
+
+-- ---- the output keeps its length
+
+twice-put : (bs cs o : List ℕ) (p q : Place) → length (putAt cs (putAt bs o p) q) ≡ length o
+twice-put bs cs o p q = length-put cs (putAt bs o p) q ∙ length-put bs o p
+
+field-length : (f : Field) (lent : List ℕ) (v : Value) (o : List ℕ) (p : Place) → length (putField f lent v o p) ≡ length o
+unfolding putField
+field-length (num w) lent v o p = length-put (toLE w (numOf v)) o p
+field-length str lent v o p = twice-put (toLE 2 (lenOf v)) _ o p _
+field-length dat lent v o p = twice-put (toLE 4 (lenOf v)) _ o p _
+field-length strs lent v o p = twice-put (toLE 2 (countOf v)) _ o p _
+field-length quids lent v o p = twice-put (toLE 2 (countOf v)) _ o p _
+
+fields-length : (fs : Layout) (lent : List ℕ) (vs : List Value) (o : List ℕ) (p : Place) → length (putFields fs lent vs o p) ≡ length o
+unfolding putFields
+fields-length [] lent vs o p = refl
+fields-length (f ∷ fs) lent vs o p =
+    fields-length fs lent (othersOf vs) (putField f lent (firstOf vs) o p) (pastPutField f lent (firstOf vs) o p) ∙ field-length f lent (firstOf vs) o p
+
+pub laid-length : {fs : Layout} {lent : List ℕ} {vs : List Value} {ps : Bool} {o o' : List ℕ} {p q : Place} → Laid fs lent vs ps o p o' q → length o' ≡ length o
+laid-length {ps = false} a = ap length (a .bytes)
+laid-length {fs} {lent} {vs} {ps = true} {o} {o'} {p} a = ap length (a .bytes) ∙ fields-length fs lent vs o p
+
+-- ---- both passes as in the definition
+
+-- fields that are no numbers: a count, and bytes behind it
+abbrev pub Unless : Field → Type 0
+Unless (num w) = ⊥
+Unless str = Unit {0}
+Unless dat = Unit {0}
+Unless strs = Unit {0}
+Unless quids = Unit {0}
+
+-- an item that a value shows: its bytes are those of the span, behind the count
+pub record Behind (f : Field) (lent : List ℕ) (v : Value) (i : Item) : Type 0 where
+  pub tail : List ℕ
+  pub shows : showSpan lent (startOf v) (lenOf v) ≡ ok tail []
+  pub size : length tail ≡ lenOf v
+  pub item : itemBytes i ≡ toLE (headWidth f) (headOf f v) ++ tail
+
+pub span-shown : (lent : List ℕ) (x y : ℕ) {bs r : List ℕ} → showSpan lent x y ≡ ok bs r → (showSpan lent x y ≡ ok bs []) × (length bs ≡ y) × (bs ≡ take y (drop x lent))
+span-shown lent x y {bs} {r} e =
+    let h = span-inv lent x y e in
+    let g = shown-in lent x y h in
+    let d = sym e ∙ g in
+    let f : bs ≡ take y (drop x lent) = cc d in
+    (g ∙ ap (λ z. ok z []) (sym f), rw f (shown-length lent x y h), f)
+
+pub whole-inv : {A X : Type 0} (m : Result A) {a : A} {r : List ℕ} → wholePart m ≡ ok a r → (m ≡ ok a [] → X) → X
+whole-inv (ok a []) {a = b} e f = f (let g : a ≡ b = cc e in ap (λ x. ok x []) g)
+whole-inv (ok a (x ∷ r)) e f = absurd (let z : _≡_ {A = ℕ} 0 1 = cc e in omega arith)
+whole-inv (bad k) e f = absurd (let z : _≡_ {A = ℕ} 0 1 = cc e in omega arith)
+
+pub behind : (f : Field) (lent : List ℕ) (v : Value) {i : Item} {r : List ℕ} → Unless f → Bytes lent → show f lent v ≡ ok i r → Behind f lent v i
+unfolding show itemBytes stringBytes
+behind (num w) lent v u b e = absurd u
+behind str lent v {i} u b e =
+    after-inv (showString lent (startOf v) (lenOf v)) _ e
+    (λ bs s e1 e2.
+    let k = string-inv lent (startOf v) (lenOf v) e1 in
+    let f : string bs ≡ i = cc e2 in
+    let l : length bs ≡ lenOf v = rw (k .bytes) (shown-length lent (startOf v) (lenOf v) (k .lies)) in
+    rw (← f)
+    (record {
+      tail = bs;
+      shows = shown-in lent (startOf v) (lenOf v) (k .lies) ∙ ap (λ z. ok z []) (sym (k .bytes));
+      size = l;
+      item = ap (λ n. toLE 2 n ++ bs) l;
+    }))
+behind dat lent v {i} u b e =
+    after-inv (showSpan lent (startOf v) (lenOf v)) _ e
+    (λ bs s e1 e2.
+    let k = span-shown lent (startOf v) (lenOf v) e1 in
+    let f : bytes bs ≡ i = cc e2 in
+    rw (← f) (record { tail = bs; shows = k .0; size = k .1; item = ap (λ n. toLE 4 n ++ bs) (k .1) }))
+behind strs lent v {i} u b e =
+    after-inv (showSpan lent (startOf v) (lenOf v)) _ e
+    (λ bs s e1 e2. after-inv (wholePart (readMany (countOf v) bs)) _ e2
+    (λ l t e3 e4. whole-inv (readMany (countOf v) bs) e3
+    (λ e5.
+    let k = span-shown lent (startOf v) (lenOf v) e1 in
+    let f : strings l ≡ i = cc e4 in
+    let h = took-many (countOf v) bs (rw (k .2) (bytes-take (lenOf v) (drop (startOf v) lent) (bytes-drop (startOf v) lent b))) e5 in
+    let m : manyBytes l ≡ bs = sym (h .whole ∙ append-nil (manyBytes l)) in
+    rw (← f) (record { tail = bs; shows = k .0; size = k .1; item = ap₂ (λ n z. toLE 2 n ++ z) (h .good .0) m }))))
+behind quids lent v {i} u b e =
+    after-inv (showSpan lent (startOf v) (lenOf v)) _ e
+    (λ bs s e1 e2.
+    let k = span-shown lent (startOf v) (lenOf v) e1 in
+    let g = cond-inv (eqb (lenOf v) (13 * countOf v)) _ R.PartMalformed e2 .1 in
+    let f : qids (countOf v) bs ≡ i = cc g in
+    rw (← f) (record { tail = bs; shows = k .0; size = k .1; item = refl }))
+
+-- ---- the second pass, where there is room
+
+put-none : (o : List ℕ) (a : ℕ) → a ≤ length o → Put [] o (At a) o (At a)
+unfolding putAt pastPut
+put-none o a h =
+    let z : a + 0 ≡ a = omega arith in
+    record { bytes = rw (z, le-leb a (length o) h, append-nil) (sym (take-append-drop a o)); next = rw (z, le-leb a (length o) h) }
+
+put-self : (bs o : List ℕ) (p : Place) → Put bs o p (putAt bs o p) (pastPut bs o p)
+put-self bs o p = record { bytes = refl; next = refl }
+
+put-behind : (f : Field) (lent : List ℕ) (v : Value) (o : List ℕ) (a : ℕ) {i : Item} → Behind f lent v i → a + length (itemBytes i) ≤ length o
+    → Put (itemBytes i) o (At a) (countedField f lent v o (At a)) (pastCounted f lent v o (At a))
+put-behind f lent v o a {i} k h =
+    let hd : List ℕ = toLE (headWidth f) (headOf f v) in
+    let m : Place = pastPut hd o (At a) in
+    rw (k .item, k .shows, passing (k .tail) [] m)
+    (put-then (put-self hd o (At a)) (put-self (k .tail) (putAt hd o (At a)) m) refl (rw (← (k .item)) h))
+
+number-put : (w : ℕ) (lent : List ℕ) (v : Value) (o : List ℕ) (a : ℕ) {i : Item} {r : List ℕ} → show (num w) lent v ≡ ok i r
+    → Put (itemBytes i) o (At a) (putAt (toLE w (numOf v)) o (At a)) (pastPut (toLE w (numOf v)) o (At a))
+unfolding show itemBytes
+number-put w lent v o a {i} e =
+    let f : number w (numOf v) ≡ i = cc e in rw (← f) (put-self (toLE w (numOf v)) o (At a))
+
+put-field : (f : Field) (lent : List ℕ) (v : Value) (o : List ℕ) (a : ℕ) {i : Item} {r : List ℕ} → Bytes lent → show f lent v ≡ ok i r → a + length (itemBytes i) ≤ length o
+    → Put (itemBytes i) o (At a) (putField f lent v o (At a)) (pastPutField f lent v o (At a))
+unfolding putField pastPutField
+put-field (num w) lent v o a {i} b e h = number-put w lent v o a e
+put-field str lent v o a b e h = put-behind str lent v o a (behind str lent v tt b e) h
+put-field dat lent v o a b e h = put-behind dat lent v o a (behind dat lent v tt b e) h
+put-field strs lent v o a b e h = put-behind strs lent v o a (behind strs lent v tt b e) h
+put-field quids lent v o a b e h = put-behind quids lent v o a (behind quids lent v tt b e) h
+
+put-next : {bs o o' : List ℕ} {a : ℕ} {q : Place} → Put bs o (At a) o' q → a + length bs ≤ length o → q ≡ At (a + length bs)
+unfolding pastPut
+put-next {bs} {o} {o'} {a} f h = f .next ∙ rw (le-leb (a + length bs) (length o) h)
+
+pub put-fields : (fs : Layout) (lent : List ℕ) (vs : List Value) (o : List ℕ) (a : ℕ) {is : List Item} {r : List ℕ} → Bytes lent → shows fs lent vs ≡ ok is r
+    → a + length (itemsBytes is) ≤ length o → Put (itemsBytes is) o (At a) (putFields fs lent vs o (At a)) (pastPutFields fs lent vs o (At a))
+unfolding shows itemsBytes putFields pastPutFields
+put-fields [] lent vs o a {is} b e h =
+    let f : [] ≡ is = cc e in rw (← f) (put-none o a (let g = rw (← f) at h in omega arith))
+put-fields (f ∷ fs) lent vs o a {is} b e h =
+    after-inv (show f lent (firstOf vs)) _ e
+    (λ i s e1 e2. after-inv (shows fs lent (othersOf vs)) _ e2
+    (λ js t e3 e4.
+    let g : i ∷ js ≡ is = cc e4 in
+    let l = length-append (itemBytes i) (itemsBytes js) in
+    let h' : a + length (itemBytes i ++ itemsBytes js) ≤ length o = rw (← g) at h in
+    let x = put-field f lent (firstOf vs) o a b e1 (omega arith) in
+    let n = put-next x (omega arith) in
+    let m = put-length x in
+    let y = put-fields fs lent (othersOf vs) (putField f lent (firstOf vs) o (At a)) (a + length (itemBytes i)) b e3 (omega arith) in
+    rw (← g) (put-then x (rw (← n) at y) refl h')))

@@ -1,0 +1,202 @@
+-- A layout that is checked, settled and put is written as the definition says: once over any layout.
+use Prim.Native.Nat.{ℕ, _+_, _≤_, _<_, min}
+use native.Mathlib.Omega.{arith}
+use mathlib.Core.Path.{_≡_, refl, sym, ap, _∙_}
+use mathlib.Core.Bool.{Bool, true, false, cond}
+use mathlib.Core.List.{List, [], _∷_, _++_}
+use lib.ListN.{length, length-append}
+use lib.Dec.{leb, ltb}
+use borrow.Author.Tests.{le-leb, lt-leb, lt-ltb, le-ltb}
+use Rattle.numbers.specs.Numbers.{Bytes}
+use Rattle.numbers.specs.Reading.{Result, ok, bad, after}
+use Rattle.numbers.specs.ReadingLaws.{or-else, after-inv}
+use Rattle.numbers.specs.Places.{putAt, pastPut, Put}
+use Rattle.numbers.specs.PlaceLaws.{one-answer}
+use Rattle.numbers.specs.declared.Refusal.{Refusal}
+use Rattle.numbers.specs.declared.Refusal.the-variants as R
+use Rattle.numbers.specs.declared.Place.{Place}
+use Rattle.numbers.specs.declared.Place.the-variants.{At, Refused}
+use Rattle.fields.specs.Layouts.{Field, num, str, dat, strs, quids, Layout, Item, itemBytes, itemsBytes}
+use Rattle.fields.specs.Values.{Value, show, firstOf, othersOf, shows}
+use Rattle.laying.specs.Laying.{limit, advance, checkField, checkFields, putFields, pastPutFields, Laid, writtenOut, writtenPast, Written, settledAt, Settled, begunAt, Begun, putField, pastPutField}
+use Rattle.laying.specs.LayingLaws.{put-fields, laid-none}
+
+pub written-one : {fs : Layout} {lent o o1 o2 : List ℕ} {vs : List Value} {p q q' : Place} → Written fs lent vs o p o1 q → Written fs lent vs o p o2 q' → (o1 ≡ o2) × (q ≡ q')
+written-one a b = (one-answer (a .bytes) (b .bytes), one-answer (a .next) (b .next))
+
+-- ---- what the first pass finds
+
+-- a place that is exact below the limit, and past it where the sum is
+record Measured (e : Place) (sum : ℕ) : Type 0 where
+  pub at : ℕ
+  pub is : e ≡ At at
+  pub exact : at < limit → at ≡ sum
+  pub over : limit ≤ at → limit ≤ sum
+
+check-passed : (f : Field) (lent : List ℕ) (v : Value) (a : ℕ) {i : Item} {r : List ℕ} → show f lent v ≡ ok i r
+    → checkField f lent v (At a) ≡ At (min (a + length (itemBytes i)) limit)
+unfolding checkField
+check-passed f lent v a e = rw e
+
+check-failed : (f : Field) (lent : List ℕ) (v : Value) (a : ℕ) {k : Refusal} → show f lent v ≡ bad k → checkField f lent v (At a) ≡ Refused k
+unfolding checkField
+check-failed f lent v a e = rw e
+
+stays : (fs : Layout) (lent : List ℕ) (vs : List Value) (k : Refusal) → checkFields fs lent vs (Refused k) ≡ Refused k
+unfolding checkFields checkField
+stays [] lent vs k = refl
+stays (f ∷ fs) lent vs k = stays fs lent (othersOf vs) k
+
+measured : (fs : Layout) (lent : List ℕ) (vs : List Value) (a : ℕ) {is : List Item} {r : List ℕ} → shows fs lent vs ≡ ok is r
+    → Measured (checkFields fs lent vs (At a)) (a + length (itemsBytes is))
+unfolding shows itemsBytes checkFields
+measured [] lent vs a {is} e =
+    let f : [] ≡ is = cc e in rw (← f) (record { at = a; is = refl; exact = λ h. omega arith; over = λ h. omega arith })
+measured (f ∷ fs) lent vs a {is} e =
+    after-inv (show f lent (firstOf vs)) _ e
+    (λ i s e1 e2. after-inv (shows fs lent (othersOf vs)) _ e2
+    (λ js t e3 e4.
+    let g : i ∷ js ≡ is = cc e4 in
+    let l = length-append (itemBytes i) (itemsBytes js) in
+    let m = measured fs lent (othersOf vs) (min (a + length (itemBytes i)) limit) e3 in
+    rw (← g, check-passed f lent (firstOf vs) a e1)
+    (record {
+      at = m .at;
+      is = m .is;
+      exact = λ h. (let k = m .exact h in omega arith);
+      over = λ h. (let k = m .over h in omega arith);
+    })))
+
+failed : (fs : Layout) (lent : List ℕ) (vs : List Value) (a : ℕ) {k : Refusal} → shows fs lent vs ≡ bad k → checkFields fs lent vs (At a) ≡ Refused k
+unfolding shows checkFields
+failed [] lent vs a e = absurd (let z : _≡_ {A = ℕ} 0 1 = cc e in omega arith)
+failed (f ∷ fs) lent vs a {k} e = go (show f lent (firstOf vs)) refl e (λ n c. failed fs lent (othersOf vs) n c)
+  where
+    behind : (i : Item) (m : Result (List Item)) → after m (λ is u. ok (i ∷ is) u) ≡ bad k → m ≡ bad k
+    behind i (ok is u) c = absurd (let z : _≡_ {A = ℕ} 0 1 = cc c in omega arith)
+    behind i (bad j) c = let f : j ≡ k = cc c in ap bad f
+
+    go : (m : Result Item) → show f lent (firstOf vs) ≡ m → after m (λ i r. after (shows fs lent (othersOf vs)) (λ is u. ok (i ∷ is) u)) ≡ bad k
+        → ((n : ℕ) → shows fs lent (othersOf vs) ≡ bad k → checkFields fs lent (othersOf vs) (At n) ≡ Refused k)
+        → checkFields fs lent (othersOf vs) (checkField f lent (firstOf vs) (At a)) ≡ Refused k
+    go (ok i t) d c ih = rw (check-passed f lent (firstOf vs) a d) (ih (min (a + length (itemBytes i)) limit) (behind i (shows fs lent (othersOf vs)) c))
+    go (bad j) d c ih = let g : j ≡ k = cc c in rw (check-failed f lent (firstOf vs) a d, g) (stays fs lent (othersOf vs) k)
+
+-- ---- and what is written
+
+module _ (fs : Layout) (lent : List ℕ) (vs : List Value) (o : List ℕ) (a : ℕ) {is : List Item} {r : List ℕ} (m : shows fs lent vs ≡ ok is r) where
+  over-limit : limit ≤ a + length (itemsBytes is) → Written fs lent vs o (At a) o (Refused R.FrameTooLong)
+  over-limit h = let f = le-ltb (a + length (itemsBytes is)) limit h in record { bytes = rw (m, f); next = rw (m, f) }
+
+  no-room : a + length (itemsBytes is) < limit → length o < a + length (itemsBytes is) → Written fs lent vs o (At a) o (Refused R.NoRoom)
+  unfolding putAt pastPut
+  no-room h k =
+      let f = lt-ltb (a + length (itemsBytes is)) limit h in
+      let g = lt-leb (a + length (itemsBytes is)) (length o) k in
+      record { bytes = rw (m, f, g); next = rw (m, f, g) }
+
+  in-place : Bytes lent → a + length (itemsBytes is) < limit → a + length (itemsBytes is) ≤ length o
+      → Written fs lent vs o (At a) (putFields fs lent vs o (At a)) (pastPutFields fs lent vs o (At a))
+  in-place b h k =
+      let f = lt-ltb (a + length (itemsBytes is)) limit h in
+      let g = put-fields fs lent vs o a b m k in
+      record { bytes = rw (m, f) (g .bytes); next = rw (m, f) (g .next) }
+
+settled-over : (n l : ℕ) {q : Place} → q ≡ settledAt (At n) l → limit ≤ n → q ≡ Refused R.FrameTooLong
+settled-over n l s h = s ∙ rw (le-ltb n limit h)
+
+settled-full : (n l : ℕ) {q : Place} → q ≡ settledAt (At n) l → n < limit → l < n → q ≡ Refused R.NoRoom
+settled-full n l s h k = s ∙ rw (lt-ltb n limit h, lt-leb n l k)
+
+settled-fits : (n l : ℕ) {q : Place} → q ≡ settledAt (At n) l → n < limit → n ≤ l → q ≡ At n
+settled-fits n l s h k = s ∙ rw (lt-ltb n limit h, le-leb n l k)
+
+clash : {k : Refusal} {n : ℕ} {q : Place} → q ≡ Refused k → q ≡ At n → ⊥
+clash e f = let d = sym e ∙ f in let z : _≡_ {A = ℕ} 0 1 = cc d in omega arith
+
+-- refused after the first pass: the output is as it was
+written-not : {fs : Layout} {lent o o1 : List ℕ} {vs : List Value} {p e q : Place} {k : Refusal} → Laid fs lent vs false o p o1 e → Settled e (length o1) q → q ≡ Refused k
+    → Written fs lent vs o p o1 q
+written-not {fs} {lent} {o} {o1} {vs} {p} {e} {q} {k} c s h =
+    rw (c .bytes) (go p (s .is ∙ ap (λ x. settledAt x (length o1)) (c .next) ∙ ap (λ l. settledAt (checkFields fs lent vs p) (length l)) (c .bytes)))
+  where
+    at : (a : ℕ) → q ≡ settledAt (checkFields fs lent vs (At a)) (length o) → (m : Result (List Item)) → shows fs lent vs ≡ m → Written fs lent vs o (At a) o q
+    at a d (bad j) m = record { bytes = rw m; next = d ∙ rw (failed fs lent vs a m, m) }
+    at a d (ok is r) m =
+        let w = measured fs lent vs a m in
+        let g = d ∙ ap (λ x. settledAt x (length o)) (w .is) in
+        or-else limit (w .at) (λ l. rw (settled-over (w .at) (length o) g l) (over-limit fs lent vs o a m (w .over l)))
+        (λ l.
+        let x = w .exact l in
+        or-else (w .at) (length o) (λ n. absurd (clash h (settled-fits (w .at) (length o) g l n)))
+        (λ n. rw (settled-full (w .at) (length o) g l n) (no-room fs lent vs o a m (omega arith) (omega arith))))
+
+    go : (p' : Place) → q ≡ settledAt (checkFields fs lent vs p') (length o) → Written fs lent vs o p' o q
+    go (Refused j) d = record { bytes = refl; next = d ∙ rw (stays fs lent vs j) }
+    go (At a) d = at a d (shows fs lent vs) refl
+
+-- settled, and put by the second pass
+written-put : {fs : Layout} {lent o o1 o2 : List ℕ} {vs : List Value} {p e q r : Place} {n : ℕ} → Bytes lent → Laid fs lent vs false o p o1 e → Settled e (length o1) q → q ≡ At n
+    → Laid fs lent vs true o1 p o2 r → Written fs lent vs o p o2 r
+written-put {fs} {lent} {o} {o1} {o2} {vs} {p} {e} {q} {r} {n} b c s h l =
+    rw (l .bytes, l .next, c .bytes)
+    (go p (s .is ∙ ap (λ x. settledAt x (length o1)) (c .next) ∙ ap (λ l. settledAt (checkFields fs lent vs p) (length l)) (c .bytes)))
+  where
+    at : (a : ℕ) → q ≡ settledAt (checkFields fs lent vs (At a)) (length o) → (m : Result (List Item)) → shows fs lent vs ≡ m
+        → Written fs lent vs o (At a) (putFields fs lent vs o (At a)) (pastPutFields fs lent vs o (At a))
+    at a d (bad j) m = absurd (clash {k = j} (d ∙ rw (failed fs lent vs a m)) h)
+    at a d (ok is r) m =
+        let w = measured fs lent vs a m in
+        let g = d ∙ ap (λ x. settledAt x (length o)) (w .is) in
+        or-else limit (w .at) (λ l. absurd (clash (settled-over (w .at) (length o) g l) h))
+        (λ l.
+        let x = w .exact l in
+        or-else (w .at) (length o) (λ n. in-place fs lent vs o a m b (omega arith) (omega arith)) (λ n. absurd (clash (settled-full (w .at) (length o) g l n) h)))
+
+    go : (p' : Place) → q ≡ settledAt (checkFields fs lent vs p') (length o) → Written fs lent vs o p' (putFields fs lent vs o p') (pastPutFields fs lent vs o p')
+    go (Refused j) d = absurd (clash {k = j} (d ∙ rw (stays fs lent vs j)) h)
+    go (At a) d = at a d (shows fs lent vs) refl
+
+-- ---- both passes
+
+put-stays-out : (f : Field) (lent : List ℕ) (v : Value) (o : List ℕ) (k : Refusal) → putField f lent v o (Refused k) ≡ o
+unfolding putField putAt pastPut
+put-stays-out (num w) lent v o k = refl
+put-stays-out str lent v o k = refl
+put-stays-out dat lent v o k = refl
+put-stays-out strs lent v o k = refl
+put-stays-out quids lent v o k = refl
+
+put-stays-refused : (f : Field) (lent : List ℕ) (v : Value) (o : List ℕ) (k : Refusal) → pastPutField f lent v o (Refused k) ≡ Refused k
+unfolding pastPutField putAt pastPut
+put-stays-refused (num w) lent v o k = refl
+put-stays-refused str lent v o k = refl
+put-stays-refused dat lent v o k = refl
+put-stays-refused strs lent v o k = refl
+put-stays-refused quids lent v o k = refl
+
+-- at a refused place nothing is put
+nothing-put : (fs : Layout) (lent : List ℕ) (vs : List Value) (o : List ℕ) (k : Refusal) → (putFields fs lent vs o (Refused k) ≡ o) × (pastPutFields fs lent vs o (Refused k) ≡ Refused k)
+unfolding putFields pastPutFields
+nothing-put [] lent vs o k = (refl, refl)
+nothing-put (f ∷ fs) lent vs o k =
+    rw (put-stays-out f lent (firstOf vs) o k, put-stays-refused f lent (firstOf vs) o k) (nothing-put fs lent (othersOf vs) o k)
+
+-- the second pass, begun where the first one lets it
+pub written : {fs : Layout} {lent o o1 o2 : List ℕ} {vs : List Value} {p e q r : Place} → Bytes lent → Laid fs lent vs false o p o1 e → Begun p e (length o1) q
+    → Laid fs lent vs true o1 q o2 r → Written fs lent vs o p o2 r
+written {fs} {lent} {o} {o1} {o2} {vs} {p} {e} {q} {r} b c s l = go (settledAt e (length o1)) refl
+  where
+    go : (x : Place) → settledAt e (length o1) ≡ x → Written fs lent vs o p o2 r
+    go (At n) f = let g : q ≡ p = s .is ∙ ap (begunAt p) f in written-put b c (record { is = sym f }) refl (rw g at l)
+    go (Refused k) f =
+        let g : q ≡ Refused k = s .is ∙ ap (begunAt p) f in
+        let h : Laid fs lent vs true o1 (Refused k) o2 r = rw g at l in
+        let n = nothing-put fs lent vs o1 k in
+        rw (h .bytes ∙ n .0, h .next ∙ n .1) (written-not c (record { is = sym f }) refl)
+
+-- of no fields there is nothing to put, but the place must be one
+pub written-nothing : {lent o : List ℕ} {p q : Place} → Begun p p (length o) q → Written [] lent [] o p o q
+unfolding shows
+written-nothing s =
+    let w = written {lent = []} tt laid-none s laid-none in record { bytes = w .bytes; next = w .next }

@@ -1,0 +1,5 @@
+pub mod Tables
+pub mod TableLaws
+pub mod Records
+pub mod Bodies
+pub mod BodyLaws

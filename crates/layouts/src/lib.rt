@@ -1,0 +1,6 @@
+// What stands inside messages: fids, tags and group numbers, qids, and the entries of a directory. Its specs say which body each type of
+// message has: document 01's two tables.
+
+pub mod dirents;
+pub mod ids;
+pub mod qids;

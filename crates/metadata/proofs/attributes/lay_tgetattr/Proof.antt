@@ -1,0 +1,15 @@
+use Rattle.laying.specs.LayingLaws.{lay-num, lay, laid-none, laid-length}
+use Rattle.metadata.proofs.attributes.lay_tgetattr.Statement.{statement}
+use Rattle.metadata.proofs.attributes.lay_tgetattr.Tie as tie
+
+returns : tie.Need-returns
+returns c =
+    let c2 = c .before .before in
+    let c1 = c2 .before .before .before .before in
+    lay (lay-num (c1 .lay-u32 .ensures)) (lay (lay-num (c2 .lay-u64 .ensures)) laid-none)
+
+same-length : tie.Need-same-length
+same-length c = laid-length (returns c)
+
+pub lay-tgetattr-spec : {M : Type 1} → statement M
+lay-tgetattr-spec = tie.close (tie.spec (λ _ _. tt) (λ _ _. tt) same-length returns)

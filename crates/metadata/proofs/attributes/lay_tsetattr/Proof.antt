@@ -1,0 +1,23 @@
+use Rattle.laying.specs.LayingLaws.{lay-num, lay, laid-none, laid-length}
+use Rattle.metadata.proofs.attributes.lay_tsetattr.Statement.{statement}
+use Rattle.metadata.proofs.attributes.lay_tsetattr.Tie as tie
+
+returns : tie.Need-returns
+returns c =
+    let c10 = c .before .before in
+    let c9 = c10 .before .before .before .before in
+    let c8 = c9 .before .before .before .before in
+    let c7 = c8 .before .before .before .before in
+    let c6 = c7 .before .before .before .before in
+    let c5 = c6 .before .before .before .before in
+    let c4 = c5 .before .before .before .before .before in
+    let c3 = c4 .before .before .before .before in
+    let c2 = c3 .before .before .before .before in
+    let c1 = c2 .before .before .before .before in
+    lay (lay-num (c1 .lay-u32 .ensures)) (lay (lay-num (c2 .lay-u322 .ensures)) (lay (lay-num (c3 .lay-u323 .ensures)) (lay (lay-num (c4 .lay-u324 .ensures)) (lay (lay-num (c5 .lay-u325 .ensures)) (lay (lay-num (c6 .lay-u64 .ensures)) (lay (lay-num (c7 .lay-u642 .ensures)) (lay (lay-num (c8 .lay-u643 .ensures)) (lay (lay-num (c9 .lay-u644 .ensures)) (lay (lay-num (c10 .lay-u645 .ensures)) laid-none)))))))))
+
+same-length : tie.Need-same-length
+same-length c = laid-length (returns c)
+
+pub lay-tsetattr-spec : {M : Type 1} → statement M
+lay-tsetattr-spec = tie.close (tie.spec (λ _ _. tt) (λ _ _. tt) (λ _ _. tt) (λ _ _. tt) (λ _ _. tt) (λ _ _. tt) (λ _ _. tt) (λ _ _. tt) (λ _ _. tt) (λ _ _. tt) same-length returns)

@@ -1,0 +1,17 @@
+use Rattle.laying.specs.LayingLaws.{lay-num, lay, laid-none, laid-length}
+use Rattle.metadata.proofs.attributes.lay_txattrcreate.Statement.{statement}
+use Rattle.metadata.proofs.attributes.lay_txattrcreate.Tie as tie
+
+returns : tie.Need-returns
+returns c =
+    let c4 = c .before .before in
+    let c3 = c4 .before .before .before .before in
+    let c2 = c3 .before .before .before .before in
+    let c1 = c2 .before .before .before .before .before in
+    lay (lay-num (c1 .lay-u32 .ensures)) (lay (c2 .lay-str .ensures) (lay (lay-num (c3 .lay-u64 .ensures)) (lay (lay-num (c4 .lay-u322 .ensures)) laid-none)))
+
+same-length : tie.Need-same-length
+same-length c = laid-length (returns c)
+
+pub lay-txattrcreate-spec : {M : Type 1} → statement M
+lay-txattrcreate-spec = tie.close (tie.spec (λ _ _. tt) (λ _ _. tt) (λ _ _. tt) (λ _ _. tt) same-length returns)

@@ -1,0 +1,14 @@
+use Rattle.laying.specs.LayingLaws.{lay-num, lay, laid-none, laid-length}
+use Rattle.metadata.proofs.locks.lay_rlock.Statement.{statement}
+use Rattle.metadata.proofs.locks.lay_rlock.Tie as tie
+
+returns : tie.Need-returns
+returns c =
+    let c1 = c .before .before in
+    lay (lay-num (c1 .lay-u8 .ensures)) laid-none
+
+same-length : tie.Need-same-length
+same-length c = laid-length (returns c)
+
+pub lay-rlock-spec : {M : Type 1} → statement M
+lay-rlock-spec = tie.close (tie.spec (λ _ _. tt) same-length returns)

@@ -1,0 +1,228 @@
+// Locks.
+
+use layouts::ids::Fid;
+use numbers::Place;
+use strings::Span;
+ghost use Rattle.fields.specs.Fields.{Fields};
+ghost use Rattle.laying.specs.Laying.{Laid, Written};
+ghost use Rattle.layouts.specs.Tables.{layoutT, layoutR};
+ghost use Rattle.metadata.specs.Records.{tlock, rlock, tgetlock, rgetlock};
+
+pub struct Tlock {
+    pub fid: Fid,
+    pub type_: u8,
+    pub flags: u32,
+    pub start: u64,
+    pub length: u64,
+    pub proc_id: u32,
+    pub client_id: Span,
+}
+
+pub struct ReadTlock {
+    pub value: Tlock,
+    pub next: Place,
+}
+
+pub fn read_tlock(s: &[u8], p: Place) -> ReadTlock
+    ensures { λ r. ⌜ Fields (layoutT 52) (now (s .entry)) p (tlock (r .value)) (r .next) ⌝ }
+{
+    let r1 = numbers::read_u32(s, p);
+    let p1 = r1.next;
+    let fid = Fid(r1.value);
+    let r2 = numbers::read_u8(s, p1);
+    let p2 = r2.next;
+    let r3 = numbers::read_u32(s, p2);
+    let p3 = r3.next;
+    let r4 = numbers::read_u64(s, p3);
+    let p4 = r4.next;
+    let r5 = numbers::read_u64(s, p4);
+    let p5 = r5.next;
+    let r6 = numbers::read_u32(s, p5);
+    let p6 = r6.next;
+    let r7 = strings::read_str(s, p6);
+    let p7 = r7.next;
+    let client_id = r7.value;
+    let value = Tlock {
+        fid,
+        type_: r2.value,
+        flags: r3.value,
+        start: r4.value,
+        length: r5.value,
+        proc_id: r6.value,
+        client_id,
+    };
+    ReadTlock { value, next: p7 }
+}
+
+fn lay_tlock(out: &mut [u8], p: Place, lent: &[u8], m: Tlock, put: bool) -> Place
+    ensures { λ r. ⌜ Laid (layoutT 52) (now (lent .entry)) (tlock m) put (now (out .entry)) p (now (out .exit)) r ⌝ }
+{
+    let fid = m.fid;
+    let p1 = laying::lay_u32(out, p, fid.0, put);
+    let p2 = laying::lay_u8(out, p1, m.type_, put);
+    let p3 = laying::lay_u32(out, p2, m.flags, put);
+    let p4 = laying::lay_u64(out, p3, m.start, put);
+    let p5 = laying::lay_u64(out, p4, m.length, put);
+    let p6 = laying::lay_u32(out, p5, m.proc_id, put);
+    let client_id = m.client_id;
+    laying::lay_str(out, p6, lent, client_id, put)
+}
+
+pub fn write_tlock(out: &mut [u8], p: Place, lent: &[u8], m: Tlock) -> Place
+    ensures { λ r. ⌜ Written (layoutT 52) (now (lent .entry)) (tlock m) (now (out .entry)) p (now (out .exit)) r ⌝ }
+{
+    let end = lay_tlock(out, p, lent, m, laying::CHECK);
+    let start = laying::begun(p, end, out.len());
+    lay_tlock(out, start, lent, m, laying::PUT)
+}
+
+pub struct Rlock {
+    pub status: u8,
+}
+
+pub struct ReadRlock {
+    pub value: Rlock,
+    pub next: Place,
+}
+
+pub fn read_rlock(s: &[u8], p: Place) -> ReadRlock
+    ensures { λ r. ⌜ Fields (layoutR 53) (now (s .entry)) p (rlock (r .value)) (r .next) ⌝ }
+{
+    let r1 = numbers::read_u8(s, p);
+    let p1 = r1.next;
+    let value = Rlock { status: r1.value };
+    ReadRlock { value, next: p1 }
+}
+
+fn lay_rlock(out: &mut [u8], p: Place, lent: &[u8], m: Rlock, put: bool) -> Place
+    ensures { λ r. ⌜ Laid (layoutR 53) (now (lent .entry)) (rlock m) put (now (out .entry)) p (now (out .exit)) r ⌝ }
+{
+    laying::lay_u8(out, p, m.status, put)
+}
+
+pub fn write_rlock(out: &mut [u8], p: Place, lent: &[u8], m: Rlock) -> Place
+    ensures { λ r. ⌜ Written (layoutR 53) (now (lent .entry)) (rlock m) (now (out .entry)) p (now (out .exit)) r ⌝ }
+{
+    let end = lay_rlock(out, p, lent, m, laying::CHECK);
+    let start = laying::begun(p, end, out.len());
+    lay_rlock(out, start, lent, m, laying::PUT)
+}
+
+pub struct Tgetlock {
+    pub fid: Fid,
+    pub type_: u8,
+    pub start: u64,
+    pub length: u64,
+    pub proc_id: u32,
+    pub client_id: Span,
+}
+
+pub struct ReadTgetlock {
+    pub value: Tgetlock,
+    pub next: Place,
+}
+
+pub fn read_tgetlock(s: &[u8], p: Place) -> ReadTgetlock
+    ensures { λ r. ⌜ Fields (layoutT 54) (now (s .entry)) p (tgetlock (r .value)) (r .next) ⌝ }
+{
+    let r1 = numbers::read_u32(s, p);
+    let p1 = r1.next;
+    let fid = Fid(r1.value);
+    let r2 = numbers::read_u8(s, p1);
+    let p2 = r2.next;
+    let r3 = numbers::read_u64(s, p2);
+    let p3 = r3.next;
+    let r4 = numbers::read_u64(s, p3);
+    let p4 = r4.next;
+    let r5 = numbers::read_u32(s, p4);
+    let p5 = r5.next;
+    let r6 = strings::read_str(s, p5);
+    let p6 = r6.next;
+    let client_id = r6.value;
+    let value = Tgetlock {
+        fid,
+        type_: r2.value,
+        start: r3.value,
+        length: r4.value,
+        proc_id: r5.value,
+        client_id,
+    };
+    ReadTgetlock { value, next: p6 }
+}
+
+fn lay_tgetlock(out: &mut [u8], p: Place, lent: &[u8], m: Tgetlock, put: bool) -> Place
+    ensures { λ r. ⌜ Laid (layoutT 54) (now (lent .entry)) (tgetlock m) put (now (out .entry)) p (now (out .exit)) r ⌝ }
+{
+    let fid = m.fid;
+    let p1 = laying::lay_u32(out, p, fid.0, put);
+    let p2 = laying::lay_u8(out, p1, m.type_, put);
+    let p3 = laying::lay_u64(out, p2, m.start, put);
+    let p4 = laying::lay_u64(out, p3, m.length, put);
+    let p5 = laying::lay_u32(out, p4, m.proc_id, put);
+    let client_id = m.client_id;
+    laying::lay_str(out, p5, lent, client_id, put)
+}
+
+pub fn write_tgetlock(out: &mut [u8], p: Place, lent: &[u8], m: Tgetlock) -> Place
+    ensures { λ r. ⌜ Written (layoutT 54) (now (lent .entry)) (tgetlock m) (now (out .entry)) p (now (out .exit)) r ⌝ }
+{
+    let end = lay_tgetlock(out, p, lent, m, laying::CHECK);
+    let start = laying::begun(p, end, out.len());
+    lay_tgetlock(out, start, lent, m, laying::PUT)
+}
+
+pub struct Rgetlock {
+    pub type_: u8,
+    pub start: u64,
+    pub length: u64,
+    pub proc_id: u32,
+    pub client_id: Span,
+}
+
+pub struct ReadRgetlock {
+    pub value: Rgetlock,
+    pub next: Place,
+}
+
+pub fn read_rgetlock(s: &[u8], p: Place) -> ReadRgetlock
+    ensures { λ r. ⌜ Fields (layoutR 55) (now (s .entry)) p (rgetlock (r .value)) (r .next) ⌝ }
+{
+    let r1 = numbers::read_u8(s, p);
+    let p1 = r1.next;
+    let r2 = numbers::read_u64(s, p1);
+    let p2 = r2.next;
+    let r3 = numbers::read_u64(s, p2);
+    let p3 = r3.next;
+    let r4 = numbers::read_u32(s, p3);
+    let p4 = r4.next;
+    let r5 = strings::read_str(s, p4);
+    let p5 = r5.next;
+    let client_id = r5.value;
+    let value = Rgetlock {
+        type_: r1.value,
+        start: r2.value,
+        length: r3.value,
+        proc_id: r4.value,
+        client_id,
+    };
+    ReadRgetlock { value, next: p5 }
+}
+
+fn lay_rgetlock(out: &mut [u8], p: Place, lent: &[u8], m: Rgetlock, put: bool) -> Place
+    ensures { λ r. ⌜ Laid (layoutR 55) (now (lent .entry)) (rgetlock m) put (now (out .entry)) p (now (out .exit)) r ⌝ }
+{
+    let p1 = laying::lay_u8(out, p, m.type_, put);
+    let p2 = laying::lay_u64(out, p1, m.start, put);
+    let p3 = laying::lay_u64(out, p2, m.length, put);
+    let p4 = laying::lay_u32(out, p3, m.proc_id, put);
+    let client_id = m.client_id;
+    laying::lay_str(out, p4, lent, client_id, put)
+}
+
+pub fn write_rgetlock(out: &mut [u8], p: Place, lent: &[u8], m: Rgetlock) -> Place
+    ensures { λ r. ⌜ Written (layoutR 55) (now (lent .entry)) (rgetlock m) (now (out .entry)) p (now (out .exit)) r ⌝ }
+{
+    let end = lay_rgetlock(out, p, lent, m, laying::CHECK);
+    let start = laying::begun(p, end, out.len());
+    lay_rgetlock(out, start, lent, m, laying::PUT)
+}

@@ -1,0 +1,42 @@
+-- Text with no byte above 127 is UTF-8, and text whose least byte is not 0 has no zero byte.
+use mathlib.Core.Path.{_≡_, sym, _∙_}
+use mathlib.Core.Bool.{true}
+use mathlib.Core.Logic.{⊎-elim}
+use native.Mathlib.Omega.{arith}
+use borrow.Author.Needs.{needs}
+use borrow.Author.Tests.{not-true, not-false}
+use Rattle.utf8.specs.Utf8Laws.{ascii-text, zero-text, full-text}
+use Rattle.strings.proofs.Ways.{text-bad, text-zero, text-fine}
+use Rattle.strings.proofs.check_text.Statement.{statement}
+use Rattle.strings.proofs.check_text.Tie as tie
+
+enum-told : tie.Need-enum-told
+enum-told c = search needs
+
+enum-told-2 : tie.Need-enum-told-2
+enum-told-2 c = search needs
+
+returns : tie.Need-returns
+returns c = search needs
+
+returns-2 : tie.Need-returns-2
+returns-2 c =
+    text-bad (c .before .before .before .before .before .enum-told .given .1) (sym (c .before .all-characters .ensures) ∙ not-true _ (c .if2 .taken))
+
+returns-3 : tie.Need-returns-3
+returns-3 c =
+    let d = c .before .before .before .before in
+    let s = d .before .before .before .before .args .s .now in
+    let u = ⊎-elim (λ w. sym (w .1 .ensures) ∙ not-false _ (w .2 .left)) (λ w. ascii-text s (omega (arith, d .extremes-of .ensures .1))) (c .before .before .if1 .came) in
+    text-zero (d .before .enum-told .given .1) u (zero-text s (sym (d .extremes-of .ensures .0) ∙ c .if3 .taken))
+
+returns-4 : tie.Need-returns-4
+returns-4 c =
+    let d = c .before .before .before .before in
+    let s = d .before .before .before .before .args .s .now in
+    let u = ⊎-elim (λ w. sym (w .1 .ensures) ∙ not-false _ (w .2 .left)) (λ w. ascii-text s (omega (arith, d .extremes-of .ensures .1))) (c .before .before .if1 .came) in
+    text-fine (d .before .enum-told .given .1) u (full-text s (λ e. c .if3 .left (d .extremes-of .ensures .0 ∙ e)))
+
+pub check-text-spec : {M : Type 1} → statement M
+check-text-spec =
+    tie.close (tie.spec enum-told enum-told-2 returns (λ _ _. tt) (λ _ _. tt) returns-2 returns-3 returns-4)

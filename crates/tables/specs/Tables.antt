@@ -1,0 +1,51 @@
+-- Document 01, "Writing one frame": "Names may also come as a lent table of spans, and the qids of an Rwalk as a lent table of qids, each 13 bytes on the wire; there 8 comes before any element."
+use Prim.Native.Nat.{ℕ}
+use mathlib.Core.Path.{_≡_}
+use mathlib.Core.Bool.{cond}
+use mathlib.Core.List.{List, [], _∷_, map}
+use lib.ListN.{length, getD}
+use lib.Dec.{ltb}
+use Rattle.numbers.specs.Reading.{Result, ok, bad}
+use Rattle.numbers.specs.declared.Refusal.the-variants as R
+use Rattle.numbers.specs.declared.Place.{Place}
+use Rattle.fields.specs.Layouts.{Field, num, str, Layout, Item, number}
+use Rattle.fields.specs.Values.{Value, val, span, shows}
+use Rattle.layouts.specs.declared.qids.Qid.{Qid}
+use Rattle.framing.specs.Writing.{frameOut, framePast}
+
+-- a frame made of what a table gives, or refused with it
+pub record TableWritten (ty tag : ℕ) (m : Result (List Item)) (o o' : List ℕ) (q : Place) : Type 0 where
+  pub bytes : o' ≡ frameOut ty tag m o
+  pub next : q ≡ framePast ty tag m o
+
+-- "8 comes before any element"
+abbrev pub fromTable : ℕ → Result (List Item) → Result (List Item)
+fromTable n m = cond (ltb 65535 n) (bad R.TableTooLong) m
+
+-- ---- names: a row of the table is a span, its start and its length
+
+abbrev pub nameFields : List (List ℕ) → Layout
+nameFields t = map (λ row. str) t
+
+abbrev pub nameValues : List (List ℕ) → List Value
+nameValues t = map (λ row. span (getD row 0 0) (getD row 1 0)) t
+
+-- Twalk: "4 4, vector of s"; "A vector is count[2] and its elements."
+abbrev pub walkFields : List (List ℕ) → Layout
+walkFields t = num 4 ∷ num 4 ∷ num 2 ∷ nameFields t
+
+abbrev pub walkValues : ℕ → ℕ → ℕ → List (List ℕ) → List Value
+walkValues fid newfid count t = val fid ∷ val newfid ∷ val count ∷ nameValues t
+
+pub record TwalkWritten (tag fid newfid : ℕ) (lent : List ℕ) (t : List (List ℕ)) (o o' : List ℕ) (q : Place) : Type 0 where
+  pub is : TableWritten 110 tag (fromTable (length t) (shows (walkFields t) lent (walkValues fid newfid (length t) t))) o o' q
+
+-- ---- qids: "ty[1] version[4] path[8]"
+
+unfoldable pub qidItems : List Qid → List Item
+qidItems [] = []
+qidItems (x ∷ xs) = number 1 (x .ty) ∷ number 4 (x .version) ∷ number 8 (x .path) ∷ qidItems xs
+
+-- Rwalk: "vector of q"
+pub record RwalkWritten (tag : ℕ) (t : List Qid) (o o' : List ℕ) (q : Place) : Type 0 where
+  pub is : TableWritten 111 tag (fromTable (length t) (ok (number 2 (length t) ∷ qidItems t) [])) o o' q
