@@ -21,15 +21,6 @@ pub fn part(s: &[u8], from: usize, to: usize) -> &[u8] {
     &s[from..to]
 }
 
-// What stands behind the character at `at`.
-pub fn behind(s: &[u8], at: usize) -> &[u8] {
-    if s.len() <= at {
-        return &s[..0];
-    }
-    let from = at + 1;
-    &s[from..]
-}
-
 // A digit's value; 16 for any other character.
 fn value(c: u8) -> u8 {
     match c {
@@ -87,12 +78,13 @@ pub fn repeat(out: &mut [u8], count: usize, most: usize, back: usize) -> usize {
     i
 }
 
-// The numbers of a question, 0 where it has fewer; whether one is marked by `!`; whether nothing else stands among them; where they end.
+// The numbers of a question, 0 where it has fewer; whether one is marked by `!`; whether nothing else stands among them; where its
+// bytes begin, if it has any.
 pub struct Figures {
     pub numbers: [u64; 16],
     pub marked: bool,
     pub sound: bool,
-    pub end: usize,
+    pub bytes: usize,
 }
 
 // One digit more. What is too great for a number is the greatest.
@@ -110,6 +102,7 @@ pub fn read_figures(line: &[u8]) -> Figures {
     let mut at: usize = 15;
     let mut marked = false;
     let mut sound = true;
+    let mut bytes = line.len();
     let mut i = 1;
     while i < line.len() {
         let c = line[i];
@@ -120,6 +113,7 @@ pub fn read_figures(line: &[u8]) -> Figures {
             b'*' => at = 14,
             b'!' => marked = true,
             b'/' => {
+                bytes = i + 1;
                 break;
             }
             _ => sound = false,
@@ -130,7 +124,7 @@ pub fn read_figures(line: &[u8]) -> Figures {
         numbers,
         marked,
         sound,
-        end: i,
+        bytes,
     }
 }
 
@@ -182,21 +176,21 @@ pub fn list(numbers: &[u64]) {
     }
 }
 
-// Where a reading or a writing ended, after a word; or why it was refused.
-pub fn ended(text: &[u8], refusal: u8, n: usize) {
+// Where a reading or a putting ended; or why it was refused.
+pub fn at(refusal: u8, n: usize) {
     if refusal == 0 {
-        word(text);
+        word(b" at");
         figure(n as u64);
         return;
     }
-    word(b"refused");
+    word(b" refused");
     figure(refusal as u64);
 }
 
-pub fn placed(text: &[u8], p: Place) {
+pub fn placed(p: Place) {
     match p {
-        Place::At(n) => ended(text, 0, n),
-        Place::Refused(k) => ended(text, numbers::number(k), 0),
+        Place::At(n) => at(0, n),
+        Place::Refused(k) => at(numbers::number(k), 0),
     }
 }
 
@@ -220,8 +214,12 @@ fn print_run(b: u8, run: u64) {
     }
 }
 
-// Bytes by their digits; more than 1,024 of them by their runs, as `ff*2.61*65535.`.
+// Bytes, and the space before them: their digits, or, of more than 1,024, their runs, as `ff*2.61*65535.`.
 pub fn print(s: &[u8]) {
+    if s.len() == 0 {
+        return;
+    }
+    word(b" ");
     let mut run: u64 = 0;
     let mut i = 0;
     while i < s.len() {

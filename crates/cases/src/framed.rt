@@ -23,14 +23,14 @@ fn head(refusal: u8, ty: u8, tag: u16, tagged: bool, used: usize) {
 }
 
 // The answer is where writing ended; 0 where there is no frame to write.
-fn request(s: &[u8], out: &mut [u8]) -> Place {
+fn request(s: &[u8], ty: u8, out: &mut [u8]) -> Place {
     let r = frames::read_tframe(s);
     match r {
         ReadTframe::Frame(f) => {
             let tag = f.tag;
             let msg = f.msg;
             match msg {
-                Tbody::Message(m, used) => head(0, requests::type_of(m), tag.0, true, used),
+                Tbody::Message(_, used) => head(0, ty, tag.0, true, used),
                 Tbody::Refused(k) => head(numbers::number(k), 0, tag.0, true, 0),
             }
             frames::write_tframe(out, s, f)
@@ -42,13 +42,12 @@ fn request(s: &[u8], out: &mut [u8]) -> Place {
     }
 }
 
-fn reply(s: &[u8], out: &mut [u8]) -> Place {
+fn reply(s: &[u8], ty: u8, out: &mut [u8]) -> Place {
     let r = frames::read_rframe(s);
     match r {
         ReadRframe::Frame(f, used) => {
             let tag = f.tag;
-            let msg = f.msg;
-            head(0, replies::type_of(msg), tag.0, true, used);
+            head(0, ty, tag.0, true, used);
             frames::write_rframe(out, s, f)
         }
         ReadRframe::Refused(k) => {
@@ -65,9 +64,6 @@ fn again(out: &[u8], p: Place) {
     match p {
         Place::At(n) => {
             end = n;
-            if 0 < n {
-                digits::word(b" ");
-            }
             digits::print(digits::part(out, 0, n));
         }
         Place::Refused(k) => digits::figure(numbers::number(k) as u64),
@@ -77,15 +73,22 @@ fn again(out: &[u8], p: Place) {
     }
 }
 
-// T and R.
+fn type_of(s: &[u8]) -> u8 {
+    if s.len() < 5 {
+        return 0;
+    }
+    s[4]
+}
+
+// T and R. The type is the frame's own; that of the record stands in what is written.
 pub fn typed(direction: u8, s: &[u8]) {
     let mut out = [0xeeu8; 1024];
     if direction == b'T' {
-        let p = request(s, &mut out);
+        let p = request(s, type_of(s), &mut out);
         again(&out, p);
         return;
     }
-    let p = reply(s, &mut out);
+    let p = reply(s, type_of(s), &mut out);
     again(&out, p);
 }
 
@@ -100,21 +103,21 @@ fn show_reply(v: &[u64; 22]) {
 fn flat_request(s: &[u8], out: &mut [u8]) {
     let mut values = [0u64; 10];
     let r = exports::sheafsledge_read_tframe(s, &mut values);
+    digits::word(b" ");
     head(r.refusal, r.ty, r.tag, r.tagged, r.used);
     show_request(&values);
     let w = exports::sheafsledge_write_tframe(out, s, r.refusal, r.ty, r.tag, &values);
-    digits::word(b" ");
-    digits::ended(b"written", w.refusal, w.len);
+    digits::at(w.refusal, w.len);
 }
 
 fn flat_reply(s: &[u8], out: &mut [u8]) {
     let mut values = [0u64; 22];
     let r = exports::sheafsledge_read_rframe(s, &mut values);
+    digits::word(b" ");
     head(r.refusal, r.ty, r.tag, r.refusal == 0, r.used);
     show_reply(&values);
     let w = exports::sheafsledge_write_rframe(out, s, r.refusal, r.ty, r.tag, &values);
-    digits::word(b" ");
-    digits::ended(b"written", w.refusal, w.len);
+    digits::at(w.refusal, w.len);
 }
 
 // t and r: every value of the record, and an output of so much room.

@@ -38,7 +38,7 @@ fn names(out: &mut [u8], n: &[u64; 16], s: &[u8]) {
     rows[1] = [n[4] as usize, n[5] as usize];
     rows[2] = [n[6] as usize, n[7] as usize];
     let w = walks::sheafsledge_write_twalk(out, s, 3, 1, 2, first(&rows, n[0] as usize));
-    digits::ended(b"written", w.refusal, w.len);
+    digits::at(w.refusal, w.len);
 }
 
 // A frame from its type, its tag and up to five values: a request where the type is even.
@@ -48,7 +48,7 @@ fn frame(out: &mut [u8], n: &[u64; 16], s: &[u8]) {
     if ty % 2 == 0 {
         let v = [n[3], n[4], n[5], n[6], n[7], 0, 0, 0, 0, 0];
         let w = exports::sheafsledge_write_tframe(out, s, 0, ty, tag, &v);
-        digits::ended(b"written", w.refusal, w.len);
+        digits::at(w.refusal, w.len);
         return;
     }
     let v = [
@@ -76,7 +76,7 @@ fn frame(out: &mut [u8], n: &[u64; 16], s: &[u8]) {
         0,
     ];
     let w = exports::sheafsledge_write_rframe(out, s, 0, ty, tag, &v);
-    digits::ended(b"written", w.refusal, w.len);
+    digits::at(w.refusal, w.len);
 }
 
 // A Tversion of that many letters. There are 65,536 of them, one more than a string may have.
@@ -93,7 +93,7 @@ fn letters(out: &mut [u8], n: u64) {
 fn entry(out: &mut [u8], at: usize, s: &[u8]) {
     let d = dirents::sheafsledge_read_dirent(s, at);
     let qid = d.qid;
-    digits::ended(b"at", d.refusal, d.next);
+    digits::at(d.refusal, d.next);
     digits::list(
         &[
             qid.ty as u64,
@@ -106,8 +106,7 @@ fn entry(out: &mut [u8], at: usize, s: &[u8]) {
         ],
     );
     let w = dirents::sheafsledge_write_dirent(out, at, s, d);
-    digits::word(b" ");
-    digits::ended(b"written", w.refusal, w.len);
+    digits::at(w.refusal, w.len);
 }
 
 fn put(kind: u8, out: &mut [u8], p: Place, n: &[u64; 16], s: &[u8]) {
@@ -118,9 +117,9 @@ fn put(kind: u8, out: &mut [u8], p: Place, n: &[u64; 16], s: &[u8]) {
         len: d as usize,
     };
     match kind {
-        b'p' => digits::placed(b"written", number(out, p, c, d)),
-        b'b' => digits::placed(b"written", strings::put_bytes(out, p, s, v)),
-        b'e' => digits::placed(b"written", strings::put_str(out, p, s, v)),
+        b'p' => digits::placed(number(out, p, c, d)),
+        b'b' => digits::placed(strings::put_bytes(out, p, s, v)),
+        b'e' => digits::placed(strings::put_str(out, p, s, v)),
         b'm' | b'W' => names(out, n, s),
         b'S' => letters(out, n[0]),
         b'd' => entry(out, n[0] as usize, s),
@@ -136,7 +135,6 @@ pub fn write(kind: u8, room: u64, p: Place, n: &[u64; 16], s: &[u8]) {
     match kind {
         b'S' | b'W' => {}
         _ => {
-            digits::word(b" =");
             digits::print(digits::part(&out, 0, room as usize));
         }
     }
@@ -162,11 +160,10 @@ fn join(text: &mut [u8]) {
 pub fn list(from: usize, room: usize, s: &[u8]) {
     let mut out = digits::room();
     let p = listing::report(front(&mut out, room), s);
-    digits::placed(b"written", p);
-    join(&mut out);
-    let Place::At(end) = p else {
-        return;
-    };
-    digits::word(b" ");
-    digits::word(digits::part(&out, from, end));
+    digits::placed(p);
+    if let Place::At(end) = p {
+        join(&mut out);
+        digits::word(b" ");
+        digits::word(digits::part(&out, from, end));
+    }
 }

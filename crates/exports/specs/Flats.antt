@@ -17,7 +17,8 @@ use Rattle.layouts.specs.Tables.{Row, lookup}
 use Rattle.layouts.specs.Bodies.{Answer, accepted, refused}
 use Rattle.framing.specs.Frames.{Frame, headless, framed}
 use Rattle.framing.specs.Writing.{frameOut, framePast}
-use Rattle.flat.specs.Flat.{flat, fieldValues}
+use Rattle.flat.specs.Flat.{flat}
+use Rattle.flat_frames.specs.Writing.{flatShows}
 use Rattle.exports.specs.Answers.{Leaves}
 use Rattle.exports.specs.declared.FlatT.{FlatT}
 use Rattle.exports.specs.declared.FlatR.{FlatR}
@@ -68,15 +69,6 @@ kept n (Refused k) ns = flat n []
 
 -- ---- writing
 
--- what numbers show by the layout of a type's row: 3 where it has none
-abbrev pub showsFrom : Option Layout → List ℕ → List ℕ → Result (List Item)
-showsFrom none lent ns = bad R.UnknownType
-showsFrom (some l) lent ns = shows l lent (fieldValues l ns)
-
--- 16 for a frame that holds a refusal
-abbrev pub flatShows : List Row → ℕ → ℕ → List ℕ → List ℕ → Result (List Item)
-flatShows rows refusal ty lent ns = cond (eqb refusal 0) (showsFrom (lookup rows ty) lent ns) (bad R.HoldsRefusal)
-
 -- refused, the output is as it was; else the frame stands at its front
-pub record FlatWritten (rows : List Row) (refusal ty tag : ℕ) (ns lent o o' : List ℕ) (w : Wrote) : Type 0 where
+pub record FlatWrote (rows : List Row) (refusal ty tag : ℕ) (ns lent o o' : List ℕ) (w : Wrote) : Type 0 where
   pub is : Leaves (frameOut ty tag (flatShows rows refusal ty lent ns) o) (framePast ty tag (flatShows rows refusal ty lent ns) o) o' w

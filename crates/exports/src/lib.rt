@@ -6,20 +6,15 @@ pub mod stretches;
 pub mod texts;
 pub mod walks;
 
-use frames::Rframe;
-use frames::Tframe;
 use framing::Head;
-use layouts::ids::Tag;
 use numbers::Place;
 use numbers::Refusal;
-use replies::Rbody;
-use requests::Tbody;
 ghost use mathlib.Core.Path.{_≡_};
 ghost use mathlib.Core.List.{[]};
 ghost use Rattle.flat.specs.Flat.{flat};
 ghost use Rattle.layouts.specs.Tables.{tableT, tableR};
 ghost use Rattle.framing.specs.Frames.{readFrame, refusedWhole};
-ghost use Rattle.exports.specs.Flats.{refusedT, flatT, flatBodyT, refusedR, flatR, flatBodyR, valuesIn, kept, FlatWritten};
+ghost use Rattle.exports.specs.Flats.{refusedT, flatT, flatBodyT, refusedR, flatR, flatBodyR, valuesIn, kept, FlatWrote};
 ghost use Rattle.exports.specs.Answers.{wroteOf};
 
 // A request: 0 with its type, tag and bytes used; or its refusal, with the tag if the header could be read. Its values go to where the
@@ -163,20 +158,9 @@ pub extern "C" fn sheafsledge_write_tframe(
     tag: u16,
     values: &[u64; 10],
 ) -> Wrote
-    ensures { λ r. ⌜ FlatWritten tableT refusal ty tag (now (values .entry)) (now (lent .entry)) (now (out .entry)) (now (out .exit)) r ⌝ }
+    ensures { λ r. ⌜ FlatWrote tableT refusal ty tag (now (values .entry)) (now (lent .entry)) (now (out .entry)) (now (out .exit)) r ⌝ }
 {
-    if refusal != 0 {
-        return wrote_of(Place::Refused(Refusal::HoldsRefusal));
-    }
-    let msg = flat_requests::tbody_of(ty, *values, 0);
-    match msg {
-        Tbody::Message(_, _) => {
-            let tag = Tag(tag);
-            let f = Tframe { tag, msg };
-            wrote_of(frames::write_tframe(out, lent, f))
-        }
-        Tbody::Refused(k) => wrote_of(Place::Refused(k)),
-    }
+    wrote_of(flat_frames::write_tframe(out, lent, refusal, ty, tag, values))
 }
 
 // A reply, in the same way.
@@ -189,18 +173,7 @@ pub extern "C" fn sheafsledge_write_rframe(
     tag: u16,
     values: &[u64; 22],
 ) -> Wrote
-    ensures { λ r. ⌜ FlatWritten tableR refusal ty tag (now (values .entry)) (now (lent .entry)) (now (out .entry)) (now (out .exit)) r ⌝ }
+    ensures { λ r. ⌜ FlatWrote tableR refusal ty tag (now (values .entry)) (now (lent .entry)) (now (out .entry)) (now (out .exit)) r ⌝ }
 {
-    if refusal != 0 {
-        return wrote_of(Place::Refused(Refusal::HoldsRefusal));
-    }
-    let body = flat_replies::rbody_of(ty, *values, 0);
-    match body {
-        Rbody::Message(msg, _) => {
-            let tag = Tag(tag);
-            let f = Rframe { tag, msg };
-            wrote_of(frames::write_rframe(out, lent, f))
-        }
-        Rbody::Refused(k) => wrote_of(Place::Refused(k)),
-    }
+    wrote_of(flat_frames::write_rframe(out, lent, refusal, ty, tag, values))
 }

@@ -9,9 +9,14 @@ fn front(s: &[u8], len: usize) -> &[u8] {
     strings::shown(s, Span { start: 0, len })
 }
 
-// The whole text leaves by one write. There is room for the most lines that 65,536 bytes can give.
+// Room for the most lines that 65,536 bytes can give.
+fn room() -> [u8; 300000] {
+    [0; 300000]
+}
+
+// The whole text leaves by one write.
 fn list(s: &[u8]) {
-    let mut out = [0u8; 300000];
+    let mut out = room();
     let p = listing::report(&mut out, s);
     match p {
         Place::At(n) => {

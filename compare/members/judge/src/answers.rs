@@ -31,23 +31,29 @@ pub fn answer(direction: Direction, frame: &[u8]) -> String {
 
 /// The seller's answer to a Tversion of that many letters.
 pub fn letters(count: usize) -> String {
-    length(P9String::new(vec![b'a'; count]).and_then(|version| {
-        encoded(Tmessage::Version(Tversion {
-            msize: 8192,
-            version,
-        }))
-    }))
+    length(
+        'S',
+        P9String::new(vec![b'a'; count]).and_then(|version| {
+            encoded(Tmessage::Version(Tversion {
+                msize: 8192,
+                version,
+            }))
+        }),
+    )
 }
 
 /// The seller's answer to a Twalk of that many empty names.
 pub fn names(count: usize) -> String {
-    length(P9String::new(Vec::new()).and_then(|name| {
-        encoded(Tmessage::Walk(Twalk {
-            fid: 1,
-            newfid: 2,
-            wnames: vec![name; count],
-        }))
-    }))
+    length(
+        'W',
+        P9String::new(Vec::new()).and_then(|name| {
+            encoded(Tmessage::Walk(Twalk {
+                fid: 1,
+                newfid: 2,
+                wnames: vec![name; count],
+            }))
+        }),
+    )
 }
 
 fn encoded(msg: Tmessage) -> io::Result<Vec<u8>> {
@@ -57,9 +63,9 @@ fn encoded(msg: Tmessage) -> io::Result<Vec<u8>> {
     })
 }
 
-fn length(frame: io::Result<Vec<u8>>) -> String {
+fn length(asked: char, frame: io::Result<Vec<u8>>) -> String {
     match frame {
-        Ok(bytes) => format!("written {}", bytes.len()),
-        Err(error) => format!("refused {}", digits(&error)),
+        Ok(bytes) => format!("{asked} at {}", bytes.len()),
+        Err(error) => format!("{asked} refused {}", digits(&error)),
     }
 }

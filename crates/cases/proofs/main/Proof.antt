@@ -1,3 +1,4 @@
+-- `cases::main` is safe and ends: the line keeps its room, and the reads that are left fall.
 use mathlib.Core.Path.{_≡_}
 use lib.ListN.{length}
 use borrow.Author.Needs.{needs}
@@ -5,10 +6,10 @@ use Rattle.cases.proofs.main.Statement.{statement}
 use Rattle.cases.proofs.main.Tie as tie
 
 abbrev Inv-loop : tie.InvT-loop
-Inv-loop line₀ n₀ turns₀ t6 line n turns = 170000 ≡ length line
+Inv-loop line₀ n₀ turns₀ line n turns = 170000 ≡ length line
 
 abbrev μ-loop : tie.MeasureT-loop
-μ-loop line₀ n₀ turns₀ t6 line n turns = turns
+μ-loop line₀ n₀ turns₀ line n turns = turns
 
 room-requires : tie.Need-room-requires Inv-loop μ-loop
 room-requires c κs = search needs
@@ -16,32 +17,23 @@ room-requires c κs = search needs
 loop-holds : tie.Need-loop-holds Inv-loop μ-loop
 loop-holds c = search needs
 
-slice-aggregate-read-some : tie.Need-slice-aggregate-read-some Inv-loop μ-loop
-slice-aggregate-read-some c = search needs
+slice-aggregate-read : tie.Need-slice-aggregate-read Inv-loop μ-loop
+slice-aggregate-read c = search needs
 
-read-some-requires : tie.Need-read-some-requires Inv-loop μ-loop
-read-some-requires c κs = search needs
-
-enum-known-turn : tie.Need-enum-known-turn Inv-loop μ-loop
-enum-known-turn c = search needs
-
-enum-told : tie.Need-enum-told Inv-loop μ-loop
-enum-told c = search needs
+read-requires : tie.Need-read-requires Inv-loop μ-loop
+read-requires c κs = search needs
 
 returns : tie.Need-returns Inv-loop μ-loop
 returns c = search needs
 
-enum-told-2 : tie.Need-enum-told-2 Inv-loop μ-loop
-enum-told-2 c = search needs
+slice-aggregate-taken : tie.Need-slice-aggregate-taken Inv-loop μ-loop
+slice-aggregate-taken c = search needs
 
-slice-aggregate-write-all : tie.Need-slice-aggregate-write-all Inv-loop μ-loop
-slice-aggregate-write-all c = search needs
+array-read-taken : tie.Need-array-read-taken Inv-loop μ-loop
+array-read-taken c = search needs
 
-write-all-requires : tie.Need-write-all-requires Inv-loop μ-loop
-write-all-requires c κs = search needs
-
-returns-2 : tie.Need-returns-2 Inv-loop μ-loop
-returns-2 c = search needs
+taken-requires : tie.Need-taken-requires Inv-loop μ-loop
+taken-requires c κs = search needs
 
 sub-turns : tie.Need-sub-turns Inv-loop μ-loop
 sub-turns c = search needs
@@ -52,8 +44,8 @@ loop-less c = search needs
 loop-again : tie.Need-loop-again Inv-loop μ-loop
 loop-again c = search needs
 
-returns-3 : tie.Need-returns-3 Inv-loop μ-loop
-returns-3 c = search needs
+returns-2 : tie.Need-returns-2 Inv-loop μ-loop
+returns-2 c = search needs
 
 pub main-spec : {M : Type 1} → statement M
 main-spec =
@@ -63,16 +55,13 @@ main-spec =
     μ-loop
     room-requires
     loop-holds
-    slice-aggregate-read-some
-    read-some-requires
-    enum-known-turn
-    enum-told
+    slice-aggregate-read
+    read-requires
     returns
-    enum-told-2
-    slice-aggregate-write-all
-    write-all-requires
-    returns-2
+    slice-aggregate-taken
+    array-read-taken
+    taken-requires
     sub-turns
     loop-less
     loop-again
-    returns-3)
+    returns-2)

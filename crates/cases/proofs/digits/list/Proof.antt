@@ -1,3 +1,4 @@
+-- `cases::digits::list` is safe and ends: the index stays within the numbers.
 use Prim.Native.Nat.{_≤_, _-_}
 use lib.ListN.{length}
 use borrow.Author.Needs.{needs}

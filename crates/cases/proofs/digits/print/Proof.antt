@@ -1,3 +1,4 @@
+-- `cases::digits::print` is safe and ends: the index stays within the bytes.
 use Prim.Native.Nat.{_≤_, _-_}
 use lib.ListN.{length}
 use borrow.Author.Needs.{needs}
@@ -9,6 +10,15 @@ Inv-loop s run₀ i₀ run i = i ≤ length s
 
 abbrev μ-loop : tie.MeasureT-loop
 μ-loop s run₀ i₀ run i = length s - i
+
+returns : tie.Need-returns Inv-loop μ-loop
+returns c = search needs
+
+slice-aggregate-word : tie.Need-slice-aggregate-word Inv-loop μ-loop
+slice-aggregate-word c = search needs
+
+word-requires : tie.Need-word-requires Inv-loop μ-loop
+word-requires c κs = search needs
 
 loop-holds : tie.Need-loop-holds Inv-loop μ-loop
 loop-holds c = search needs
@@ -34,8 +44,8 @@ loop-less c = search needs
 loop-again : tie.Need-loop-again Inv-loop μ-loop
 loop-again c = search needs
 
-returns : tie.Need-returns Inv-loop μ-loop
-returns c = search needs
+returns-2 : tie.Need-returns-2 Inv-loop μ-loop
+returns-2 c = search needs
 
 pub print-spec : {M : Type 1} → statement M
 print-spec =
@@ -43,6 +53,9 @@ print-spec =
     (tie.spec
     Inv-loop
     μ-loop
+    returns
+    slice-aggregate-word
+    word-requires
     loop-holds
     wrapping-add-u64-requires
     is-shown-requires
@@ -51,4 +64,4 @@ print-spec =
     add-i
     loop-less
     loop-again
-    returns)
+    returns-2)

@@ -1,3 +1,4 @@
+-- `cases::digits::read_figures` is safe and ends: what is left of the line falls.
 use Prim.Native.Nat.{_≤_, _-_, _+_}
 use lib.ListN.{length}
 use borrow.Author.Needs.{needs}
@@ -5,10 +6,10 @@ use Rattle.cases.proofs.digits.read_figures.Statement.{statement}
 use Rattle.cases.proofs.digits.read_figures.Tie as tie
 
 abbrev Inv-loop : tie.InvT-loop
-Inv-loop line numbers₀ at₀ marked₀ sound₀ i₀ numbers at marked sound i = i ≤ length line + 1
+Inv-loop line numbers₀ at₀ marked₀ sound₀ bytes₀ i₀ numbers at marked sound bytes i = i ≤ length line + 1
 
 abbrev μ-loop : tie.MeasureT-loop
-μ-loop line numbers₀ at₀ marked₀ sound₀ i₀ numbers at marked sound i = length line - i
+μ-loop line numbers₀ at₀ marked₀ sound₀ bytes₀ i₀ numbers at marked sound bytes i = length line - i
 
 loop-holds : tie.Need-loop-holds Inv-loop μ-loop
 loop-holds c = search needs
@@ -18,6 +19,9 @@ shared-slice-read-c c = search needs
 
 add-at : tie.Need-add-at Inv-loop μ-loop
 add-at c = search needs
+
+add-bytes : tie.Need-add-bytes Inv-loop μ-loop
+add-bytes c = search needs
 
 mul-tens : tie.Need-mul-tens Inv-loop μ-loop
 mul-tens c = search needs
@@ -58,6 +62,7 @@ read-figures-spec =
     loop-holds
     shared-slice-read-c
     add-at
+    add-bytes
     mul-tens
     array-read-tens
     tens-requires

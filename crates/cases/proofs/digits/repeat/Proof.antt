@@ -1,3 +1,4 @@
+-- `cases::digits::repeat` is safe and ends: the output keeps its length, and the index stays below its end.
 use Prim.Native.Nat.{_-_}
 use mathlib.Core.Path.{_≡_}
 use lib.ListN.{length}

@@ -1,3 +1,4 @@
+-- `cases::digits::spell` is safe and ends: half a byte for each digit passed, within the output.
 use Prim.Native.Nat.{_≤_, _-_}
 use mathlib.Core.Path.{_≡_}
 use lib.ListN.{length}

@@ -1,3 +1,4 @@
+-- `cases::outputs::first` is safe: so many rows are there.
 use native.Mathlib.Omega.{arith}
 use mathlib.Core.Path.{sym}
 use lib.Seq.{length-take-le}

@@ -1,3 +1,4 @@
+-- `cases::outputs::front` is safe: so many bytes are there.
 use native.Mathlib.Omega.{arith}
 use mathlib.Core.Path.{sym}
 use lib.Seq.{length-take-le}

@@ -1,3 +1,4 @@
+-- `cases::outputs::join` is safe and ends: the text keeps its length.
 use Prim.Native.Nat.{_≤_, _-_}
 use mathlib.Core.Path.{_≡_}
 use lib.ListN.{length}
