@@ -112,7 +112,7 @@ fn small(kind: u8, p: Place, n: &[u64; 16], s: &[u8]) {
         b'g' => string(p, s),
         b's' => span(p, n[1], n[2], s),
         b'u' => text(s),
-        b'v' => sweeps::sweep(at, n[1], s),
+        b'v' => sweeps::sweep(s),
         b'N' | b'Q' => element(kind, n, s),
         b'f' => step(at, s),
         b'a' => pairs(n),

@@ -4,13 +4,17 @@ use listing::input;
 use listing::input::Input;
 use numbers::Place;
 use strings::Span;
+ghost use mathlib.Core.Path.{_≡_};
+ghost use lib.ListN.{length};
 
 fn front(s: &[u8], len: usize) -> &[u8] {
     strings::shown(s, Span { start: 0, len })
 }
 
-// Room for the most lines that 65,536 bytes can give.
-fn room() -> [u8; 300000] {
+// Room for the most lines that 65,536 bytes can give. The `ensures` has what lending the array needs.
+fn room() -> [u8; 300000]
+    ensures { λ r. ⌜ 300000 ≡ length r ⌝ }
+{
     [0; 300000]
 }
 
