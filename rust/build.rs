@@ -1,59 +1,82 @@
-//! Links the proved library: the archive that SHEAFSLEDGE_LIB names, or what `rt staticlib exports`
-//! makes of this repository.
+//! Links the proved library: the archives in the folder that SHEAFSLEDGE_LIB names, or those that
+//! `rt staticlib` makes of this repository.
 
 use std::path::{Path, PathBuf};
 use std::process::{Command, Stdio};
 use std::time::SystemTime;
 use std::{env, fs};
 
+/// The crates that export, each with an archive of its own.
+const EXPORTING: [&str; 2] = ["exports", "frame_exports"];
+
 fn main() {
     println!("cargo::rerun-if-env-changed=SHEAFSLEDGE_LIB");
     println!("cargo::rerun-if-changed=../crates");
     println!("cargo::rerun-if-changed=../crates.txt");
-    match library() {
-        Ok(library) => link(&library),
+    match folder() {
+        Ok(folder) => link(&folder),
         // Cargo fails the build for this line; a panic would add a dozen more.
         Err(why) => println!("cargo::error={why}"),
     }
 }
 
-fn link(library: &Path) {
-    let folder = library.parent().unwrap_or(Path::new("."));
-    println!("cargo::rerun-if-changed={}", library.display());
+fn link(folder: &Path) {
     println!("cargo::rustc-link-search=native={}", folder.display());
-    println!("cargo::rustc-link-lib=static=exports");
+    for name in EXPORTING {
+        println!(
+            "cargo::rerun-if-changed={}",
+            archive(folder, name).display()
+        );
+        println!("cargo::rustc-link-lib=static={name}");
+    }
 }
 
-fn library() -> Result<PathBuf, String> {
+fn archive(folder: &Path, name: &str) -> PathBuf {
+    folder.join(format!("lib{name}.a"))
+}
+
+/// The folder that holds all archives.
+fn folder() -> Result<PathBuf, String> {
     if let Some(named) = env::var_os("SHEAFSLEDGE_LIB") {
-        let named = PathBuf::from(named);
-        let sound = named.ends_with("libexports.a") && named.is_file();
-        return match sound {
-            true => Ok(named),
-            false => Err("SHEAFSLEDGE_LIB names no libexports.a that is there".into()),
-        };
+        return held(named.into());
     }
     let root = PathBuf::from(env::var_os("CARGO_MANIFEST_DIR").expect("cargo sets it")).join("..");
-    let library = root.join("target/staticlib/libexports.a");
-    if !is_new(&library, &root) {
-        prove(&root)?;
+    let folder = root.join("target/staticlib");
+    for name in EXPORTING {
+        if !is_new(&archive(&folder, name), &root) {
+            prove(name, &root)?;
+        }
     }
-    Ok(library)
+    Ok(folder)
 }
 
-/// rt proves the library anew each time that it is asked for one, which takes minutes.
-fn prove(root: &Path) -> Result<(), String> {
-    let told = "no libexports.a: set SHEAFSLEDGE_LIB to one, or put the toolchain's rt on the PATH";
+fn held(folder: PathBuf) -> Result<PathBuf, String> {
+    let missing = |name: &&&str| !archive(&folder, name).is_file();
+    match EXPORTING.iter().find(missing) {
+        Some(name) => Err(format!(
+            "SHEAFSLEDGE_LIB names no folder that holds lib{name}.a"
+        )),
+        None => Ok(folder),
+    }
+}
+
+/// rt proves an archive anew each time that it is asked for one, which takes minutes.
+fn prove(name: &str, root: &Path) -> Result<(), String> {
     let status = Command::new("rt")
-        .args(["staticlib", "exports"])
+        .args(["staticlib", name])
         .current_dir(root)
         .stdin(Stdio::null())
         .stdout(Stdio::null())
-        .status()
-        .map_err(|_| told.to_string())?;
-    match status.success() {
-        true => Ok(()),
-        false => Err("rt staticlib exports has failed: the library is not proved".into()),
+        .status();
+    match status.map(|status| status.success()) {
+        Ok(true) => Ok(()),
+        Ok(false) => Err(format!(
+            "rt staticlib {name} has failed: the library is not proved"
+        )),
+        Err(_) => Err(format!(
+            "no lib{name}.a as new as crates/: set SHEAFSLEDGE_LIB to a folder that holds one, \
+             or put the toolchain's rt on the PATH"
+        )),
     }
 }
 

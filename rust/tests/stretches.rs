@@ -6,7 +6,7 @@ const SESSION: &[u8] = include_bytes!("../../examples/diod-session.bin");
 
 /// What the lister has to print of the session ends this file, in one line, a bar for each line
 /// end. The seller's crate made it (`compare/oracle listing`).
-const ANSWERS: &str = include_str!("../../crates/cases/stdout");
+const ANSWERS: &str = include_str!("../../crates/reply_cases/stdout");
 
 /// Document 01's requests.
 const REQUESTS: [u8; 28] = [

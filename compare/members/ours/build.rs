@@ -1,20 +1,25 @@
-//! Links the proved library, which `rt staticlib exports` has written, or the one that
-//! SHEAFSLEDGE_LIB names.
+//! Links the proved library, the archives that `rt staticlib` has written, or those in the folder
+//! that SHEAFSLEDGE_LIB names.
 
 use std::env;
-use std::path::{Path, PathBuf};
+use std::path::PathBuf;
+
+/// The crates that export, each with an archive of its own.
+const EXPORTING: [&str; 2] = ["exports", "frame_exports"];
 
 fn main() {
     let here = env::var_os("CARGO_MANIFEST_DIR").expect("cargo sets it");
     let named = env::var_os("SHEAFSLEDGE_LIB").filter(|named| !named.is_empty());
-    let library = match named {
+    let folder = match named {
         Some(named) => PathBuf::from(named),
-        None => PathBuf::from(here).join("../../../target/staticlib/libexports.a"),
+        None => PathBuf::from(here).join("../../../target/staticlib"),
     };
-    let folder = library.parent().unwrap_or(Path::new("."));
     println!("cargo::rerun-if-changed=build.rs");
     println!("cargo::rerun-if-env-changed=SHEAFSLEDGE_LIB");
-    println!("cargo::rerun-if-changed={}", library.display());
     println!("cargo::rustc-link-search=native={}", folder.display());
-    println!("cargo::rustc-link-lib=static=exports");
+    for name in EXPORTING {
+        let archive = folder.join(format!("lib{name}.a"));
+        println!("cargo::rerun-if-changed={}", archive.display());
+        println!("cargo::rustc-link-lib=static={name}");
+    }
 }

@@ -1,6 +1,5 @@
 // Every string of a product of ranges is tried, and counted by what it is answered.
 
-use crate::digits;
 use numbers::Place;
 ghost use Prim.Native.Nat.{_<_};
 
@@ -66,11 +65,11 @@ fn try_one(counts: &mut [u64; 14], s: &[u8]) {
 }
 
 fn show(counts: &[u64; 14]) {
-    digits::list(counts);
+    questions::list(counts);
 }
 
 // Up to four ranges, each by its first and its last byte. There are at most 2^32 strings.
-pub fn sweep(r: &[u8]) {
+pub(crate) fn sweep(r: &[u8]) {
     let a = byte(r, 0);
     let b = byte(r, 2);
     let c = byte(r, 4);
@@ -92,7 +91,7 @@ pub fn sweep(r: &[u8]) {
             nth(c, n / fourths % thirds),
             nth(d, n % fourths),
         ];
-        try_one(&mut counts, digits::part(&s, 0, r.len() / 2));
+        try_one(&mut counts, questions::part(&s, 0, r.len() / 2));
         n += 1;
     }
     show(&counts);

@@ -2,11 +2,11 @@
 
 use framing::Cut;
 use layouts::ids::Tag;
-use stretch::Mark;
+use pairs::Mark;
 ghost use mathlib.Core.Path.{_≡_};
 ghost use Rattle.layouts.specs.Tables.{tableT, tableR};
 ghost use Rattle.framing.specs.Stretch.{frameAt};
-ghost use Rattle.stretch.specs.Pairs.{pairs};
+ghost use Rattle.pairs.specs.Pairs.{pairs};
 ghost use Rattle.exports.specs.Steps.{stopped, flatStep};
 
 // What is at a position: a frame, told by its type, its tag and the next position; the end; or 12, 13; all else is 0.
@@ -70,5 +70,5 @@ pub extern "C" fn sheafsledge_answers(
         ty: reply_ty,
         tag: given,
     };
-    stretch::answers(request, reply)
+    pairs::answers(request, reply)
 }

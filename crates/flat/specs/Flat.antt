@@ -6,11 +6,12 @@ use mathlib.Core.List.{List, [], _∷_, _++_}
 use mathlib.Core.Option.{Option, none, some}
 use lib.ListN.{getD}
 use lib.Dec.{ltb}
-use Rattle.fields.specs.Layouts.{num, str, dat, strs, quids, Layout}
-use Rattle.fields.specs.Values.{Value, val, span, part}
+use Rattle.fields.specs.Layouts.{num, str, dat, strs, quids, Layout, Item}
+use Rattle.fields.specs.Values.{Value, val, span, part, shows}
 use Rattle.fields.specs.Fields.{valuesAt, pastFields}
+use Rattle.laying.specs.Laying.{writtenOut, writtenPast}
 use Rattle.layouts.specs.Tables.{Row, row}
-use Rattle.layouts.specs.Bodies.{Answer, accepted, refused}
+use Rattle.numbers.specs.Reading.{Result, bad}
 use Rattle.numbers.specs.declared.Refusal.the-variants as R
 use Rattle.numbers.specs.declared.Place.{Place}
 use Rattle.numbers.specs.declared.Place.the-variants.{Refused}
@@ -53,11 +54,6 @@ valuesFrom i (quids ∷ fs) ns = part (low 2 (getD ns i 0)) (getD ns (i + 1) 0) 
 abbrev pub fieldValues : Layout → List ℕ → List Value
 fieldValues l ns = valuesFrom 0 l ns
 
--- the body of a type put together from numbers, by the layout of the type's row, if it has one
-abbrev pub bodyFrom : Option Layout → ℕ → List ℕ → ℕ → Answer
-bodyFrom none ty ns used = refused R.UnknownType
-bodyFrom (some l) ty ns used = accepted ty (fieldValues l ns) used
-
 -- ---- a body read flat: the values of the type's row in n places, as far as they could be read, and the place behind its fields
 
 abbrev pub valuesIn : Option Layout → List ℕ → Place → List Value
@@ -71,6 +67,24 @@ pastIn (some l) s p = pastFields l s p
 pub record FlatRead (n : ℕ) (l : Option Layout) (s : List ℕ) (p : Place) (ns : List ℕ) (q : Place) : Type 0 where
   pub values : ns ≡ flat n (valuesIn l s p)
   pub next : q ≡ pastIn l s p
+
+-- ---- a body written from such a run of numbers, by the layout of the type's row: 3 where it has none
+
+abbrev pub showsFrom : Option Layout → List ℕ → List ℕ → Result (List Item)
+showsFrom none lent ns = bad R.UnknownType
+showsFrom (some l) lent ns = shows l lent (fieldValues l ns)
+
+abbrev pub outIn : Option Layout → List ℕ → List ℕ → List ℕ → Place → List ℕ
+outIn none lent ns o p = o
+outIn (some l) lent ns o p = writtenOut (shows l lent (fieldValues l ns)) o p
+
+abbrev pub endIn : Option Layout → List ℕ → List ℕ → List ℕ → Place → Place
+endIn none lent ns o p = Refused R.UnknownType
+endIn (some l) lent ns o p = writtenPast (shows l lent (fieldValues l ns)) o p
+
+pub record FlatWritten (l : Option Layout) (lent ns o : List ℕ) (p : Place) (o' : List ℕ) (q : Place) : Type 0 where
+  pub bytes : o' ≡ outIn l lent ns o p
+  pub next : q ≡ endIn l lent ns o p
 
 -- ---- how many numbers there are
 

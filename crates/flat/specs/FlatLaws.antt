@@ -1,4 +1,4 @@
--- How many values a direction needs; what `low` keeps; and the two ways of a body put together: a row of the table, and a number that has none.
+-- How many values a direction needs; what `low` keeps; and the two ways of a body, read flat and written: a row of the table, and a number that has none.
 use Prim.Native.Nat.{ℕ, _^_, _%_, _≤_, _<_}
 use native.Mathlib.Nat.{mod-eq-of-lt}
 use native.Mathlib.Omega.{arith}
@@ -13,10 +13,10 @@ use Rattle.numbers.specs.declared.Place.the-variants.{Refused}
 use Rattle.fields.specs.Layouts.{Layout}
 use Rattle.fields.specs.Values.{Value}
 use Rattle.fields.specs.Fields.{Fields}
+use Rattle.laying.specs.Laying.{Written}
 use Rattle.layouts.specs.Tables.{Row, lookup, tableT, tableR}
-use Rattle.layouts.specs.Bodies.{accepted, refused}
 use Rattle.layouts.specs.BodyLaws.{Nots, no-row}
-use Rattle.flat.specs.Flat.{flat, low, bodyFrom, FlatRead, widest}
+use Rattle.flat.specs.Flat.{flat, low, fieldValues, FlatRead, FlatWritten, widest}
 
 -- 10 values hold any request and 22 any reply, and no fewer would
 pub enough : (widest tableT ≡ 10) × (widest tableR ≡ 22)
@@ -27,12 +27,6 @@ pub low-is : (w n : ℕ) → w ≤ 8 → n < 256 ^ 8 → low w n ≡ n % 256 ^ w
 low-is w n h l =
     or-else 8 w (λ g. let e : w ≡ 8 = omega arith in rw (le-ltb w 8 g, e) (sym (mod-eq-of-lt l))) (λ g. rw (lt-ltb w 8 g))
 
-pub known-from : {vs ws : List Value} {used : ℕ} (ty : ℕ) → vs ≡ ws → accepted ty vs used ≡ accepted ty ws used
-known-from {used = used} ty e = ap (λ vs. accepted ty vs used) e
-
-pub unknown-from : (rs : List Row) (ty : ℕ) (ns : List ℕ) (used : ℕ) → Nots (Unit {0}) rs ty → refused R.UnknownType ≡ bodyFrom (lookup rs ty) ty ns used
-unknown-from rs ty ns used h = rw (no-row rs (Unit {0}) ty h .0)
-
 -- ---- a body that is read flat
 
 pub flat-known : {n : ℕ} {l : Layout} {s : List ℕ} {p e : Place} {vs : List Value} {ns : List ℕ} → Fields l s p vs e → ns ≡ flat n vs → FlatRead n (some l) s p ns e
@@ -40,3 +34,11 @@ flat-known {n} f g = record { values = g ∙ ap (flat n) (f .values); next = f .
 
 pub flat-unknown : {n : ℕ} {s ns : List ℕ} {p q : Place} (rs : List Row) (ty : ℕ) → Nots (Unit {0}) rs ty → ns ≡ flat n [] → q ≡ Refused R.UnknownType → FlatRead n (lookup rs ty) s p ns q
 flat-unknown rs ty h e f = let g = no-row rs (Unit {0}) ty h .0 in record { values = rw g e; next = rw g f }
+
+-- ---- a body that is written from numbers
+
+pub written-known : {l : Layout} {lent ns o o' : List ℕ} {p q : Place} {vs : List Value} → vs ≡ fieldValues l ns → Written l lent vs o p o' q → FlatWritten (some l) lent ns o p o' q
+written-known e w = let v = rw e at w in record { bytes = v .bytes; next = v .next }
+
+pub written-unknown : {lent ns o : List ℕ} {p q : Place} (rs : List Row) (ty : ℕ) → Nots (Unit {0}) rs ty → q ≡ Refused R.UnknownType → FlatWritten (lookup rs ty) lent ns o p o q
+written-unknown rs ty h e = let g = no-row rs (Unit {0}) ty h .0 in record { bytes = rw g; next = rw g e }

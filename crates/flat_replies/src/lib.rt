@@ -1,4 +1,4 @@
-// The 29 replies read flat, and put together by their type number.
+// The 29 replies, read flat and written from flat values, by their type number.
 
 use flat::attributes;
 use flat::directories;
@@ -8,52 +8,11 @@ use flat::sessions;
 use flat::walking;
 use numbers::Place;
 use numbers::Refusal;
-use replies::Rbody;
-use replies::Rmessage;
 ghost use mathlib.Core.Path.{_≡_};
 ghost use mathlib.Core.List.{[]};
 ghost use Rattle.numbers.specs.declared.Place.the-variants.{At};
 ghost use Rattle.layouts.specs.Tables.{lookup, tableR};
-ghost use Rattle.replies.specs.Views.{viewR};
-ghost use Rattle.flat.specs.Flat.{flat, bodyFrom, FlatRead};
-
-// The body of a type, put together from its values; 3 where the type is not known.
-pub fn rbody_of(ty: u8, v: [u64; 22], used: usize) -> Rbody
-    ensures { λ r. ⌜ viewR r ≡ bodyFrom (lookup tableR ty) ty v used ⌝ }
-{
-    match ty {
-        7 => Rbody::Message(Rmessage::Lerror(sessions::rlerror_of(v)), used),
-        9 => Rbody::Message(Rmessage::Statfs(attributes::rstatfs_of(v)), used),
-        13 => Rbody::Message(Rmessage::Lopen(files::rlopen_of(v)), used),
-        15 => Rbody::Message(Rmessage::Lcreate(files::rlcreate_of(v)), used),
-        17 => Rbody::Message(Rmessage::Symlink(directories::rsymlink_of(v)), used),
-        19 => Rbody::Message(Rmessage::Mknod(directories::rmknod_of(v)), used),
-        21 => Rbody::Message(Rmessage::Rename, used),
-        23 => Rbody::Message(Rmessage::Readlink(directories::rreadlink_of(v)), used),
-        25 => Rbody::Message(Rmessage::GetAttr(attributes::rgetattr_of(v)), used),
-        27 => Rbody::Message(Rmessage::SetAttr, used),
-        31 => Rbody::Message(Rmessage::XattrWalk(attributes::rxattrwalk_of(v)), used),
-        33 => Rbody::Message(Rmessage::XattrCreate, used),
-        41 => Rbody::Message(Rmessage::Readdir(directories::rreaddir_of(v)), used),
-        51 => Rbody::Message(Rmessage::Fsync, used),
-        53 => Rbody::Message(Rmessage::Lock(locks::rlock_of(v)), used),
-        55 => Rbody::Message(Rmessage::GetLock(locks::rgetlock_of(v)), used),
-        71 => Rbody::Message(Rmessage::Link, used),
-        73 => Rbody::Message(Rmessage::Mkdir(directories::rmkdir_of(v)), used),
-        75 => Rbody::Message(Rmessage::RenameAt, used),
-        77 => Rbody::Message(Rmessage::UnlinkAt, used),
-        101 => Rbody::Message(Rmessage::Version(sessions::rversion_of(v)), used),
-        103 => Rbody::Message(Rmessage::Auth(sessions::rauth_of(v)), used),
-        105 => Rbody::Message(Rmessage::Attach(sessions::rattach_of(v)), used),
-        109 => Rbody::Message(Rmessage::Flush, used),
-        111 => Rbody::Message(Rmessage::Walk(walking::rwalk_of(v)), used),
-        117 => Rbody::Message(Rmessage::Read(files::rread_of(v)), used),
-        119 => Rbody::Message(Rmessage::Write(files::rwrite_of(v)), used),
-        121 => Rbody::Message(Rmessage::Clunk, used),
-        123 => Rbody::Message(Rmessage::Remove, used),
-        _ => Rbody::Refused(Refusal::UnknownType),
-    }
-}
+ghost use Rattle.flat.specs.Flat.{flat, FlatRead, FlatWritten};
 
 // The values of a body that has none.
 fn no_values(next: Place, values: &mut [u64; 22]) -> Place
@@ -216,5 +175,45 @@ pub fn read_flat(s: &[u8], ty: u8, values: &mut [u64; 22]) -> Place
         121 => no_values(p, values),
         123 => no_values(p, values),
         _ => no_values(Place::Refused(Refusal::UnknownType), values),
+    }
+}
+
+// A body written at a place from the values of its record, which lie flat: its fields' refusals in order, then 10, then 11; 3 where the
+// type is not known. A refusal leaves the output as it was.
+pub fn write_flat(out: &mut [u8], p: Place, lent: &[u8], ty: u8, values: &[u64; 22]) -> Place
+    ensures { λ r. ⌜ FlatWritten (lookup tableR ty) (now (lent .entry)) (now (values .entry)) (now (out .entry)) p (now (out .exit)) r ⌝ }
+{
+    let v = *values;
+    match ty {
+        7 => messages::sessions::write_rlerror(out, p, lent, sessions::rlerror_of(v)),
+        9 => metadata::attributes::write_rstatfs(out, p, lent, attributes::rstatfs_of(v)),
+        13 => messages::files::write_rlopen(out, p, lent, files::rlopen_of(v)),
+        15 => messages::files::write_rlcreate(out, p, lent, files::rlcreate_of(v)),
+        17 => messages::directories::write_rsymlink(out, p, lent, directories::rsymlink_of(v)),
+        19 => messages::directories::write_rmknod(out, p, lent, directories::rmknod_of(v)),
+        21 => laying::begun(p, p, out.len()),
+        23 => messages::directories::write_rreadlink(out, p, lent, directories::rreadlink_of(v)),
+        25 => metadata::attributes::write_rgetattr(out, p, lent, attributes::rgetattr_of(v)),
+        27 => laying::begun(p, p, out.len()),
+        31 => metadata::attributes::write_rxattrwalk(out, p, lent, attributes::rxattrwalk_of(v)),
+        33 => laying::begun(p, p, out.len()),
+        41 => messages::directories::write_rreaddir(out, p, lent, directories::rreaddir_of(v)),
+        51 => laying::begun(p, p, out.len()),
+        53 => metadata::locks::write_rlock(out, p, lent, locks::rlock_of(v)),
+        55 => metadata::locks::write_rgetlock(out, p, lent, locks::rgetlock_of(v)),
+        71 => laying::begun(p, p, out.len()),
+        73 => messages::directories::write_rmkdir(out, p, lent, directories::rmkdir_of(v)),
+        75 => laying::begun(p, p, out.len()),
+        77 => laying::begun(p, p, out.len()),
+        101 => common::sessions::write_rversion(out, p, lent, sessions::rversion_of(v)),
+        103 => messages::sessions::write_rauth(out, p, lent, sessions::rauth_of(v)),
+        105 => messages::sessions::write_rattach(out, p, lent, sessions::rattach_of(v)),
+        109 => laying::begun(p, p, out.len()),
+        111 => common::walking::write_rwalk(out, p, lent, walking::rwalk_of(v)),
+        117 => common::files::write_rread(out, p, lent, files::rread_of(v)),
+        119 => common::files::write_rwrite(out, p, lent, files::rwrite_of(v)),
+        121 => laying::begun(p, p, out.len()),
+        123 => laying::begun(p, p, out.len()),
+        _ => Place::Refused(Refusal::UnknownType),
     }
 }

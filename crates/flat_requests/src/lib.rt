@@ -1,4 +1,4 @@
-// The 28 requests read flat, and put together by their type number.
+// The 28 requests, read flat and written from flat values, by their type number.
 
 use flat::attributes;
 use flat::directories;
@@ -8,50 +8,10 @@ use flat::sessions;
 use flat::walking;
 use numbers::Place;
 use numbers::Refusal;
-use requests::Tbody;
-use requests::Tmessage;
 ghost use mathlib.Core.Path.{_≡_};
 ghost use Rattle.numbers.specs.declared.Place.the-variants.{At};
 ghost use Rattle.layouts.specs.Tables.{lookup, tableT};
-ghost use Rattle.requests.specs.Views.{viewT};
-ghost use Rattle.flat.specs.Flat.{bodyFrom, FlatRead};
-
-// The body of a type, put together from its values; 3 where the type is not known.
-pub fn tbody_of(ty: u8, v: [u64; 10], used: usize) -> Tbody
-    ensures { λ r. ⌜ viewT r ≡ bodyFrom (lookup tableT ty) ty v used ⌝ }
-{
-    match ty {
-        8 => Tbody::Message(Tmessage::Statfs(attributes::tstatfs_of(v)), used),
-        12 => Tbody::Message(Tmessage::Lopen(files::tlopen_of(v)), used),
-        14 => Tbody::Message(Tmessage::Lcreate(files::tlcreate_of(v)), used),
-        16 => Tbody::Message(Tmessage::Symlink(directories::tsymlink_of(v)), used),
-        18 => Tbody::Message(Tmessage::Mknod(directories::tmknod_of(v)), used),
-        20 => Tbody::Message(Tmessage::Rename(directories::trename_of(v)), used),
-        22 => Tbody::Message(Tmessage::Readlink(directories::treadlink_of(v)), used),
-        24 => Tbody::Message(Tmessage::GetAttr(attributes::tgetattr_of(v)), used),
-        26 => Tbody::Message(Tmessage::SetAttr(attributes::tsetattr_of(v)), used),
-        30 => Tbody::Message(Tmessage::XattrWalk(attributes::txattrwalk_of(v)), used),
-        32 => Tbody::Message(Tmessage::XattrCreate(attributes::txattrcreate_of(v)), used),
-        40 => Tbody::Message(Tmessage::Readdir(directories::treaddir_of(v)), used),
-        50 => Tbody::Message(Tmessage::Fsync(files::tfsync_of(v)), used),
-        52 => Tbody::Message(Tmessage::Lock(locks::tlock_of(v)), used),
-        54 => Tbody::Message(Tmessage::GetLock(locks::tgetlock_of(v)), used),
-        70 => Tbody::Message(Tmessage::Link(directories::tlink_of(v)), used),
-        72 => Tbody::Message(Tmessage::Mkdir(directories::tmkdir_of(v)), used),
-        74 => Tbody::Message(Tmessage::RenameAt(directories::trenameat_of(v)), used),
-        76 => Tbody::Message(Tmessage::UnlinkAt(directories::tunlinkat_of(v)), used),
-        100 => Tbody::Message(Tmessage::Version(sessions::tversion_of(v)), used),
-        102 => Tbody::Message(Tmessage::Auth(sessions::tauth_of(v)), used),
-        104 => Tbody::Message(Tmessage::Attach(sessions::tattach_of(v)), used),
-        108 => Tbody::Message(Tmessage::Flush(sessions::tflush_of(v)), used),
-        110 => Tbody::Message(Tmessage::Walk(walking::twalk_of(v)), used),
-        116 => Tbody::Message(Tmessage::Read(files::tread_of(v)), used),
-        118 => Tbody::Message(Tmessage::Write(files::twrite_of(v)), used),
-        120 => Tbody::Message(Tmessage::Clunk(sessions::tclunk_of(v)), used),
-        122 => Tbody::Message(Tmessage::Remove(files::tremove_of(v)), used),
-        _ => Tbody::Refused(Refusal::UnknownType),
-    }
-}
+ghost use Rattle.flat.specs.Flat.{FlatRead, FlatWritten};
 
 // A frame's body read flat: its values, 0 from a refused field on, go to where the caller has room for them; the place behind its
 // fields is answered, or the refusal. The type decides the body, as in `requests::read_tmessage`; but its record goes flat at once, and
@@ -261,5 +221,49 @@ pub fn read_flat(s: &[u8], ty: u8, values: &mut [u64; 10]) -> Place
             *values = [0u64; 10];
             Place::Refused(Refusal::UnknownType)
         }
+    }
+}
+
+// A body written at a place from the values of its record, which lie flat: its fields' refusals in order, then 10, then 11; 3 where the
+// type is not known. A refusal leaves the output as it was.
+pub fn write_flat(out: &mut [u8], p: Place, lent: &[u8], ty: u8, values: &[u64; 10]) -> Place
+    ensures { λ r. ⌜ FlatWritten (lookup tableT ty) (now (lent .entry)) (now (values .entry)) (now (out .entry)) p (now (out .exit)) r ⌝ }
+{
+    let v = *values;
+    match ty {
+        8 => metadata::attributes::write_tstatfs(out, p, lent, attributes::tstatfs_of(v)),
+        12 => messages::files::write_tlopen(out, p, lent, files::tlopen_of(v)),
+        14 => messages::files::write_tlcreate(out, p, lent, files::tlcreate_of(v)),
+        16 => messages::directories::write_tsymlink(out, p, lent, directories::tsymlink_of(v)),
+        18 => messages::directories::write_tmknod(out, p, lent, directories::tmknod_of(v)),
+        20 => messages::directories::write_trename(out, p, lent, directories::trename_of(v)),
+        22 => messages::directories::write_treadlink(out, p, lent, directories::treadlink_of(v)),
+        24 => metadata::attributes::write_tgetattr(out, p, lent, attributes::tgetattr_of(v)),
+        26 => metadata::attributes::write_tsetattr(out, p, lent, attributes::tsetattr_of(v)),
+        30 => metadata::attributes::write_txattrwalk(out, p, lent, attributes::txattrwalk_of(v)),
+        32 => metadata::attributes::write_txattrcreate(
+            out,
+            p,
+            lent,
+            attributes::txattrcreate_of(v),
+        ),
+        40 => messages::directories::write_treaddir(out, p, lent, directories::treaddir_of(v)),
+        50 => messages::files::write_tfsync(out, p, lent, files::tfsync_of(v)),
+        52 => metadata::locks::write_tlock(out, p, lent, locks::tlock_of(v)),
+        54 => metadata::locks::write_tgetlock(out, p, lent, locks::tgetlock_of(v)),
+        70 => messages::directories::write_tlink(out, p, lent, directories::tlink_of(v)),
+        72 => messages::directories::write_tmkdir(out, p, lent, directories::tmkdir_of(v)),
+        74 => messages::directories::write_trenameat(out, p, lent, directories::trenameat_of(v)),
+        76 => messages::directories::write_tunlinkat(out, p, lent, directories::tunlinkat_of(v)),
+        100 => common::sessions::write_tversion(out, p, lent, sessions::tversion_of(v)),
+        102 => messages::sessions::write_tauth(out, p, lent, sessions::tauth_of(v)),
+        104 => messages::sessions::write_tattach(out, p, lent, sessions::tattach_of(v)),
+        108 => common::sessions::write_tflush(out, p, lent, sessions::tflush_of(v)),
+        110 => common::walking::write_twalk(out, p, lent, walking::twalk_of(v)),
+        116 => common::files::write_tread(out, p, lent, files::tread_of(v)),
+        118 => common::files::write_twrite(out, p, lent, files::twrite_of(v)),
+        120 => common::sessions::write_tclunk(out, p, lent, sessions::tclunk_of(v)),
+        122 => common::files::write_tremove(out, p, lent, files::tremove_of(v)),
+        _ => Place::Refused(Refusal::UnknownType),
     }
 }

@@ -1,7 +1,6 @@
--- Document 01's example of a listing, B, C, K, J joined, and its examples of pairs: computed of the definitions.
+-- Document 01's example of a listing, B, C, K, J joined: computed of the definition.
 use Prim.Native.Nat.{ℕ}
 use mathlib.Core.Path.{_≡_, refl}
-use mathlib.Core.Bool.{true, false}
 use mathlib.Core.List.{List, [], _∷_}
 use Rattle.numbers.specs.Numbers.{fromLE, toLE}
 use Rattle.numbers.specs.Reading.{raw, readNum}
@@ -12,7 +11,6 @@ use Rattle.layouts.specs.Tables.{tableT, tableR}
 use Rattle.layouts.specs.Bodies.{accepted, refused}
 use Rattle.framing.specs.Frames.{readTypeTag, readHeader, readFrame}
 use Rattle.framing.specs.Stretch.{answerOf, front, entry, ends, listFrom, listing}
-use Rattle.stretch.specs.Pairs.{pairs}
 
 pub b-c-k-j :
     listing tableT tableR
@@ -21,7 +19,3 @@ pub b-c-k-j :
     (entry 9 7 109 1 (accepted 109 [] 7) 0 (entry 16 11 108 1 (accepted 108 (val 2 ∷ []) 9) 2 (entry 27 7 106 5 (refused R.UnknownType) 0 (ends 34))))
 unfolding fromLE toLE raw readNum readField readFields itemBytes itemsBytes places readTypeTag readHeader readFrame answerOf front listFrom listing
 b-c-k-j = refl
-
--- B answered by C: yes; by D: no
-pub b-by-c-and-d : (pairs tableT 108 1 109 1 ≡ true) × (pairs tableT 108 1 7 1 ≡ false)
-b-by-c-and-d = (refl, refl)

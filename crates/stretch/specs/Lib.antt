@@ -1,7 +1,5 @@
 pub mod Views
-pub mod Pairs
 pub mod StepLaws
-pub mod PairLaws
 pub mod One
 pub mod Examples
 pub mod Known

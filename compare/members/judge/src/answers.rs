@@ -1,4 +1,4 @@
-//! The seller's answers to the questions of crates/cases, in that program's words.
+//! The seller's answers to the questions that compare/list writes, in the words of our cases.
 
 use std::io;
 

@@ -64,7 +64,7 @@ fn say(answers: &[String]) -> Outcome {
     Ok(())
 }
 
-/// The questions of crates/cases.
+/// The questions that compare/list writes.
 fn questions(seed: &str) -> Outcome {
     let seed = seed
         .parse()
@@ -90,7 +90,7 @@ fn line(text: &str) -> Result<String, String> {
     Ok(judge(direction, &bytes).to_string())
 }
 
-/// A question of crates/cases, answered in that program's words.
+/// One of these questions, answered in the words of our cases.
 fn listed(text: &str) -> Result<String, String> {
     let counted = |count: &str| {
         count

@@ -1,4 +1,4 @@
-//! The questions of crates/cases.
+//! The questions that compare/list writes.
 
 use std::array;
 use std::collections::HashSet;

@@ -1,4 +1,4 @@
--- `cases::main` is safe and ends: the line keeps its room, and the reads that are left fall.
+-- It is safe and ends: the line keeps its room, and the lines that are left fall.
 use mathlib.Core.Path.{_≡_}
 use lib.ListN.{length}
 use borrow.Author.Needs.{needs}
@@ -6,10 +6,10 @@ use Rattle.cases.proofs.main.Statement.{statement}
 use Rattle.cases.proofs.main.Tie as tie
 
 abbrev Inv-loop : tie.InvT-loop
-Inv-loop line₀ n₀ turns₀ line n turns = 170000 ≡ length line
+Inv-loop line₀ turns₀ line turns = 170000 ≡ length line
 
 abbrev μ-loop : tie.MeasureT-loop
-μ-loop line₀ n₀ turns₀ line n turns = turns
+μ-loop line₀ turns₀ line turns = turns
 
 room-requires : tie.Need-room-requires Inv-loop μ-loop
 room-requires c κs = search needs
@@ -17,23 +17,23 @@ room-requires c κs = search needs
 loop-holds : tie.Need-loop-holds Inv-loop μ-loop
 loop-holds c = search needs
 
-slice-aggregate-read : tie.Need-slice-aggregate-read Inv-loop μ-loop
-slice-aggregate-read c = search needs
+slice-aggregate-next-line : tie.Need-slice-aggregate-next-line Inv-loop μ-loop
+slice-aggregate-next-line c = search needs
 
-read-requires : tie.Need-read-requires Inv-loop μ-loop
-read-requires c κs = search needs
+next-line-requires : tie.Need-next-line-requires Inv-loop μ-loop
+next-line-requires c κs = search needs
 
 returns : tie.Need-returns Inv-loop μ-loop
 returns c = search needs
 
-slice-aggregate-taken : tie.Need-slice-aggregate-taken Inv-loop μ-loop
-slice-aggregate-taken c = search needs
+slice-aggregate-part : tie.Need-slice-aggregate-part Inv-loop μ-loop
+slice-aggregate-part c = search needs
 
-array-read-taken : tie.Need-array-read-taken Inv-loop μ-loop
-array-read-taken c = search needs
+part-requires : tie.Need-part-requires Inv-loop μ-loop
+part-requires c κs = search needs
 
-taken-requires : tie.Need-taken-requires Inv-loop μ-loop
-taken-requires c κs = search needs
+answer-requires : tie.Need-answer-requires Inv-loop μ-loop
+answer-requires c κs = search needs
 
 sub-turns : tie.Need-sub-turns Inv-loop μ-loop
 sub-turns c = search needs
@@ -55,12 +55,12 @@ main-spec =
     μ-loop
     room-requires
     loop-holds
-    slice-aggregate-read
-    read-requires
+    slice-aggregate-next-line
+    next-line-requires
     returns
-    slice-aggregate-taken
-    array-read-taken
-    taken-requires
+    slice-aggregate-part
+    part-requires
+    answer-requires
     sub-turns
     loop-less
     loop-again

@@ -1,0 +1,3 @@
+pub mod Flats
+pub mod ReadingLaws
+pub mod WritingLaws
