@@ -1,3 +1,4 @@
+// Written by tools/messages from its table of messages.
 // Files, as every dialect reads, writes and removes them.
 
 use layouts::ids::Fid;

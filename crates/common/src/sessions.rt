@@ -1,3 +1,4 @@
+// Written by tools/messages from its table of messages.
 // Opening and closing a session, as every dialect does: version, flush, clunk.
 
 use layouts::ids::Fid;

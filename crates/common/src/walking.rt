@@ -1,3 +1,4 @@
+// Written by tools/messages from its table of messages.
 // Walking from a fid to another: names in the request, a qid for each step in the reply.
 
 use fields::Part;

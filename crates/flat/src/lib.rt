@@ -1,4 +1,4 @@
-// The 47 records that hold something, laid flat for another language: a record's values one behind the other in an array of u64, and
+// The 47 records that hold something, laid flat for another language: a record's values one after the other in an array of u64, and
 // back. A number is one value, a span its start and length, a part its count, start and length. 10 values hold any request and 22 any
 // reply; those that are left are 0. Back, a field takes the lowest bytes of its value, as Rust's `as` does.
 

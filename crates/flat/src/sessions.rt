@@ -1,3 +1,4 @@
+// Written by tools/messages from its table of messages.
 // The records that open and close a session, laid flat and put together.
 
 use crate::U8;

@@ -1,3 +1,4 @@
+// Written by tools/messages from its table of messages.
 // The 29 replies, read flat and written from flat values, by their type number.
 
 use flat::attributes;
@@ -23,7 +24,7 @@ fn no_values(next: Place, values: &mut [u64; 22]) -> Place
     next
 }
 
-// A frame's body read flat: its values, 0 from a refused field on, go to where the caller has room for them; the place behind its
+// A frame's body read flat: its values, 0 from a refused field on, go to where the caller has room for them; the place after its
 // fields is answered, or the refusal. The type decides the body, as in `replies::read_rmessage`; but its record goes flat at once, and
 // through no enum that would have to be told apart again.
 pub fn read_flat(s: &[u8], ty: u8, values: &mut [u64; 22]) -> Place

@@ -1,3 +1,4 @@
+// Written by tools/messages from its table of messages.
 // The 28 requests, read flat and written from flat values, by their type number.
 
 use flat::attributes;
@@ -13,7 +14,7 @@ ghost use Rattle.numbers.specs.declared.Place.the-variants.{At};
 ghost use Rattle.layouts.specs.Tables.{lookup, tableT};
 ghost use Rattle.flat.specs.Flat.{FlatRead, FlatWritten};
 
-// A frame's body read flat: its values, 0 from a refused field on, go to where the caller has room for them; the place behind its
+// A frame's body read flat: its values, 0 from a refused field on, go to where the caller has room for them; the place after its
 // fields is answered, or the refusal. The type decides the body, as in `requests::read_tmessage`; but its record goes flat at once, and
 // through no enum that would have to be told apart again.
 pub fn read_flat(s: &[u8], ty: u8, values: &mut [u64; 10]) -> Place

@@ -1,3 +1,4 @@
+// Written by tools/messages from its table of messages.
 // Directories: what is made, named, linked and listed in them.
 
 use layouts::ids::Fid;

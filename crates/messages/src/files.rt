@@ -1,3 +1,4 @@
+// Written by tools/messages from its table of messages.
 // Files: opened, made and synced.
 
 use layouts::ids::Fid;

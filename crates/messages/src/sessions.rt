@@ -1,3 +1,4 @@
+// Written by tools/messages from its table of messages.
 // Opening a session in 9P2000.L: auth, attach, and the error reply.
 
 use layouts::ids::Fid;

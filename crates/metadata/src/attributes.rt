@@ -1,3 +1,4 @@
+// Written by tools/messages from its table of messages.
 // Attributes: of a file system, of a file, and those that bear names.
 
 use layouts::ids::Fid;

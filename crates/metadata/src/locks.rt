@@ -1,3 +1,4 @@
+// Written by tools/messages from its table of messages.
 // Locks.
 
 use layouts::ids::Fid;

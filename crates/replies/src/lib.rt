@@ -1,3 +1,4 @@
+// Written by tools/messages from its table of messages.
 // The 29 replies in one enum: a body read by its type number, and written by its case.
 
 use common::files::Rread;
@@ -59,7 +60,7 @@ pub enum Rmessage {
     Lerror(Rlerror),
 }
 
-// A body that was read: the message and the position behind its fields; or why it is refused.
+// A body that was read: the message and the position after its fields; or why it is refused.
 pub enum Rbody {
     Message(Rmessage, usize),
     Refused(Refusal),

@@ -1,3 +1,4 @@
+-- Written by tools/messages from its table of messages.
 -- For each case of `Tmessage` this paper's number, and its values.
 use Prim.Native.Nat.{ℕ}
 use mathlib.Core.List.{List, []}

@@ -1,3 +1,4 @@
+// Written by tools/messages from its table of messages.
 // The 28 requests in one enum: a body read by its type number, and written by its case.
 
 use common::files::Tread;
@@ -67,7 +68,7 @@ pub enum Tmessage {
     UnlinkAt(Tunlinkat),
 }
 
-// A body that was read: the message and the position behind its fields; or why it is refused.
+// A body that was read: the message and the position after its fields; or why it is refused.
 pub enum Tbody {
     Message(Tmessage, usize),
     Refused(Refusal),

@@ -1,3 +1,4 @@
+-- Written by tools/messages from its table of messages.
 -- The type of each case of the two enums is in its table, and has one byte.
 use Prim.Native.Nat.{ℕ, _^_, _<_}
 use native.Mathlib.Omega.{arith}

@@ -1,3 +1,4 @@
+-- Written by tools/messages from its table of messages.
 -- Each arm is the row of its number, laid flat; the rest is a number that has no row.
 use Rattle.fields.specs.Fields.{valuesAt, pastFields}
 use Rattle.layouts.specs.Tables.{tableR}

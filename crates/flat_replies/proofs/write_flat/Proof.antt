@@ -1,3 +1,4 @@
+-- Written by tools/messages from its table of messages.
 -- Each arm is the row of its number, written by its record's writer; the rest is a number that has no row.
 use borrow.Author.Needs.{needs}
 use mathlib.Core.Path.{refl}

@@ -1,3 +1,5 @@
+-- Written by tools/messages from its table of messages.
+-- Each case has the number that the definition gives it.
 use borrow.Author.Needs.{needs}
 use Rattle.replies.proofs.type_of.Statement.{statement}
 use Rattle.replies.proofs.type_of.Tie as tie

@@ -1,3 +1,4 @@
+-- Written by tools/messages from its table of messages.
 -- Each arm is the row of its number; the rest is a number that has no row.
 use Prim.Native.Nat.{ℕ}
 use mathlib.Core.Path.{_∙_}

@@ -1,3 +1,4 @@
+-- Written by tools/messages from its table of messages.
 -- Each arm is the record that its case holds.
 use borrow.Author.Needs.{needs}
 use Rattle.requests.specs.Views.{valuesT}

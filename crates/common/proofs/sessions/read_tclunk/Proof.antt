@@ -1,3 +1,5 @@
+-- Written by tools/messages from its table of messages.
+-- Each field by what its reader ensures, one after another.
 use Rattle.fields.specs.FieldLaws.{number-field, field, done}
 use Rattle.common.proofs.sessions.read_tclunk.Statement.{statement}
 use Rattle.common.proofs.sessions.read_tclunk.Tie as tie

@@ -1,3 +1,5 @@
+-- Written by tools/messages from its table of messages.
+-- Each field by what its reader ensures, one after another.
 use Rattle.fields.specs.FieldLaws.{field, done}
 use Rattle.common.proofs.walking.read_rwalk.Statement.{statement}
 use Rattle.common.proofs.walking.read_rwalk.Tie as tie

@@ -1,3 +1,5 @@
+-- Written by tools/messages from its table of messages.
+-- The pass that checks and the pass that puts, by the law of every writer.
 use borrow.Author.Needs.{needs}
 use Rattle.numbers.specs.Numbers.{bytes-all}
 use Rattle.laying.specs.WritingLaws.{written}

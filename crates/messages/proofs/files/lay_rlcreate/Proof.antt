@@ -1,3 +1,5 @@
+-- Written by tools/messages from its table of messages.
+-- Each field by what laying it ensures, one after another.
 use Rattle.laying.specs.LayingLaws.{lay-num, lay, lay-qid, laid-none, laid-length}
 use Rattle.messages.proofs.files.lay_rlcreate.Statement.{statement}
 use Rattle.messages.proofs.files.lay_rlcreate.Tie as tie

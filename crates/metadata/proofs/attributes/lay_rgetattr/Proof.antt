@@ -1,3 +1,4 @@
+-- Written by tools/messages from its table of messages.
 -- The twenty fields of an Rgetattr, one after another. The law is over plain variables: said of the code itself, each field would carry the
 -- types of all that follow, which took 2.7 GB.
 use Prim.Native.Nat.{ℕ}

@@ -1,8 +1,8 @@
 -- The keys of the match are those of the table.
 use Rattle.layouts.specs.Tables.{tableT}
 use Rattle.pairs.specs.PairLaws.{known, unknown}
-use Rattle.pairs.proofs.known_request.Statement.{statement}
-use Rattle.pairs.proofs.known_request.Tie as tie
+use Rattle.pairs.proofs.known.known_request.Statement.{statement}
+use Rattle.pairs.proofs.known.known_request.Tie as tie
 
 returns : tie.Need-returns
 returns c = known tableT _ (c .match .keys1)

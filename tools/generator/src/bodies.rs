@@ -1,0 +1,488 @@
+//! The two enums: bodies read by their type number and written by their case, and what the definitions say of them.
+
+use crate::names::{closed, numbered, quoted, uses, Occurrences, NOTHING};
+use crate::table::{Direction, Field, Kind, Message, Table};
+use crate::Files;
+use std::collections::BTreeSet;
+
+pub fn write(table: &Table, files: &mut Files) {
+    for (direction, krate) in [(Direction::T, "requests"), (Direction::R, "replies")] {
+        let (small, rows, cases) = (
+            direction.small(),
+            table.by_number(direction),
+            table.by_case(direction),
+        );
+        files.put(
+            format!("crates/{krate}/src/lib.rt"),
+            source(direction, krate, &rows, &cases),
+        );
+        files.put(
+            format!("crates/{krate}/specs/Views.antt"),
+            views(direction, krate, &cases),
+        );
+        files.put(
+            format!("crates/{krate}/specs/Built.antt"),
+            built(direction, krate, &rows, &cases),
+        );
+        files.put(
+            format!("crates/{krate}/proofs/read_{small}message/Proof.antt"),
+            read_proof(direction, krate, &rows),
+        );
+        files.put(
+            format!("crates/{krate}/proofs/write_{small}message/Proof.antt"),
+            write_proof(direction, krate, &cases),
+        );
+        files.put(
+            format!("crates/{krate}/proofs/type_of/Proof.antt"),
+            type_proof(krate, &cases),
+        );
+    }
+    files.put("crates/stretch/specs/Known.antt".to_string(), known(table));
+    files.put(
+        "crates/pairs/src/known.rt".to_string(),
+        known_request(table),
+    );
+}
+
+/// A case of the enum, with what it holds.
+fn holding(m: &Message, what: &str) -> String {
+    match m.is_empty() {
+        true => m.case.clone(),
+        false => format!("{}({what})", m.case),
+    }
+}
+
+/// The same as a pattern of a definition.
+fn pattern(m: &Message) -> String {
+    match m.is_empty() {
+        true => format!("M.{}", m.case),
+        false => format!("(M.{} m)", m.case),
+    }
+}
+
+fn source(direction: Direction, krate: &str, rows: &[&Message], cases: &[&Message]) -> String {
+    let (d, small) = (direction.letter(), direction.small());
+    let mut lines: BTreeSet<String> = rows
+        .iter()
+        .filter(|m| !m.is_empty())
+        .map(|m| format!("use {}::{};", m.module(), m.record()))
+        .collect();
+    lines.extend([
+        "use numbers::Place;".to_string(),
+        "use numbers::Refusal;".to_string(),
+    ]);
+    let mut text = format!("// The {} {krate} in one enum: a body read by its type number, and written by its case.\n\n", rows.len());
+    for line in lines {
+        text += &format!("{line}\n");
+    }
+    text += &format!(
+        "ghost use mathlib.Core.Path.{{_≡_}};
+ghost use Rattle.laying.specs.Laying.{{Written}};
+ghost use Rattle.layouts.specs.Tables.{{table{d}, layout{d}}};
+ghost use Rattle.layouts.specs.Bodies.{{readBody, finishAt}};
+ghost use Rattle.{krate}.specs.Views.{{type{d}, values{d}, view{d}}};
+
+pub enum {d}message {{
+"
+    );
+    for m in cases {
+        text += &format!("    {},\n", holding(m, &m.record()));
+    }
+    text += &format!(
+        "}}
+
+// A body that was read: the message and the position after its fields; or why it is refused.
+pub enum {d}body {{
+    Message({d}message, usize),
+    Refused(Refusal),
+}}
+
+fn finish(m: {d}message, end: Place) -> {d}body
+    ensures {{ λ r. ⌜ view{d} r ≡ finishAt (type{d} m) (values{d} m) end ⌝ }}
+{{
+    match end {{
+        Place::At(n) => {d}body::Message(m, n),
+        Place::Refused(k) => {d}body::Refused(k),
+    }}
+}}
+
+// The type decides the body.
+pub fn read_{small}message(s: &[u8], ty: u8, p: Place) -> {d}body
+    ensures {{ λ r. ⌜ view{d} r ≡ readBody table{d} ty (now (s .entry)) p ⌝ }}
+{{
+    match ty {{
+"
+    );
+    for m in rows {
+        text += &read_arm(m, d);
+    }
+    text += &format!(
+        "        _ => {d}body::Refused(Refusal::UnknownType),
+    }}
+}}
+
+// The number of a message's type.
+pub fn type_of(m: {d}message) -> u8
+    ensures {{ λ r. ⌜ r ≡ type{d} m ⌝ }}
+{{
+    match m {{
+"
+    );
+    for m in cases {
+        text += &format!("        {d}message::{} => {},\n", holding(m, "_"), m.number);
+    }
+    text += &format!(
+        "    }}
+}}
+
+// A body written at a place: its fields' refusals in order, then 10, then 11; a refusal leaves the output as it was.
+pub fn write_{small}message(out: &mut [u8], p: Place, lent: &[u8], m: {d}message) -> Place
+    ensures {{ λ r. ⌜ Written (layout{d} (type{d} m)) (now (lent .entry)) (values{d} m) (now (out .entry)) p (now (out .exit)) r ⌝ }}
+{{
+    match m {{
+"
+    );
+    for m in cases {
+        text += &match m.is_empty() {
+            true => format!(
+                "        {d}message::{} => laying::begun(p, p, out.len()),\n",
+                m.case
+            ),
+            false => format!(
+                "        {d}message::{}(x) => {}::write_{}(out, p, lent, x),\n",
+                m.case,
+                m.module(),
+                m.small()
+            ),
+        };
+    }
+    text + "    }\n}\n"
+}
+
+fn read_arm(m: &Message, d: char) -> String {
+    match m.is_empty() {
+        true => format!(
+            "        {} => finish({d}message::{}, p),\n",
+            m.number, m.case
+        ),
+        false => format!(
+            "        {} => {{
+            let r = {}::read_{}(s, p);
+            let m = r.value;
+            let e = r.next;
+            finish({d}message::{}(m), e)
+        }}
+",
+            m.number,
+            m.module(),
+            m.small(),
+            m.case
+        ),
+    }
+}
+
+// ---- definitions
+
+fn views(direction: Direction, krate: &str, cases: &[&Message]) -> String {
+    let d = direction.letter();
+    let mut text = format!(
+        "-- For each case of `{d}message` this paper's number, and its values.\nuse Prim.Native.Nat.{{ℕ}}\nuse mathlib.Core.List.{{List, []}}\nuse Rattle.fields.specs.Values.{{Value}}\n"
+    );
+    for from in ["common", "messages", "metadata"] {
+        let values: Vec<String> = cases
+            .iter()
+            .filter(|m| m.dialect == from && !m.is_empty())
+            .map(|m| m.small())
+            .collect();
+        text += &format!(
+            "use Rattle.{from}.specs.Records.{{{}}}\n",
+            values.join(", ")
+        );
+    }
+    text += "use Rattle.layouts.specs.Bodies.{Answer, accepted, refused}\n";
+    text += &declared(krate, d);
+    text += &format!("\nabbrev pub type{d} : {d}message → ℕ\n");
+    for m in cases {
+        text += &format!("type{d} {} = {}\n", pattern(m), m.number);
+    }
+    text += &format!("\nunfoldable pub values{d} : {d}message → List Value\n");
+    for m in cases {
+        text += &match m.is_empty() {
+            true => format!("values{d} {} = []\n", pattern(m)),
+            false => format!("values{d} {} = {} m\n", pattern(m), m.small()),
+        };
+    }
+    text + &format!(
+        "
+-- a body seen as its number, its values and where it ends; or its refusal
+unfoldable pub view{d} : {d}body → Answer
+view{d} (B.Message m n) = accepted (type{d} m) (values{d} m) n
+view{d} (B.Refused k) = refused k
+"
+    )
+}
+
+fn declared(krate: &str, d: char) -> String {
+    format!(
+        "use Rattle.{krate}.specs.declared.{d}message.{{{d}message}}
+use Rattle.{krate}.specs.declared.{d}message.the-variants as M
+use Rattle.{krate}.specs.declared.{d}body.{{{d}body}}
+use Rattle.{krate}.specs.declared.{d}body.the-variants as B
+"
+    )
+}
+
+/// A field from the values of its record, of which the i-th is its first.
+fn rebuilt(f: &Field, i: usize) -> String {
+    let number = |i: usize| format!("numOf (nth {i} vs)");
+    let span =
+        |i: usize| format!("record {{ start = startOf (nth {i} vs); len = lenOf (nth {i} vs) }}");
+    let value = match f.kind {
+        Kind::Number(_) => number(i),
+        Kind::Qid => format!(
+            "record {{ ty = {}; version = {}; path = {} }}",
+            number(i),
+            number(i + 1),
+            number(i + 2)
+        ),
+        Kind::Str | Kind::Data => span(i),
+        Kind::Names | Kind::Qids => format!(
+            "record {{ count = countOf (nth {i} vs); elements = {} }}",
+            span(i)
+        ),
+        _ => format!("record {{ 0 = {} }}", number(i)),
+    };
+    format!("{} = {value}", quoted(&f.name))
+}
+
+fn message(m: &Message) -> String {
+    let mut i = 0;
+    let mut fields = vec![];
+    for f in &m.fields {
+        fields.push(rebuilt(f, i));
+        i += if f.kind == Kind::Qid { 3 } else { 1 };
+    }
+    match m.is_empty() {
+        true => format!("M.{}", m.case),
+        false => format!("M.{} (record {{ {} }})", m.case, fields.join("; ")),
+    }
+}
+
+/// Tests of the number, one inside the other; the last message is what is left.
+fn tests(rows: &[&Message], depth: usize) -> String {
+    let indent = "      ".repeat(depth);
+    match rows {
+        [] => String::new(),
+        [m] => format!("{indent}{}\n", message(m)),
+        [m, rest @ ..] => {
+            format!("{indent}elim (eqb ty {}) [\n{indent}  | true ↦ {}\n{indent}  | false ↦\n{}{indent}]\n", m.number, message(m), tests(rest, depth + 1))
+        }
+    }
+}
+
+fn built(direction: Direction, krate: &str, rows: &[&Message], cases: &[&Message]) -> String {
+    let d = direction.letter();
+    let mut text = "-- A view says all: a message can be built again from its number and its values, so two messages, and two bodies, with one view are equal.
+use Prim.Native.Nat.{ℕ}
+use mathlib.Core.Path.{_≡_, refl, sym, ap, ap₂, _∙_}
+use mathlib.Core.Bool.{true, false}
+use mathlib.Core.List.{List}
+use lib.ListN.{getD}
+use lib.Dec.{eqb}
+use Rattle.fields.specs.Values.{Value, val, numOf, startOf, lenOf, countOf}
+use Rattle.layouts.specs.Bodies.{Answer, accepted, refused}
+"
+    .to_string();
+    text += &format!(
+        "use Rattle.{krate}.specs.Views.{{type{d}, values{d}, view{d}}}\n{}",
+        declared(krate, d)
+    );
+    text += &format!("\nabbrev nth : ℕ → List Value → Value\nnth i vs = getD vs i (val 0)\n\nunfoldable pub built : ℕ → List Value → {d}message\nbuilt ty vs =\n");
+    text += &tests(rows, 0)
+        .lines()
+        .map(|line| format!("    {line}\n"))
+        .collect::<String>();
+    text += &format!("\npub rebuilt : (m : {d}message) → built (type{d} m) (values{d} m) ≡ m\nunfolding built values{d}\n");
+    for m in cases {
+        text += &format!("rebuilt {} = refl\n", pattern(m));
+    }
+    text + &format!(
+        "
+pub one-message : (m m' : {d}message) → type{d} m ≡ type{d} m' → values{d} m ≡ values{d} m' → m ≡ m'
+one-message m m' e f = sym (rebuilt m) ∙ ap₂ built e f ∙ rebuilt m'
+
+-- the body that an answer stands for
+unfoldable pub bodyIn : Answer → {d}body
+bodyIn (accepted ty vs n) = B.Message (built ty vs) n
+bodyIn (refused k) = B.Refused k
+
+rebodied : (r : {d}body) → bodyIn (view{d} r) ≡ r
+unfolding bodyIn view{d}
+rebodied (B.Message m n) = ap (λ (x : {d}message). B.Message x n) (rebuilt m)
+rebodied (B.Refused k) = refl
+
+pub one-body : (r r' : {d}body) → view{d} r ≡ view{d} r' → r ≡ r'
+one-body r r' e = sym (rebodied r) ∙ ap bodyIn e ∙ rebodied r'
+"
+    )
+}
+
+/// That the type of each case is in its table. Three parts of the text are the same whatever the messages are.
+fn known(table: &Table) -> String {
+    let rows = |direction: Direction, law: &str, cases: &str| -> String {
+        let named = |m: &&Message| format!("{law} {} = refl\n", pattern(m).replace("M.", cases));
+        table.by_case(direction).iter().map(named).collect()
+    };
+    let [head, between, end] = KNOWN;
+    head.to_string()
+        + &rows(Direction::T, "row-of-request", "M.")
+        + between
+        + &rows(Direction::R, "row-of-reply", "Q.")
+        + end
+}
+
+fn known_request(table: &Table) -> String {
+    let rows = table.by_number(Direction::T);
+    let numbers: Vec<String> = rows.iter().map(|m| m.number.to_string()).collect();
+    format!(
+        "// Whether a type is a request's: one of the {}.
+
+ghost use mathlib.Core.Path.{{_≡_}};
+ghost use Rattle.layouts.specs.Tables.{{tableT}};
+ghost use Rattle.pairs.specs.Pairs.{{knows}};
+
+pub(crate) fn known_request(ty: u8) -> bool
+    ensures {{ λ r. ⌜ r ≡ knows tableT ty ⌝ }}
+{{
+    match ty {{
+        {} => true,
+        _ => false,
+    }}
+}}
+",
+        rows.len(),
+        numbers.join(" | ")
+    )
+}
+
+const KNOWN: [&str; 3] = [
+    include_str!("known/head.antt.txt"),
+    include_str!("known/between.antt.txt"),
+    include_str!("known/end.antt.txt"),
+];
+
+// ---- proofs
+
+fn read_proof(direction: Direction, krate: &str, rows: &[&Message]) -> String {
+    let (d, small) = (direction.letter(), direction.small());
+    let function = format!("read_{small}message");
+    let mut text = format!(
+        "-- Each arm is the row of its number; the rest is a number that has no row.
+use Prim.Native.Nat.{{ℕ}}
+use mathlib.Core.Path.{{_∙_}}
+use Rattle.fields.specs.FieldLaws.{{done}}
+use Rattle.layouts.specs.Tables.{{table{d}}}
+use Rattle.layouts.specs.BodyLaws.{{known-body, unknown-body}}
+use Rattle.{krate}.specs.Views.{{values{d}, view{d}}}
+{}",
+        uses(krate, &function)
+    );
+    let mut calls = Occurrences::default();
+    let mut asked = vec![];
+    let mut answers = vec![];
+    for (i, m) in rows.iter().enumerate() {
+        let (need, finish, n, k) = (
+            numbered("returns", i + 1),
+            calls.next("finish"),
+            m.number,
+            i + 1,
+        );
+        text += &format!("\n{need} : tie.Need-{need}\nunfolding values{d}\n{need} c = ");
+        text += &match m.is_empty() {
+            true => format!("rw (c .before .match .keys{k}) (c .{finish} .ensures ∙ known-body {n} done)\n"),
+            false => format!(
+                "rw (c .before .before .before .match .keys{k}) (c .{finish} .ensures ∙ known-body {n} (c .before .before .read-{} .ensures))\n",
+                m.small()
+            ),
+        };
+        asked.extend(vec![NOTHING.to_string(); 2 - usize::from(m.is_empty())]);
+        answers.push(need);
+    }
+    let need = numbered("returns", rows.len() + 1);
+    text += &format!("\n{need} : tie.Need-{need}\nunfolding view{d}\n{need} c = unknown-body table{d} _ _ _ (c .match .rest)\n\n");
+    answers.push(need);
+    asked.extend(answers);
+    text + &closed(&format!("read-{small}message"), &asked)
+}
+
+fn write_proof(direction: Direction, krate: &str, cases: &[&Message]) -> String {
+    let (d, small) = (direction.letter(), direction.small());
+    let has_empty = cases.iter().any(|m| m.is_empty());
+    let mut text =
+        "-- Each arm is the record that its case holds.\nuse borrow.Author.Needs.{needs}\n"
+            .to_string();
+    if has_empty {
+        text += "use Rattle.laying.specs.WritingLaws.{written-nothing}\n";
+    }
+    text += &format!(
+        "use Rattle.{krate}.specs.Views.{{values{d}}}\n{}",
+        uses(krate, &format!("write_{small}message"))
+    );
+    let (mut held, mut empty) = (0, 0);
+    let mut calls = Occurrences::default();
+    let mut asked = vec![];
+    let mut answers = vec![];
+    for (i, m) in cases.iter().enumerate() {
+        let need = numbered("returns", i + 1);
+        if m.is_empty() {
+            empty += 1;
+            let (told, call, begun) = (
+                numbered("enum-told", empty),
+                calls.next("enum-told"),
+                calls.next("begun"),
+            );
+            text += &format!("\n{told} : tie.Need-{told}\n{told} c = search needs\n\n{need} : tie.Need-{need}\nunfolding values{d}\n");
+            text += &format!("{need} c = rw (c .before .{call} .given .1) (written-nothing (c .{begun} .ensures))\n");
+            asked.extend([told, NOTHING.to_string()]);
+        } else {
+            held += 1;
+            let (known, length, call) = (
+                numbered("enum-known-m", held),
+                numbered("same-length", held),
+                calls.next("m"),
+            );
+            text += &format!("\n{known} : tie.Need-{known}\n{known} c = search needs\n\n{length} : tie.Need-{length}\n{length} c = search needs\n\n{need} : tie.Need-{need}\nunfolding values{d}\n");
+            text += &format!(
+                "{need} c = rw (c .before .before .before .before .before .{call} .given .1) (c .before .before .write-{} .ensures)\n",
+                m.small()
+            );
+            asked.extend([known, NOTHING.to_string()]);
+            answers.push(length);
+        }
+        answers.push(need);
+    }
+    asked.extend(answers);
+    text + "\n" + &closed(&format!("write-{small}message"), &asked)
+}
+
+fn type_proof(krate: &str, cases: &[&Message]) -> String {
+    let mut text = format!(
+        "-- Each case has the number that the definition gives it.\nuse borrow.Author.Needs.{{needs}}\n{}",
+        uses(krate, "type_of")
+    );
+    let mut calls = Occurrences::default();
+    let mut asked = vec![];
+    let mut answers = vec![];
+    for i in 1..=cases.len() {
+        let (told, need, call) = (
+            numbered("enum-told", i),
+            numbered("returns", i),
+            calls.next("enum-told"),
+        );
+        text += &format!("\n{told} : tie.Need-{told}\n{told} c = search needs\n\n{need} : tie.Need-{need}\n{need} c = rw (c .{call} .given .1)\n");
+        asked.push(told);
+        answers.push(need);
+    }
+    asked.extend(answers);
+    text + "\n" + &closed("type-of", &asked)
+}

@@ -1,0 +1,60 @@
+//! Writes what is the same for every message from the table: messages TABLE OUT
+//!
+//! tools/messages calls it, lays what it writes out by `rt fmt` and compares it with the tree. Nothing here has to be trusted: the prover
+//! checks what is written, against tables that are written by hand.
+
+mod bodies;
+mod flats;
+mod names;
+mod records;
+mod rust;
+mod table;
+
+use std::path::{Path, PathBuf};
+use std::process::ExitCode;
+use std::{env, fs};
+
+/// The files that are to be written, by their paths from the root of the repository.
+#[derive(Default)]
+pub struct Files(Vec<(String, String)>);
+
+impl Files {
+    /// Each file says in its first line where it comes from.
+    pub fn put(&mut self, path: String, text: String) {
+        let comment = if path.ends_with(".antt") { "--" } else { "//" };
+        let head = format!("{comment} Written by tools/messages from its table of messages.\n");
+        self.0.push((path, head + &text));
+    }
+}
+
+fn written(table: &Path, out: &Path) -> Result<(), String> {
+    let text = fs::read_to_string(table).map_err(|why| format!("{}: {why}", table.display()))?;
+    let table = table::Table::parsed(&text)?;
+    let mut files = Files::default();
+    records::write(&table, &mut files);
+    bodies::write(&table, &mut files);
+    flats::write(&table, &mut files);
+    rust::write(&table, &mut files);
+    for (path, text) in files.0 {
+        let path = out.join(path);
+        let folder = path.parent().unwrap_or(out);
+        let done = fs::create_dir_all(folder).and_then(|()| fs::write(&path, text));
+        done.map_err(|why| format!("{}: {why}", path.display()))?;
+    }
+    Ok(())
+}
+
+fn main() -> ExitCode {
+    let words: Vec<PathBuf> = env::args_os().skip(1).map(PathBuf::from).collect();
+    let done = match &words[..] {
+        [table, out] => written(table, out),
+        _ => Err("usage: messages TABLE OUT".to_string()),
+    };
+    match done {
+        Ok(()) => ExitCode::SUCCESS,
+        Err(why) => {
+            eprintln!("messages: {why}");
+            ExitCode::FAILURE
+        }
+    }
+}

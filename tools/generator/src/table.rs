@@ -1,0 +1,232 @@
+//! The table of messages, read from messages.txt.
+
+use std::collections::BTreeMap;
+
+#[derive(Clone, Copy, PartialEq, Eq)]
+pub enum Kind {
+    Number(u8),
+    /// A number of four or two bytes in a tuple struct.
+    Fid,
+    Gid,
+    Tag,
+    Qid,
+    Str,
+    Data,
+    Names,
+    Qids,
+}
+
+pub struct Field {
+    pub name: String,
+    pub kind: Kind,
+}
+
+#[derive(Clone, Copy, PartialEq, Eq)]
+pub enum Direction {
+    T,
+    R,
+}
+
+pub struct Message {
+    pub dialect: String,
+    pub family: String,
+    pub number: u8,
+    pub direction: Direction,
+    pub case: String,
+    pub fields: Vec<Field>,
+}
+
+pub struct Table {
+    pub messages: Vec<Message>,
+    /// The first line of a family's file, by crate and family.
+    pub heads: BTreeMap<(String, String), String>,
+    /// The cases in the order of the enums.
+    pub order: Vec<String>,
+}
+
+impl Kind {
+    fn named(name: &str) -> Option<Self> {
+        Some(match name {
+            "1" => Kind::Number(1),
+            "2" => Kind::Number(2),
+            "4" => Kind::Number(4),
+            "8" => Kind::Number(8),
+            "fid" => Kind::Fid,
+            "gid" => Kind::Gid,
+            "tag" => Kind::Tag,
+            "q" => Kind::Qid,
+            "s" => Kind::Str,
+            "d" => Kind::Data,
+            "names" => Kind::Names,
+            "qids" => Kind::Qids,
+            _ => return None,
+        })
+    }
+
+    /// The type of the field in a record.
+    pub fn ty(self) -> &'static str {
+        match self {
+            Kind::Number(1) => "u8",
+            Kind::Number(2) => "u16",
+            Kind::Number(4) => "u32",
+            Kind::Number(_) => "u64",
+            Kind::Fid => "Fid",
+            Kind::Gid => "Gid",
+            Kind::Tag => "Tag",
+            Kind::Qid => "Qid",
+            Kind::Str | Kind::Data => "Span",
+            Kind::Names | Kind::Qids => "Part",
+        }
+    }
+
+    /// How many bytes a number has.
+    pub fn width(self) -> Option<u8> {
+        match self {
+            Kind::Number(width) => Some(width),
+            Kind::Fid | Kind::Gid => Some(4),
+            Kind::Tag => Some(2),
+            _ => None,
+        }
+    }
+
+    /// Whether the number stands in a tuple struct.
+    pub fn is_wrapped(self) -> bool {
+        matches!(self, Kind::Fid | Kind::Gid | Kind::Tag)
+    }
+}
+
+impl Direction {
+    pub fn letter(self) -> char {
+        match self {
+            Direction::T => 'T',
+            Direction::R => 'R',
+        }
+    }
+
+    pub fn small(self) -> char {
+        self.letter().to_ascii_lowercase()
+    }
+
+    /// How many values any body of the direction has.
+    pub fn room(self) -> usize {
+        match self {
+            Direction::T => 10,
+            Direction::R => 22,
+        }
+    }
+}
+
+impl Message {
+    /// The record's name, as `Tversion`.
+    pub fn record(&self) -> String {
+        format!("{}{}", self.direction.letter(), self.case.to_lowercase())
+    }
+
+    /// The same in small letters, as functions and definitions have it.
+    pub fn small(&self) -> String {
+        self.record().to_lowercase()
+    }
+
+    /// The layout's name in the definitions, as `layoutT 100`.
+    pub fn layout(&self) -> String {
+        format!("layout{} {}", self.direction.letter(), self.number)
+    }
+
+    /// The module that the record stands in, as `common::sessions`.
+    pub fn module(&self) -> String {
+        format!("{}::{}", self.dialect, self.family)
+    }
+
+    pub fn is_empty(&self) -> bool {
+        self.fields.is_empty()
+    }
+}
+
+impl Table {
+    pub fn parsed(text: &str) -> Result<Self, String> {
+        let mut table = Table {
+            messages: vec![],
+            heads: BTreeMap::new(),
+            order: vec![],
+        };
+        for (at, line) in text.lines().enumerate() {
+            table.take(line).ok_or(format!(
+                "messages.txt, line {}: not a row of the table",
+                at + 1
+            ))?;
+        }
+        Ok(table)
+    }
+
+    fn take(&mut self, line: &str) -> Option<()> {
+        let mut words = line.split_whitespace();
+        match words.next() {
+            None => {}
+            Some(word) if word.starts_with('#') => {}
+            Some("file") => {
+                let key = (words.next()?.to_string(), words.next()?.to_string());
+                self.heads.insert(key, words.collect::<Vec<_>>().join(" "));
+            }
+            Some("order") => self.order.extend(words.map(str::to_string)),
+            Some(dialect) => {
+                let family = words.next()?.to_string();
+                let number = words.next()?.parse().ok()?;
+                let direction = match words.next()? {
+                    "T" => Direction::T,
+                    "R" => Direction::R,
+                    _ => return None,
+                };
+                let case = words.next()?.to_string();
+                let fields = words.map(field).collect::<Option<_>>()?;
+                self.messages.push(Message {
+                    dialect: dialect.to_string(),
+                    family,
+                    number,
+                    direction,
+                    case,
+                    fields,
+                });
+            }
+        }
+        Some(())
+    }
+
+    /// A direction's messages by number, as the matches go.
+    pub fn by_number(&self, direction: Direction) -> Vec<&Message> {
+        let mut rows: Vec<_> = self
+            .messages
+            .iter()
+            .filter(|m| m.direction == direction)
+            .collect();
+        rows.sort_by_key(|m| m.number);
+        rows
+    }
+
+    /// A direction's messages in the order of the enums.
+    pub fn by_case(&self, direction: Direction) -> Vec<&Message> {
+        let rows = self.by_number(direction);
+        self.order
+            .iter()
+            .filter_map(|case| rows.iter().find(|m| m.case == *case).copied())
+            .collect()
+    }
+
+    /// The families of a crate, in the table's order.
+    pub fn families(&self, is_in: impl Fn(&Message) -> bool) -> Vec<String> {
+        let mut families: Vec<String> = vec![];
+        for message in self.messages.iter().filter(|m| is_in(m)) {
+            if !families.contains(&message.family) {
+                families.push(message.family.clone());
+            }
+        }
+        families
+    }
+}
+
+fn field(word: &str) -> Option<Field> {
+    let (name, kind) = word.split_once(':')?;
+    Some(Field {
+        name: name.to_string(),
+        kind: Kind::named(kind)?,
+    })
+}
