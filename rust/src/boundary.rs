@@ -44,7 +44,7 @@ pub struct Qid {
 }
 
 /// A directory entry as it crosses the boundary. Its name is a span of the bytes that it was read
-/// from, or that are lent; `next` is the place behind it.
+/// from, or that are lent; `next` is the place after it.
 #[repr(C)]
 #[derive(Clone, Copy, Debug, Default, PartialEq, Eq)]
 pub struct FlatDirent {

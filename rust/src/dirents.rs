@@ -1,4 +1,4 @@
-//! The entries of a directory, as an Rreaddir's data holds them one behind the other.
+//! The entries of a directory, as an Rreaddir's data holds them one after the other.
 
 use crate::boundary::FlatDirent;
 use crate::fields::{lendable, shown};
@@ -29,7 +29,7 @@ pub struct Dirent<'a> {
 }
 
 impl<'a> Dirent<'a> {
-    /// Reads the entry at a place of some bytes, and answers the place behind it too.
+    /// Reads the entry at a place of some bytes, and answers the place after it too.
     pub fn decode(bytes: &'a [u8], at: usize) -> Result<(Self, usize), Refusal> {
         let flat = ffi::read_dirent(bytes, at);
         if let Some(refusal) = Refusal::of(flat.refusal) {
@@ -47,7 +47,7 @@ impl<'a> Dirent<'a> {
         Ok((entry, flat.next))
     }
 
-    /// Writes the entry at a place of the output, and answers the place behind it. Refused, the
+    /// Writes the entry at a place of the output, and answers the place after it. Refused, the
     /// output is as it was: 11 where it ends before the entry does.
     pub fn encode(&self, out: &mut [u8], at: usize) -> Result<usize, Refusal> {
         let lent = lendable(self.name);
@@ -66,7 +66,7 @@ impl<'a> Dirent<'a> {
 
 impl<'a> Rreaddir<'a> {
     /// The entries one by one. The data is whatever the server sent, so an entry may be refused;
-    /// none is given behind that one.
+    /// none is given after that one.
     pub fn entries(&self) -> Dirents<'a> {
         let (data, at) = (self.data, 0);
         Dirents { data, at }

@@ -33,7 +33,7 @@ pub fn shown(bytes: &[u8], start: usize, len: usize) -> &[u8] {
 }
 
 /// What is to be written: the values, and the bytes that their spans point into, at most two slices
-/// which stand one behind the other.
+/// which stand one after the other.
 pub struct Put<'a, const N: usize> {
     pub values: [u64; N],
     pub lent: [&'a [u8]; 2],

@@ -28,7 +28,7 @@ pub struct Decoded<F> {
 }
 
 impl<'a> Tframe<'a> {
-    /// Reads the request at the front of some bytes; no byte behind its declared size is looked
+    /// Reads the request at the front of some bytes; no byte after its declared size is looked
     /// at. Refused where the header can't be read; where the body can't, the tag is told, the
     /// message is the refusal, and nothing counts as used.
     ///
@@ -80,7 +80,7 @@ impl<'a> Tframe<'a> {
 }
 
 impl<'a> Rframe<'a> {
-    /// Reads the reply at the front of some bytes; no byte behind its declared size is looked at.
+    /// Reads the reply at the front of some bytes; no byte after its declared size is looked at.
     pub fn decode(bytes: &'a [u8]) -> Result<Decoded<Self>, Refusal> {
         Self::read(bytes, |tag, msg, used| {
             let frame = Self { tag, msg: msg? };

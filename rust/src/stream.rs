@@ -1,6 +1,6 @@
 //! Frames from a stream: each by its declared size, whatever it holds.
 //!
-//! p9's own server resumes behind the last field that it knows, so that bytes behind that field ran
+//! p9's own server resumes after the last field that it knows, so that bytes after that field ran
 //! as a second request. Here the next frame begins where the size of this one says.
 
 use std::io::{self, ErrorKind, Read};
@@ -31,7 +31,7 @@ pub enum Broken {
 /// ```
 /// use sheafsledge::stream::{next_frame, Next};
 /// use sheafsledge::Tframe;
-/// // The accident: a Twrite of one byte, and its copy behind the last field, inside the size.
+/// // The accident: a Twrite of one byte, and its copy after the last field, inside the size.
 /// let once = *b"\x18\0\0\0\x76\x01\0\x02\0\0\0\0\0\0\0\0\0\0\0\x01\0\0\01";
 /// let mut bytes = [once, once].concat();
 /// bytes[0] = 48;

@@ -23,7 +23,7 @@ pub struct Listed<'a> {
     pub ty: u8,
     pub tag: u16,
     pub body: Body<'a>,
-    /// How many bytes stand behind its last field; 0 where the body is refused.
+    /// How many bytes stand after its last field; 0 where the body is refused.
     pub tail: usize,
     /// Where the next one starts.
     pub next: usize,
@@ -83,7 +83,7 @@ pub fn stretch(bytes: &[u8]) -> Stretch<'_> {
 #[derive(Clone, Copy, Debug)]
 pub struct Stretch<'a> {
     bytes: &'a [u8],
-    /// None behind the end, and behind a refusal.
+    /// None after the end, and after a refusal.
     position: Option<usize>,
 }
 

@@ -15,7 +15,7 @@ use crate::{ffi, Qid, Refusal};
 #[derive(Clone, Copy, Debug, PartialEq, Eq)]
 pub struct Names<'a> {
     count: u16,
-    // Only whole strings, each behind its count; the constructors see to it.
+    // Only whole strings, each after its count; the constructors see to it.
     part: &'a [u8],
 }
 

@@ -195,7 +195,7 @@ fn the_directory_is_not_left() {
     assert_eq!(at_root[27..35], folder.ino("").to_le_bytes());
     assert_eq!(client.walks(2, &["../secret"]), failed(22));
     assert_eq!(client.walks(2, &["secret"]), failed(2));
-    // A link is a file of its own, which can't be opened, and nothing lies behind it.
+    // A link is a file of its own, which can't be opened, and nothing lies after it.
     assert_eq!(client.walks(2, &["link"])[9], 2);
     assert_eq!(client.opens(2), failed(40));
     assert_eq!(client.walks(3, &["up", "secret"])[7..9], [1, 0]);
@@ -239,7 +239,7 @@ fn what_is_not_done_is_said() {
     );
 }
 
-/// A Tclunk whose copy stands behind its last field is one Tclunk, and what is no frame ends it.
+/// A Tclunk whose copy stands after its last field is one Tclunk, and what is no frame ends it.
 #[test]
 fn a_tail_is_no_request() {
     let folder = Folder::new("tail");

@@ -28,7 +28,7 @@ leaves b n e = record { bytes = b; wrote = e ∙ ap wroteOf n }
 pub leaves-one : {out o1 o2 : List ℕ} {past : Place} {w w' : Wrote} → Leaves out past o1 w → Leaves out past o2 w' → (o1 ≡ o2) × (w ≡ w')
 leaves-one a b = (one-answer (a .bytes) (b .bytes), one-answer (a .wrote) (b .wrote))
 
--- what is made of the place behind the fields of a layout, and of their numbers
+-- what is made of the place after the fields of a layout, and of their numbers
 abbrev pub readAs : {A : Type 0} → (Place → List ℕ → A) → Layout → List ℕ → Place → A
 readAs f l s p = f (pastFields l s p) (flatValues (valuesAt l s p))
 

@@ -15,7 +15,7 @@ ghost use Rattle.flat.specs.Flat.{flatValues};
 ghost use Rattle.exports.specs.Answers.{readAs};
 ghost use Rattle.exports.specs.Dirents.{flatDirent, DirentWritten};
 
-// An entry: 0 with its fields, its name's span and the place behind it; or its refusal, and all else 0.
+// An entry: 0 with its fields, its name's span and the place after it; or its refusal, and all else 0.
 #[repr(C)]
 pub struct FlatDirent {
     pub refusal: u8,
@@ -74,7 +74,7 @@ pub extern "C" fn sheafsledge_read_dirent(bytes: &[u8], at: usize) -> FlatDirent
     flat_dirent(value, next)
 }
 
-// 16 if it holds a refusal; else as its record is written. The answer is the place behind the entry; `next` is not looked at.
+// 16 if it holds a refusal; else as its record is written. The answer is the place after the entry; `next` is not looked at.
 #[no_mangle]
 pub extern "C" fn sheafsledge_write_dirent(
     out: &mut [u8],

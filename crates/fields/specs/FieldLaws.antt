@@ -109,7 +109,7 @@ unfolding pastFields pastField
 stays [] s k = refl
 stays (f ∷ fs) s k = stays fs s k
 
--- accepted: the values are where the items stand, and the place is behind them
+-- accepted: the values are where the items stand, and the place is after them
 pub record Accepted (fs : Layout) (s : List ℕ) (a : ℕ) (is : List Item) (r : List ℕ) : Type 0 where
   pub lies : a + length (itemsBytes is) ≤ length s
   pub rest : r ≡ drop (a + length (itemsBytes is)) s

@@ -32,12 +32,12 @@ valueAt f s p = placedIn f p (readAt (readField f) s p)
 unfoldable pub pastField : Field → List ℕ → Place → Place
 pastField f s p = restAt (length s) (readAt (readField f) s p)
 
--- what a field's reader answers at p of s: the value, and the place behind it
+-- what a field's reader answers at p of s: the value, and the place after it
 pub record FieldRead (f : Field) (s : List ℕ) (p : Place) (v : Value) (e : Place) : Type 0 where
   pub value : v ≡ valueAt f s p
   pub next : e ≡ pastField f s p
 
--- so many strings from a position on: the place behind them
+-- so many strings from a position on: the place after them
 pub record ManyRead (n : ℕ) (s : List ℕ) (a : ℕ) (e : Place) : Type 0 where
   pub next : e ≡ restAt (length s) (readMany n (drop a s))
 
@@ -46,7 +46,7 @@ pub record Nowhere (v : Value) (e k : Place) : Type 0 where
   pub value : v ≡ part 0 0 0
   pub next : e ≡ k
 
--- field after field; once one is refused, so are all behind it
+-- field after field; once one is refused, so are all after it
 unfoldable pub valuesAt : Layout → List ℕ → Place → List Value
 valuesAt [] s p = []
 valuesAt (f ∷ fs) s p = valueAt f s p ∷ valuesAt fs s (pastField f s p)
@@ -55,7 +55,7 @@ unfoldable pub pastFields : Layout → List ℕ → Place → Place
 pastFields [] s p = p
 pastFields (f ∷ fs) s p = pastFields fs s (pastField f s p)
 
--- what a reader of a layout answers: the values of its fields, and the place behind them
+-- what a reader of a layout answers: the values of its fields, and the place after them
 pub record Fields (fs : Layout) (s : List ℕ) (p : Place) (vs : List Value) (e : Place) : Type 0 where
   pub values : vs ≡ valuesAt fs s p
   pub next : e ≡ pastFields fs s p

@@ -1,4 +1,4 @@
--- Over any layout: reading what was written gives the items back, whatever stands behind; fields cut anywhere are short; writing what was read gives those bytes.
+-- Over any layout: reading what was written gives the items back, whatever stands after; fields cut anywhere are short; writing what was read gives those bytes.
 use Prim.Native.Nat.{ℕ, zero, suc, _+_, _*_, _^_, _<_}
 use native.Mathlib.Omega.{arith}
 use mathlib.Core.Path.{_≡_, refl, ap, ap₂, _∙_}

@@ -1,4 +1,4 @@
--- Plain bytes one behind the other: each is a character of its own, and none is zero.
+-- Plain bytes one after the other: each is a character of its own, and none is zero.
 use Prim.Native.Nat.{ℕ, _+_, _≤_, _<_}
 use mathlib.Core.Path.{_≡_}
 use mathlib.Core.Bool.{true}

@@ -15,13 +15,13 @@ use Rattle.fields.specs.Layouts.{Item, number, string, bytes, strings, q
 use Rattle.fields.specs.LayoutLaws.{reads-many}
 use Rattle.fields.specs.Values.{span, place, places, show, shows}
 
--- bytes that stand behind a and in front of c
+-- bytes that stand after a and in front of c
 shown-at : (a b c : List ℕ) (p : ℕ) → length a ≡ p → showSpan (a ++ (b ++ c)) p (length b) ≡ ok b []
 unfolding showSpan
 shown-at a b c p h =
     rw (le-leb (p + length b) (length (a ++ (b ++ c))) (simp length-append (omega arith)), drop-at a (b ++ c) p h, take-append-seam)
 
--- the same behind a count of w bytes
+-- the same after a count of w bytes
 shown-counted : (w n : ℕ) (a b c : List ℕ) (p : ℕ) → length a ≡ p → showSpan (a ++ (toLE w n ++ b ++ c)) (p + w) (length b) ≡ ok b []
 shown-counted w n a b c p h =
     ap (λ l. showSpan l (p + w) (length b)) (simp append-assoc) ∙ shown-at (a ++ toLE w n) b c (p + w) (simp (length-append, length-toLE) (omega arith))

@@ -38,7 +38,7 @@ countOf (val n) = 0
 countOf (span x y) = 0
 countOf (part c x y) = c
 
--- ---- where an item stands that begins at a: its bytes are behind its count
+-- ---- where an item stands that begins at a: its bytes are after its count
 
 abbrev pub place : ℕ → Item → Value
 place a (number w n) = val n

@@ -20,7 +20,7 @@ pub struct Part {
     pub elements: Span,
 }
 
-// The part of what was read, all 0 if it was refused, and the place behind it.
+// The part of what was read, all 0 if it was refused, and the place after it.
 pub struct ReadPart {
     pub value: Part,
     pub next: Place,
@@ -100,7 +100,7 @@ fn plain_from(s: &[u8], i: usize) -> usize
     0
 }
 
-// So many strings from a position on: the place behind them, or the refusal of the first that fails, whichever that is.
+// So many strings from a position on: the place after them, or the refusal of the first that fails, whichever that is.
 fn scan_names(s: &[u8], from: usize, count: u16) -> Place
     requires { ⌜ from ≤ length (now s) ⌝ }
     ensures { λ r. ⌜ ManyRead count (now (s .entry)) from r ⌝ }
@@ -144,7 +144,7 @@ fn scan_names(s: &[u8], from: usize, count: u16) -> Place
     }
 }
 
-// So many strings that some bytes begin with: the place behind them, or the refusal of the first that fails.
+// So many strings that some bytes begin with: the place after them, or the refusal of the first that fails.
 pub fn scan(s: &[u8], count: u16) -> Place
     ensures { λ r. ⌜ ManyRead count (now (s .entry)) 0 r ⌝ }
 {

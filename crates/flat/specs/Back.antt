@@ -34,11 +34,11 @@ padded-more (x ∷ ns) ms m =
     let z : suc (length ns) + m ≡ suc (length ns + m) = omega arith in
     ap (λ k. padded k (x ∷ (ns ++ ms))) z ∙ ap (λ (r : List ℕ). x ∷ r) (padded-more ns ms m)
 
--- laid behind any numbers, with room for all, the values come back
+-- laid after any numbers, with room for all, the values come back
 abbrev Back : Layout → List Value → Type 0
 Back fs vs = (ys : List ℕ) (j k : ℕ) → j ≡ length ys → length (flatValues vs) ≤ k → valuesFrom j fs (ys ++ padded k (flatValues vs)) ≡ vs
 
--- behind xs the numbers of a value, and then those of the others, with room for all
+-- after xs the numbers of a value, and then those of the others, with room for all
 module _ (v : Value) (vs : List Value) (xs : List ℕ) (i m : ℕ) (e : i ≡ length xs) (h : length (numbersOf v ++ flatValues vs) ≤ m) where
   laid : xs ++ padded m (numbersOf v ++ flatValues vs) ≡ xs ++ (numbersOf v ++ padded (m - length (numbersOf v)) (flatValues vs))
   laid =

@@ -1,4 +1,4 @@
--- A record's values one behind the other, and a layout's values taken from such a run of numbers.
+-- A record's values one after the other, and a layout's values taken from such a run of numbers.
 use Prim.Native.Nat.{ℕ, zero, suc, _+_, _^_, _%_, max}
 use mathlib.Core.Path.{_≡_}
 use mathlib.Core.Bool.{cond}
@@ -27,7 +27,7 @@ abbrev pub flatValues : List Value → List ℕ
 flatValues [] = []
 flatValues (v ∷ vs) = numbersOf v ++ flatValues vs
 
--- the first n, with 0 behind them as far as there are fewer
+-- the first n, with 0 after them as far as there are fewer
 abbrev pub padded : ℕ → List ℕ → List ℕ
 padded zero ns = []
 padded (suc n) [] = 0 ∷ padded n []
@@ -54,7 +54,7 @@ valuesFrom i (quids ∷ fs) ns = part (low 2 (getD ns i 0)) (getD ns (i + 1) 0) 
 abbrev pub fieldValues : Layout → List ℕ → List Value
 fieldValues l ns = valuesFrom 0 l ns
 
--- ---- a body read flat: the values of the type's row in n places, as far as they could be read, and the place behind its fields
+-- ---- a body read flat: the values of the type's row in n places, as far as they could be read, and the place after its fields
 
 abbrev pub valuesIn : Option Layout → List ℕ → Place → List Value
 valuesIn none s p = []

@@ -34,7 +34,7 @@ flatT (headless k) = refusedT k 0 false
 flatT (framed tag (refused k)) = refusedT k tag true
 flatT (framed tag (accepted ty vs n)) = record { refusal = 0; ty = ty; tag = tag; tagged = true; used = n }
 
--- the same of a body that was read flat: by the place behind it
+-- the same of a body that was read flat: by the place after it
 abbrev pub flatBodyT : ℕ → ℕ → Place → FlatT
 flatBodyT ty tag (At n) = record { refusal = 0; ty = ty; tag = tag; tagged = true; used = n }
 flatBodyT ty tag (Refused k) = refusedT k tag true
@@ -61,7 +61,7 @@ abbrev pub valuesIn : Frame → List Value
 valuesIn (headless k) = []
 valuesIn (framed tag a) = valuesOf a
 
--- the same of a body that was read flat: its numbers by the place behind it
+-- the same of a body that was read flat: its numbers by the place after it
 abbrev pub kept : ℕ → Place → List ℕ → List ℕ
 kept n (At e) ns = ns
 kept n (Refused k) ns = flat n []

@@ -25,7 +25,7 @@ use Rattle.frame_exports.specs.Flats.{refusedT, flatT, flatBodyT, refuse
 
 -- ---- a body
 
--- What is answered is told by the body (`out`), and by the place behind one that was read flat (`make`).
+-- What is answered is told by the body (`out`), and by the place after one that was read flat (`make`).
 module _ {A : Type 0} (ty : ℕ) (out : Answer → A) (make : Place → A) (no : (k : Refusal) → make (Refused k) ≡ out (refused k))
     (yes : (vs : List Value) (e : ℕ) → make (At e) ≡ out (accepted ty vs e)) where
   body-flat : {n : ℕ} {s ns : List ℕ} {p q : Place} (l : Option Layout) → FlatRead n l s p ns q → make q ≡ out (bodyAt l ty s p)

@@ -31,7 +31,7 @@ pub record Stands (rows : List Row) (size ty tag : ℕ) (is : List Item) : Type 
   pub goods : Goods is
   pub known : lookup rows ty ≡ some (map kind is)
 
--- ---- read after write: bytes y behind the fields, inside the size, and bytes z behind the frame alter nothing
+-- ---- read after write: bytes y after the fields, inside the size, and bytes z after the frame alter nothing
 
 pub reads-header : (size ty tag : ℕ) (b z : List ℕ) → size < 256 ^ 4 → ty < 256 ^ 1 → tag < 256 ^ 2 → 7 + length b ≡ size
     → readHeader (headBytes size ty tag ++ b ++ z) ≡ ok (record { ty = ty; tag = tag }) b

@@ -1,4 +1,4 @@
--- Demand 3, of whole stretches and over any two tables: "Frames lengthened behind their last field, and unknown frames put between, leave the old listing as it was".
+-- Demand 3, of whole stretches and over any two tables: "Frames lengthened after their last field, and unknown frames put between, leave the old listing as it was".
 use Prim.Native.Nat.{ℕ, _+_, _-_, _^_, _≤_, _<_}
 use native.Mathlib.Omega.{arith}
 use mathlib.Core.Path.{_≡_, refl, sym, ap, ap₂, _∙_, subst}
@@ -33,7 +33,7 @@ pub record Whole (f : List ℕ) : Type 0 where
   pub seven : 7 ≤ length f
   pub sized : sizeIn f ≡ length f
 
--- g is f with bytes added anywhere behind the last field, and the size raised to match: up to there nothing else differs
+-- g is f with bytes added anywhere after the last field, and the size raised to match: up to there nothing else differs
 pub record Lengthened (f g : List ℕ) (used : ℕ) : Type 0 where
   pub whole : Whole g
   pub same : drop 4 (take used g) ≡ drop 4 (take used f)
@@ -70,7 +70,7 @@ answer-inv : {X : Type 0} {ty used : ℕ} {vs : List Value} (m : Frame) → answ
 answer-inv (headless k) e f = absurd (let z : _≡_ {A = ℕ} 0 1 = cc e in omega arith)
 answer-inv (framed tag a) e f = f tag (ap (framed tag) e)
 
--- type and tag stand behind the size, in front of the fields
+-- type and tag stand after the size, in front of the fields
 type-behind : (f : List ℕ) (u : ℕ) → 7 ≤ u → typeIn f ≡ fromLE (take 1 (drop 4 (take u f)))
 type-behind f u h =
     let e : u ≡ 4 + (u - 4) = omega arith in
@@ -140,7 +140,7 @@ module _ (ts rs : List Row) where
   unfolding answerOf readFrame
   strange-frame f s = rw (whole-header f (s .whole .seven) (s .whole .sized) .reads, s .unknown)
 
-  -- a whole frame in front of anything is listed, and the listing goes on behind it
+  -- a whole frame in front of anything is listed, and the listing goes on after it
   list-whole : (p : ℕ) (f b : List ℕ) → Whole f
       → listFrom ts rs p 0 (f ++ b) ≡ entry p (length f) (typeIn f) (tagIn f) (answerOf ts rs f) (tailIn (length f) (answerOf ts rs f)) (listFrom ts rs (p + length f) 0 b)
   list-whole p f b w =
@@ -194,7 +194,7 @@ same-records {ts} {rs} e b c = ap recordsIn (new-listed ts rs e 0 b c) ∙ same-
 
 -- ---- the accident
 
--- the fields of an accepted frame lie within it, behind its header
+-- the fields of an accepted frame lie within it, after its header
 fields-within : (ts rs : List Row) (f : List ℕ) {ty used : ℕ} {vs : List Value} → Bytes f → answerOf ts rs f ≡ accepted ty vs used → (7 ≤ used) × (used ≤ length f)
 unfolding answerOf
 fields-within ts rs f {ty} {used} b a =
@@ -211,7 +211,7 @@ fields-within ts rs f {ty} {used} b a =
 once : {m n t t' p p' ty tag : ℕ} {a : Answer} → m ≡ n → t ≡ t' → p ≡ p' → entry 0 m ty tag a t (ends p) ≡ entry 0 n ty tag a t' (ends p')
 once e f g = rw (e, f, g)
 
--- a frame with a copy of itself behind its last field, inside its size
+-- a frame with a copy of itself after its last field, inside its size
 unfoldable pub repeated : List ℕ → List ℕ
 repeated f = toLE 4 (length f + length f) ++ (drop 4 f ++ f)
 

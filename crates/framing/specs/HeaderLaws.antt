@@ -85,7 +85,7 @@ drop-take (suc k) n s = let e : suc k + n ≡ suc (k + n) = omega arith in rw e 
     go ih [] = sym (take-nil n)
     go ih (x ∷ xs) = ih xs
 
--- the frame's own bytes, behind the size
+-- the frame's own bytes, after the size
 own : (s : List ℕ) (x : ℕ) → 4 ≤ x → take (x - 4) (drop 4 s) ≡ drop 4 (take (min x (length s)) s)
 own s x h =
     or-else x (length s) (λ l. rw (min-eq-left l) (go l)) (λ l. let g : length s ≤ x = omega arith in rw (min-eq-right g, take-length s) (take-all (x - 4) (drop 4 s) (simp length-drop (omega arith))))

@@ -18,7 +18,7 @@ unfoldable pub HeadIs : List ℕ → Head → Type 0
 HeadIs s (H.Held n ty tag) = Headed s n ty tag
 HeadIs s (H.Refused k) = readHeader s ≡ bad k
 
--- behind the size, of the frame's own bytes: the type and the tag
+-- after the size, of the frame's own bytes: the type and the tag
 pub record Tagged (b : List ℕ) (n ty tag : ℕ) : Type 0 where
   pub all : n ≡ length b
   pub seven : 7 ≤ length b

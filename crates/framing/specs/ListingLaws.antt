@@ -65,7 +65,7 @@ module _ (ts rs : List Row) where
   skip-from [] p (suc k) h = absurd (omega arith)
   skip-from (x ∷ xs) p (suc k) h = skip-from xs (suc p) k (omega arith) ∙ ap (λ q. listFrom ts rs q 0 (drop k xs)) (omega arith)
 
-  -- a frame at the front is listed, and the listing goes on behind it
+  -- a frame at the front is listed, and the listing goes on after it
   pub list-next : (p n : ℕ) (xs : List ℕ) → Front xs n
       → listFrom ts rs p 0 xs ≡ entry p n (typeIn (take n xs)) (tagIn (take n xs)) (answerOf ts rs (take n xs)) (tailIn n (answerOf ts rs (take n xs))) (listFrom ts rs (p + n) 0 (drop n xs))
   list-next p n [] f = absurd (let h = f .four in omega arith)

@@ -114,7 +114,7 @@ module _ (rows : List Row) (s : List ℕ) {ty tag used : ℕ} {vs : List Value} 
 unfoldable pub cutAt : ℕ → List ℕ → List ℕ
 cutAt j s = cond (ltb j 4) (take j s) (resized j s)
 
--- behind the size: type, tag and items, cut anywhere
+-- after the size: type, tag and items, cut anywhere
 cut-behind : (rows : List Row) {size ty tag : ℕ} {is : List Item} → Stands rows size ty tag is → (m : ℕ) → m < length (toLE 1 ty ++ (toLE 2 tag ++ itemsBytes is))
     → answerIn (frameOf rows (readTypeTag (take m (toLE 1 ty ++ (toLE 2 tag ++ itemsBytes is))))) ≡ refused R.Short
 unfolding readTypeTag

@@ -24,7 +24,7 @@ fn lesser(a: usize, b: usize) -> usize
     a
 }
 
-// Behind the size: the type and the tag, of the frame's own bytes.
+// After the size: the type and the tag, of the frame's own bytes.
 fn type_and_tag(held: &[u8]) -> Head
     ensures { λ r. ⌜ TypeTag (now (held .entry)) r ⌝ }
 {

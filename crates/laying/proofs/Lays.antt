@@ -63,7 +63,7 @@ put-laid quids v u a = record { bytes = a .bytes; next = a .next }
 
 -- ---- the first pass: a field that passes is as long as its count and its bytes
 
--- the bytes of a field that is no number are behind a count
+-- the bytes of a field that is no number are after a count
 pub record Sized (f : Field) (lent : List ℕ) (v : Value) : Type 0 where
   pub is : (i : Item) (r : List ℕ) → show f lent v ≡ ok i r → length (itemBytes i) ≡ headWidth f + lenOf v
 

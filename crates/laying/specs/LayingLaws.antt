@@ -83,7 +83,7 @@ laid-length {fs} {lent} {vs} {ps = true} {o} {o'} {p} a = ap length (a .bytes) �
 
 -- ---- both passes as in the definition
 
--- fields that are no numbers: a count, and bytes behind it
+-- fields that are no numbers: a count, and bytes after it
 abbrev pub Unless : Field → Type 0
 Unless (num w) = ⊥
 Unless str = Unit {0}
@@ -91,7 +91,7 @@ Unless dat = Unit {0}
 Unless strs = Unit {0}
 Unless quids = Unit {0}
 
--- an item that a value shows: its bytes are those of the span, behind the count
+-- an item that a value shows: its bytes are those of the span, after the count
 pub record Behind (f : Field) (lent : List ℕ) (v : Value) (i : Item) : Type 0 where
   pub tail : List ℕ
   pub shows : showSpan lent (startOf v) (lenOf v) ≡ ok tail []

@@ -1,4 +1,4 @@
--- Document 01, "The lister program .. prints decimal fields: position, size, type, tag, answer (0 or the refusal), tail (`-` if refused)." A text is its pieces, put one behind the other.
+-- Document 01, "The lister program .. prints decimal fields: position, size, type, tag, answer (0 or the refusal), tail (`-` if refused)." A text is its pieces, put one after the other.
 use Prim.Native.Nat.{ℕ, zero, suc, _^_}
 use mathlib.Core.Path.{_≡_}
 use mathlib.Core.Bool.{cond}
@@ -27,7 +27,7 @@ figures (suc fuel) k n = cond (ltb n (10 ^ k)) k (figures fuel (suc k) n)
 unfoldable pub decimal : ℕ → List ℕ
 decimal n = digits 10 (figures 19 1 n) n
 
--- ---- pieces put one behind the other
+-- ---- pieces put one after the other
 
 unfoldable pub putAll : List (List ℕ) → List ℕ → Place → List ℕ
 putAll [] o p = o

@@ -1,4 +1,4 @@
--- The laws of pieces: put one behind the other they are the text, where there is room.
+-- The laws of pieces: put one after the other they are the text, where there is room.
 use Prim.Native.Nat.{ℕ, zero, suc, _+_, _-_, _^_, _≤_, _<_}
 use native.Mathlib.Omega.{arith}
 use native.Mathlib.Nat.{pow-le-pow-right}

@@ -8,7 +8,7 @@ pub enum Input {
 }
 
 // Reads until the buffer is full or the input ends: so many bytes stand at the front of the buffer.
-// `read_full` also stops at a read that fails. Behind the end another read gives nothing; behind a failure it fails or gives bytes.
+// `read_full` also stops at a read that fails. After the end another read gives nothing; after a failure it fails or gives bytes.
 pub fn read(buf: &mut [u8]) -> Input
     ensures { λ r. ⌜ Holds (now (buf .exit)) r ⌝ }
 {

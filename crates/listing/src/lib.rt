@@ -32,7 +32,7 @@ fn put_decimal(out: &mut [u8], p: Place, n: u64) -> Place
     put_text(out, p, &text[..len])
 }
 
-// A decimal field and what stands behind it.
+// A decimal field and what stands after it.
 fn put_field(out: &mut [u8], p: Place, n: u64, behind: &[u8]) -> Place
     ensures { λ r. ⌜ FieldPut n (now (behind .entry)) (now (out .entry)) p (now (out .exit)) r ⌝ }
 {
@@ -121,7 +121,7 @@ fn wide(x: u8) -> u64
     x as u64
 }
 
-// What the lister writes of its input, at the front of an output: the place behind it, or 11 where the output is too short.
+// What the lister writes of its input, at the front of an output: the place after it, or 11 where the output is too short.
 pub fn report(out: &mut [u8], input: &[u8]) -> Place
     ensures { λ r. ⌜ Reported (now (input .entry)) (now (out .entry)) (now (out .exit)) r ⌝ }
 {

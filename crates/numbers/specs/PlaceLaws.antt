@@ -80,7 +80,7 @@ num-held {w} {a} {x} {s} e i h v =
     let f = held-num w a s l in
     record { value = rw (e, f) v; next = rw (e, f) (ap At (let d = length-drop (a + w) s in omega arith)) }
 
--- what is known of a number that was read at p of s, and behind which the place is e
+-- what is known of a number that was read at p of s, and after which the place is e
 pub record Held (w : ℕ) (s : List ℕ) (p : Place) (x e : ℕ) : Type 0 where
   pub at : ℕ
   pub place : p ≡ At at
@@ -201,7 +201,7 @@ put-then {bs} {cs} {o} {o1} {o2} {a} {p} {q} {r} f g e h =
 drop-over : (o : List ℕ) (a : ℕ) (bs : List ℕ) → a + length bs ≤ length o → drop a (over o a bs) ≡ bs ++ drop (a + length bs) o
 drop-over o a bs h = rw append-assoc (drop-at (take a o) (bs ++ drop (a + length bs) o) a (length-take-le a o (omega arith)))
 
--- whatever reader takes exactly bs reads it back where it was put, and leaves what stood behind
+-- whatever reader takes exactly bs reads it back where it was put, and leaves what stood after
 pub put-read : {A : Type 0} {d : List ℕ → Result A} {bs : List ℕ} {v : A} → Reads d bs v → (o : List ℕ) (a : ℕ) → a + length bs ≤ length o
     → d (drop a (over o a bs)) ≡ ok v (drop (a + length bs) o)
 put-read {bs = bs} R o a h = rw (drop-over o a bs h) (R .back (drop (a + length bs) o))

@@ -42,7 +42,7 @@ numAt w s p = numberIn (readAt (readNum w) s p)
 unfoldable pub pastNum : ℕ → List ℕ → Place → Place
 pastNum w s p = restAt (length s) (readAt (readNum w) s p)
 
--- what the reader of a number of w bytes answers at p of s: the number, and the place behind it
+-- what the reader of a number of w bytes answers at p of s: the number, and the place after it
 pub record NumRead (w : ℕ) (s : List ℕ) (p : Place) (x : ℕ) (q : Place) : Type 0 where
   pub value : x ≡ numAt w s p
   pub next : q ≡ pastNum w s p
@@ -58,7 +58,7 @@ unfoldable pub putAt : List ℕ → List ℕ → Place → List ℕ
 putAt bs o (At a) = cond (leb (a + length bs) (length o)) (over o a bs) o
 putAt bs o (Refused k) = o
 
--- the place behind them; 11 where there is no room. A refused place stays refused
+-- the place after them; 11 where there is no room. A refused place stays refused
 unfoldable pub pastPut : List ℕ → List ℕ → Place → Place
 pastPut bs o (At a) = cond (leb (a + length bs) (length o)) (At (a + length bs)) (Refused R.NoRoom)
 pastPut bs o (Refused k) = Refused k

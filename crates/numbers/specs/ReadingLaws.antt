@@ -32,7 +32,7 @@ cond-inv false m n e = absurd (let z : _≡_ {A = ℕ} 0 1 = cc in omega arith)
 
 -- ---- reading after writing, and a cut
 
--- The reader d takes exactly x, as a, whatever stands behind it; and x cut short is refused as short.
+-- The reader d takes exactly x, as a, whatever stands after it; and x cut short is refused as short.
 pub record Reads {A : Type 0} (d : List ℕ → Result A) (x : List ℕ) (a : A) : Type 0 where
   pub back : (r : List ℕ) → d (x ++ r) ≡ ok a r
   pub cut : (j : ℕ) → j < length x → d (take j x) ≡ bad Short

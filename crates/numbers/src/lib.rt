@@ -71,7 +71,7 @@ pub fn within(at: usize, n: usize, len: usize) -> bool
     true
 }
 
-// A number that was read, 0 if it was refused, and the place behind it.
+// A number that was read, 0 if it was refused, and the place after it.
 pub struct Read8 {
     pub value: u8,
     pub next: Place,
@@ -98,7 +98,7 @@ fn wide(x: u8) -> u64
     x as u64
 }
 
-// The number that the `width` bytes at `at` hold: the one loop behind every width.
+// The number that the `width` bytes at `at` hold: the one loop after every width.
 fn le_at(s: &[u8], at: usize, width: usize) -> u64
     requires { ⌜ (width ≤ 8) × (at + width ≤ length (now s)) ⌝ }
     ensures { λ r. ⌜ r ≡ fromLE (take width (drop at (now (s .entry)))) ⌝ }
@@ -166,7 +166,7 @@ pub fn read_u64(s: &[u8], p: Place) -> Read64
     read_num(s, p, 8)
 }
 
-// The `width` bytes of `x`, the lowest first, over those from `at` on: the one loop behind every width.
+// The `width` bytes of `x`, the lowest first, over those from `at` on: the one loop after every width.
 fn put_le(out: &mut [u8], at: usize, x: u64, width: usize)
     requires { ⌜ at + width ≤ length (now out) ⌝ }
     ensures { λ r. ⌜ now (out .exit) ≡ over (now (out .entry)) at (toLE width x) ⌝ }

@@ -155,7 +155,7 @@ pub local-reply : (s t : List ℕ) (r r' : ReadRframe) → take 4 s ≡ take 4 t
     → viewRframe r' ≡ refusedWhole (readFrame tableR t) → r ≡ r'
 local-reply s t r r' e f a b = one-rframe r r' (a ∙ ap refusedWhole (local tableR s t e f) ∙ sym b)
 
--- ---- 6. the accident: a Twrite with a copy of itself behind its last field, inside its size, is listed as one Twrite, and the copy is its tail
+-- ---- 6. the accident: a Twrite with a copy of itself after its last field, inside its size, is listed as one Twrite, and the copy is its tail
 
 pub accident-of-the-leap-second : (f : List ℕ) {used : ℕ} {vs : List Value} {L : Listing} → Bytes f → Whole f → length f + length f < 256 ^ 4 → answerOf tableT tableR f ≡ accepted 118 vs used → Asks (repeated f) 0 L
     → L ≡ entry 0 (length f + length f) (typeIn f) (tagIn f) (accepted 118 vs used) (length f - used + length f) (ends (length f + length f))

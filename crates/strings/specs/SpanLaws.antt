@@ -113,7 +113,7 @@ pub start-bad : (w : ℕ) (p : Place) (k : Refusal) → startIn w p (bad k) ≡ 
 start-bad w (At a) k = refl
 start-bad w (Refused j) k = refl
 
--- behind a count that is held: the bytes, or not enough of them
+-- after a count that is held: the bytes, or not enough of them
 pub string-held : {s : List ℕ} {p : Place} {n e : ℕ} → Held 2 s p n e → e + n ≤ length s → readAt readString s p ≡ okText (take n (drop e s)) (drop (e + n) s)
 unfolding raw
 string-held {s} {p} {n} {e} h l =

@@ -49,7 +49,7 @@ pub record StrCheck (lent : List ℕ) (x y : ℕ) (p q : Place) : Type 0 where
 
 -- ---- reading at a place
 
--- where the bytes of an accepted field stand: behind its count of w bytes
+-- where the bytes of an accepted field stand: after its count of w bytes
 abbrev pub startIn : ℕ → Place → Result (List ℕ) → ℕ
 startIn w (At a) (ok bs r) = a + w
 startIn w (At a) (bad k) = 0
@@ -64,7 +64,7 @@ strLen s p = length (bytesIn (readAt readString s p))
 unfoldable pub pastStr : List ℕ → Place → Place
 pastStr s p = restAt (length s) (readAt readString s p)
 
--- what the reader of a string answers at p of s: where its bytes start, how many they are, and the place behind it
+-- what the reader of a string answers at p of s: where its bytes start, how many they are, and the place after it
 pub record StrRead (s : List ℕ) (p : Place) (x y : ℕ) (q : Place) : Type 0 where
   pub start : x ≡ strStart s p
   pub len : y ≡ strLen s p

@@ -14,7 +14,7 @@ pub struct Span {
     pub len: usize,
 }
 
-// The span of what was read, 0 and 0 if it was refused, and the place behind it.
+// The span of what was read, 0 and 0 if it was refused, and the place after it.
 pub struct ReadSpan {
     pub value: Span,
     pub next: Place,

@@ -24,7 +24,7 @@ use Rattle.framing.specs.WritingLaws.{head-length, put-fits, past-fits, put-ove
 use Rattle.tables.specs.Tables.{qidItems, RwalkWritten}
 use Rattle.tables.specs.Qids.{noQid, qidBytes, putQid, placed, toFollow, headed, answerOf}
 
--- ---- the qids, one behind the other
+-- ---- the qids, one after the other
 
 abbrev pub qidsBytes : List Qid → List ℕ
 qidsBytes t = itemsBytes (qidItems t)
@@ -58,7 +58,7 @@ qids-next (x ∷ t) (suc k) h =
     qids-cons x (take (suc k) t) ∙ ap (λ (z : List ℕ). qidBytes x ++ z) (qids-next t k (omega arith))
     ∙ sym (append-assoc (qidBytes x) (qidsBytes (take k t)) (qidBytes (getD t k noQid))) ∙ ap (λ (z : List ℕ). z ++ qidBytes (getD t k noQid)) (sym (qids-cons x (take k t)))
 
--- what is laid right behind what was laid
+-- what is laid right after what was laid
 over-on : (o : List ℕ) (a b : ℕ) (bs cs : List ℕ) → b ≡ a + length bs → a + length (bs ++ cs) ≤ length o → over (over o a bs) b cs ≡ over o a (bs ++ cs)
 over-on o a b bs cs e h =
     let l = length-append bs cs in

@@ -26,7 +26,7 @@ use Rattle.tables.specs.Tables.{TableWritten, nameFields, nameValues, wa
 
 -- ---- the names, one after another
 
--- names are laid up to the i-th: whatever lays those behind it has laid them all
+-- names are laid up to the i-th: whatever lays those after it has laid them all
 pub record Upto (t : List (List ℕ)) (lent : List ℕ) (ps : Bool) (o : List ℕ) (p : Place) (i : ℕ) (o1 : List ℕ) (q : Place) : Type 0 where
   pub on : (o2 : List ℕ) (e : Place) → Laid (nameFields (drop i t)) lent (nameValues (drop i t)) ps o1 q o2 e → Laid (nameFields t) lent (nameValues t) ps o p o2 e
 

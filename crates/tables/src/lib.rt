@@ -82,7 +82,7 @@ fn put_qid(out: &mut [u8], at: usize, i: usize, q: Qid)
     numbers::put_u64(out, path, q.path);
 }
 
-// The first `count` qids of a table, one behind the other from `at` on.
+// The first `count` qids of a table, one after the other from `at` on.
 fn put_qids(out: &mut [u8], at: usize, qids: &[Qid], count: usize)
     requires { ⌜ (0 < count → at + 13 * count ≤ length (now out)) × (count ≤ length (now qids)) ⌝ }
     ensures { λ _. ⌜ now (out .exit) ≡ placed (now (out .entry)) at (now (qids .entry)) count ⌝ }

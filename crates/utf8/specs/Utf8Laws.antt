@@ -23,7 +23,7 @@ pub record FitsAt (rs : List Range) (s : List ℕ) (at : ℕ) (r : Bool) : Type 
 pub record Rest (rs : List Range) (s : List ℕ) (i k : ℕ) : Type 0 where
   pub is : k ≡ cond (fits rs (drop (i + 1) s)) (suc (length rs)) 0
 
--- the second octets that the rows of four allow behind their first one
+-- the second octets that the rows of four allow after their first one
 abbrev pub leastSecond : ℕ → ℕ
 leastSecond b = cond (eqb b 240) 144 128
 

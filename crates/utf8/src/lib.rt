@@ -21,7 +21,7 @@ fn octet(s: &[u8], at: usize, low: u8, high: u8) -> bool
     b <= high
 }
 
-// The rest of a row of two, three and four octets, behind its first at `i`: the row's length if the bytes fit it, else 0.
+// The rest of a row of two, three and four octets, after its first at `i`: the row's length if the bytes fit it, else 0.
 fn two(s: &[u8], i: usize) -> usize
     requires { ⌜ i < length (now s) ⌝ }
     ensures { λ r. ⌜ Rest (tail ∷ []) (now (s .entry)) i r ⌝ }
@@ -58,7 +58,7 @@ fn four(s: &[u8], i: usize, low: u8, high: u8) -> usize
     0
 }
 
-// The least and the greatest second octet behind a first one of the rows of four octets.
+// The least and the greatest second octet after a first one of the rows of four octets.
 fn least_second(b: u8) -> u8
     ensures { λ r. ⌜ r ≡ leastSecond b ⌝ }
 {

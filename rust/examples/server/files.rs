@@ -181,7 +181,7 @@ fn qid(data: &Metadata) -> Qid {
     }
 }
 
-/// The entries of a directory. An entry's offset is the number of the one behind it.
+/// The entries of a directory. An entry's offset is the number of the one after it.
 pub struct Listing(Vec<Entry>);
 
 struct Entry {

@@ -19,7 +19,7 @@ pub fn serve(mut from: impl Read, mut to: impl Write, directory: &Path) -> io::R
         let Next::Frame(frame) = next_frame(&mut from, room)? else {
             return Ok(());
         };
-        // Bytes behind the last field are a tail: they are left alone, and never a second request.
+        // Bytes after the last field are a tail: they are left alone, and never a second request.
         let Tframe { tag, msg } = Tframe::decode(frame)?.frame;
         let answer = match msg {
             Ok(msg) => session.answer(msg, &mut data),

@@ -9,7 +9,7 @@ use sheafsledge::{Refusal, Tframe};
 /// The msize that the session begins with.
 const ROOM: usize = 8192;
 
-/// The bytes behind the last field of a frame, and the frame's tag.
+/// The bytes after the last field of a frame, and the frame's tag.
 #[derive(Clone, Debug, PartialEq, Eq)]
 pub struct Tail {
     pub tag: u16,

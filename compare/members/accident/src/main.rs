@@ -89,7 +89,7 @@ fn show() -> io::Result<bool> {
         bytes: TWRITE.to_vec(),
     };
 
-    println!("one frame of 48 bytes, a Twrite with its copy behind the last field:");
+    println!("one frame of 48 bytes, a Twrite with its copy after the last field:");
     let (alone, ours) = (seller_alone(&copied)?, with_our_frames(&copied)?);
     let mut good = tell("seller alone:", alone, run(2, &copied, &[]));
     good &= tell("with our frames:", ours, run(1, &once, &[copy]));

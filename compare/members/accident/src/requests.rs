@@ -19,7 +19,7 @@ const TATTACH: &[u8] = b"\x17\0\0\0\x68\x01\0\x01\0\0\0\xff\xff\xff\xff\0\0\0\0\
 /// Tag 2: from fid 1 to a new fid 2, by one name.
 const TWALK: &[u8] = b"\x16\0\0\0\x6e\x02\0\x01\0\0\0\x02\0\0\0\x01\0\x03\0log";
 
-/// Tag 3: fid 2, to write (1) and to append (0x400): each write then lands behind what is there.
+/// Tag 3: fid 2, to write (1) and to append (0x400): each write then lands after what is there.
 const TLOPEN: &[u8] = b"\x0f\0\0\0\x0c\x03\0\x02\0\0\0\x01\x04\0\0";
 
 /// Tag 9: one byte, `x`, to fid 2 at 0.

@@ -59,7 +59,7 @@ fn theirs(bytes: &[u8]) -> bool {
     std::str::from_utf8(bytes).is_ok()
 }
 
-/// Drawn words as far as they go in, and plain letters behind them.
+/// Drawn words as far as they go in, and plain letters after them.
 fn text(words: &[&str]) -> Vec<u8> {
     let draws = &mut Draws::new(1);
     let mut text = Vec::new();

@@ -127,7 +127,7 @@ impl List {
         }
     }
 
-    /// A tail inside the size and behind it, a size above the bytes held, and the sizes 0 to 8.
+    /// A tail inside the size and after it, a size above the bytes held, and the sizes 0 to 8.
     fn sizes(&mut self, direction: Direction) {
         for place in 0..types(direction) {
             let frame = self.short(direction, place);
@@ -194,7 +194,7 @@ impl List {
         }
     }
 
-    /// Data counts around the reading limit, with no data behind them.
+    /// Data counts around the reading limit, with no data after them.
     fn limits(&mut self) {
         for count in [1, 33_554_432, 33_554_433, u32::MAX] {
             let count = count.to_le_bytes();

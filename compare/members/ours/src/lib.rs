@@ -8,7 +8,7 @@ use judge::Direction;
 
 pub use boundary::{FlatDirent, FlatQid, FlatR, FlatSpan, FlatStep, FlatT, Qid, Wrote};
 
-/// An answer of either direction. A request has 10 values and a reply 22; what is behind them is 0.
+/// An answer of either direction. A request has 10 values and a reply 22; what is after them is 0.
 #[derive(Clone, Debug, Default, PartialEq, Eq)]
 pub struct Flat {
     pub refusal: u8,

@@ -174,7 +174,7 @@ fn write_anew(direction: Direction, bytes: &[u8], record: &[Value], draws: &mut 
     })
 }
 
-/// What comes to be written behind so many bytes of an output, beside what the seller wrote: into
+/// What comes to be written after so many bytes of an output, beside what the seller wrote: into
 /// outputs that are too short, by a byte and by more, into one that is just long enough, and into
 /// one with bytes to spare.
 pub fn in_rooms(
@@ -211,7 +211,7 @@ fn put_beside(theirs: Written, write: impl Fn(&mut [u8]) -> Wrote) -> Outcome {
     beside(Written { wrote, out }, theirs)
 }
 
-/// An output with so many bytes before and behind what was written.
+/// An output with so many bytes before and after what was written.
 fn front(before: usize, bytes: &[u8], spare: usize) -> Written {
     let len = before + bytes.len();
     Written {

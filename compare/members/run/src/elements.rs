@@ -29,7 +29,7 @@ pub fn elements(direction: Direction, frame: &[u8]) -> Outcome {
 }
 
 /// Where each element is, by the widths of those before it and of its count: the part is the end of
-/// the frame. Behind the last one it is 15, outside of the bytes 9, in a part that is cut 14.
+/// the frame. After the last one it is 15, outside of the bytes 9, in a part that is cut 14.
 fn found(frame: &[u8], find: Find, widths: &[usize], before: usize) -> Outcome {
     let (len, count) = (widths.iter().sum(), widths.len());
     let part = Part {
@@ -80,7 +80,7 @@ fn read(frame: &[u8], qids: &[Qid]) -> Outcome {
         refusal: 1,
         ..FlatQid::default()
     };
-    // Too near the end, at it, and behind it.
+    // Too near the end, at it, and after it.
     let ends = [frame.len().saturating_sub(12), frame.len(), usize::MAX];
     let cut = ends.map(|at| (ours::read_qid(frame, at), short));
     let all = qids.iter().enumerate().map(|(i, qid)| {

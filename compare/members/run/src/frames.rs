@@ -60,7 +60,7 @@ pub fn bordered(direction: Direction, frame: &[u8]) -> Vec<Vec<u8>> {
         .collect()
 }
 
-/// A tail inside the size, behind it, or across its end.
+/// A tail inside the size, after it, or across its end.
 pub fn tailed(mut frame: Vec<u8>, draws: &mut Draws) -> Vec<u8> {
     let (len, count) = (frame.len(), 1 + draws.below(40));
     let tail = draws.bytes(count);
@@ -69,7 +69,7 @@ pub fn tailed(mut frame: Vec<u8>, draws: &mut Draws) -> Vec<u8> {
     sized(frame, (len + inside) as u32)
 }
 
-/// Each unknown number of both directions in turn, with bytes behind it.
+/// Each unknown number of both directions in turn, with bytes after it.
 pub fn of_no_type(turn: usize, draws: &mut Draws) -> (Direction, Vec<u8>) {
     let direction = DIRECTIONS[turn % 2];
     let all = unknown(direction);

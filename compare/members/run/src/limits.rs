@@ -93,7 +93,7 @@ fn data(count: usize) -> Data {
     Data(vec![3; count])
 }
 
-/// A data count at the limit and one more, with no data behind it.
+/// A data count at the limit and one more, with no data after it.
 fn counted(draws: &mut Draws) -> Vec<Framed> {
     let data = data(0);
     let (direction, frame) = match draws.below(3) {

@@ -42,7 +42,7 @@ pub fn entries(turn: usize, draws: &mut Draws) -> Vec<Asked> {
             .map(|end| asked(before, all[..end].to_vec()))
             .collect(),
         _ => {
-            // Any place, the end and behind it too.
+            // Any place, the end and after it too.
             let at = draws.below(all.len() + 3);
             vec![asked(at, all)]
         }
@@ -79,7 +79,7 @@ pub fn joined(draws: &mut Draws) -> Vec<u8> {
         let len = frame.len() as u32;
         all.extend(match draws.below(8) {
             0 => damaged(frame, draws),
-            // In its place, but of any bytes behind the size.
+            // In its place, but of any bytes after the size.
             1 => sized(damaged(frame, draws), len),
             2 => tailed(frame, draws),
             3 => of_no_type(draws.below(9999), draws).1,
@@ -114,7 +114,7 @@ const LEADS: [(u8, usize); 16] = [
 ];
 const TRAILS: [u8; 8] = [0x7f, 0x80, 0x8f, 0x90, 0x9f, 0xa0, 0xbf, 0xc0];
 
-/// Characters of every row, damaged or not, with such bytes behind them; or bytes of any kind.
+/// Characters of every row, damaged or not, with such bytes after them; or bytes of any kind.
 pub fn text(draws: &mut Draws) -> Vec<u8> {
     let count = draws.below(40);
     let mut text = P9String::draw(draws).as_bytes().to_vec();

@@ -53,7 +53,7 @@ fn vector<T: WireFormat>(all: &[T]) -> Piece<'static> {
     }
 }
 
-/// Where each piece starts in a frame: a span at its bytes, behind their count.
+/// Where each piece starts in a frame: a span at its bytes, after their count.
 pub fn in_a_frame(pieces: &[Piece]) -> Vec<usize> {
     let mut end = 7;
     let mut start = |before: usize, count: usize| {

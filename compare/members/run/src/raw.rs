@@ -35,7 +35,7 @@ pub fn raw(direction: Direction, bytes: &[u8]) -> Outcome {
 }
 
 /// A header, then the values: below 250 a byte is the value itself, above it says how wide the value
-/// behind it is, and 255 ends them. What is left is lent.
+/// after it is, and 255 ends them. What is left is lent.
 fn taken(bytes: &[u8]) -> Raw<'_> {
     let mut rest = bytes;
     let mut number = |width: usize| {
