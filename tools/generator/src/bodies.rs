@@ -6,7 +6,8 @@ use crate::Files;
 use std::collections::BTreeSet;
 
 pub fn write(table: &Table, files: &mut Files) {
-    for (direction, krate) in [(Direction::T, "requests"), (Direction::R, "replies")] {
+    for direction in [Direction::T, Direction::R] {
+        let krate = direction.enums();
         let (small, rows, cases) = (
             direction.small(),
             table.by_number(direction),
@@ -61,42 +62,53 @@ fn pattern(m: &Message) -> String {
 }
 
 fn source(direction: Direction, krate: &str, rows: &[&Message], cases: &[&Message]) -> String {
-    let (d, small) = (direction.letter(), direction.small());
-    let mut lines: BTreeSet<String> = rows
-        .iter()
-        .filter(|m| !m.is_empty())
-        .map(|m| format!("use {}::{};", m.module(), m.record()))
+    enums(direction, krate, rows, cases)
+        + &read(direction, rows)
+        + &type_of(direction, cases)
+        + &write_body(direction, cases)
+}
+
+fn enums(direction: Direction, krate: &str, rows: &[&Message], cases: &[&Message]) -> String {
+    let (d, count) = (direction.letter(), rows.len());
+    let records = rows.iter().filter(|m| !m.is_empty());
+    let mut uses: BTreeSet<String> = records
+        .map(|m| format!("use {}::{};\n", m.module(), m.record()))
         .collect();
-    lines.extend([
-        "use numbers::Place;".to_string(),
-        "use numbers::Refusal;".to_string(),
+    uses.extend([
+        "use numbers::Place;\n".to_string(),
+        "use numbers::Refusal;\n".to_string(),
     ]);
-    let mut text = format!("// The {} {krate} in one enum: a body read by its type number, and written by its case.\n\n", rows.len());
-    for line in lines {
-        text += &format!("{line}\n");
-    }
-    text += &format!(
-        "ghost use mathlib.Core.Path.{{_≡_}};
+    let uses: String = uses.into_iter().collect();
+    let holds: String = cases
+        .iter()
+        .map(|m| format!("    {},\n", holding(m, &m.record())))
+        .collect();
+    format!(
+        "// The {count} {krate} in one enum: a body read by its type number, and written by its case.
+
+{uses}ghost use mathlib.Core.Path.{{_≡_}};
 ghost use Rattle.laying.specs.Laying.{{Written}};
 ghost use Rattle.layouts.specs.Tables.{{table{d}, layout{d}}};
 ghost use Rattle.layouts.specs.Bodies.{{readBody, finishAt}};
 ghost use Rattle.{krate}.specs.Views.{{type{d}, values{d}, view{d}}};
 
 pub enum {d}message {{
-"
-    );
-    for m in cases {
-        text += &format!("    {},\n", holding(m, &m.record()));
-    }
-    text += &format!(
-        "}}
+{holds}}}
 
 // A body that was read: the message and the position after its fields; or why it is refused.
 pub enum {d}body {{
     Message({d}message, usize),
     Refused(Refusal),
 }}
+"
+    )
+}
 
+fn read(direction: Direction, rows: &[&Message]) -> String {
+    let (d, small) = (direction.letter(), direction.small());
+    let arms: String = rows.iter().map(|m| read_arm(m, d)).collect();
+    format!(
+        "
 fn finish(m: {d}message, end: Place) -> {d}body
     ensures {{ λ r. ⌜ view{d} r ≡ finishAt (type{d} m) (values{d} m) end ⌝ }}
 {{
@@ -111,52 +123,58 @@ pub fn read_{small}message(s: &[u8], ty: u8, p: Place) -> {d}body
     ensures {{ λ r. ⌜ view{d} r ≡ readBody table{d} ty (now (s .entry)) p ⌝ }}
 {{
     match ty {{
-"
-    );
-    for m in rows {
-        text += &read_arm(m, d);
-    }
-    text += &format!(
-        "        _ => {d}body::Refused(Refusal::UnknownType),
+{arms}        _ => {d}body::Refused(Refusal::UnknownType),
     }}
 }}
+"
+    )
+}
 
+fn type_of(direction: Direction, cases: &[&Message]) -> String {
+    let d = direction.letter();
+    let arms: String = cases
+        .iter()
+        .map(|m| format!("        {d}message::{} => {},\n", holding(m, "_"), m.number))
+        .collect();
+    format!(
+        "
 // The number of a message's type.
 pub fn type_of(m: {d}message) -> u8
     ensures {{ λ r. ⌜ r ≡ type{d} m ⌝ }}
 {{
     match m {{
-"
-    );
-    for m in cases {
-        text += &format!("        {d}message::{} => {},\n", holding(m, "_"), m.number);
-    }
-    text += &format!(
-        "    }}
+{arms}    }}
 }}
+"
+    )
+}
 
+fn write_body(direction: Direction, cases: &[&Message]) -> String {
+    let (d, small) = (direction.letter(), direction.small());
+    let arm = |m: &&Message| match m.is_empty() {
+        true => format!(
+            "        {d}message::{} => laying::begun(p, p, out.len()),\n",
+            m.case
+        ),
+        false => format!(
+            "        {d}message::{}(x) => {}::write_{}(out, p, lent, x),\n",
+            m.case,
+            m.module(),
+            m.small()
+        ),
+    };
+    let arms: String = cases.iter().map(arm).collect();
+    format!(
+        "
 // A body written at a place: its fields' refusals in order, then 10, then 11; a refusal leaves the output as it was.
 pub fn write_{small}message(out: &mut [u8], p: Place, lent: &[u8], m: {d}message) -> Place
     ensures {{ λ r. ⌜ Written (layout{d} (type{d} m)) (now (lent .entry)) (values{d} m) (now (out .entry)) p (now (out .exit)) r ⌝ }}
 {{
     match m {{
+{arms}    }}
+}}
 "
-    );
-    for m in cases {
-        text += &match m.is_empty() {
-            true => format!(
-                "        {d}message::{} => laying::begun(p, p, out.len()),\n",
-                m.case
-            ),
-            false => format!(
-                "        {d}message::{}(x) => {}::write_{}(out, p, lent, x),\n",
-                m.case,
-                m.module(),
-                m.small()
-            ),
-        };
-    }
-    text + "    }\n}\n"
+    )
 }
 
 fn read_arm(m: &Message, d: char) -> String {

@@ -212,32 +212,42 @@ fn put_together(m: &Message) -> String {
 // ---- bodies
 
 fn bodies(table: &Table, direction: Direction, rows: &[&Message]) -> String {
-    let (d, small, room) = (direction.letter(), direction.small(), direction.room());
-    let (many, enums) = match direction {
-        Direction::T => (format!("{} requests", rows.len()), "requests"),
-        Direction::R => (format!("{} replies", rows.len()), "replies"),
-    };
     let has_empty = rows.iter().any(|m| m.is_empty());
+    let mut text = bodies_head(table, direction, rows.len(), has_empty);
+    if has_empty {
+        text += &no_values(direction.room());
+    }
+    text + &read_flat(direction, rows, has_empty) + &write_flat(direction, rows)
+}
+
+fn bodies_head(table: &Table, direction: Direction, count: usize, has_empty: bool) -> String {
+    let (d, many) = (direction.letter(), direction.enums());
     let mut families = table.families(|_| true);
     families.sort();
-    let mut text =
-        format!("// The {many}, read flat and written from flat values, by their type number.\n\n");
-    for family in families {
-        text += &format!("use flat::{family};\n");
-    }
-    text += "use numbers::Place;\nuse numbers::Refusal;\nghost use mathlib.Core.Path.{_≡_};\n";
-    if has_empty {
-        text += "ghost use mathlib.Core.List.{[]};\n";
-    }
-    text += "ghost use Rattle.numbers.specs.declared.Place.the-variants.{At};\n";
-    text += &format!("ghost use Rattle.layouts.specs.Tables.{{lookup, table{d}}};\n");
-    match has_empty {
-        true => text += "ghost use Rattle.flat.specs.Flat.{flat, FlatRead, FlatWritten};\n",
-        false => text += "ghost use Rattle.flat.specs.Flat.{FlatRead, FlatWritten};\n",
-    }
-    if has_empty {
-        text += &format!(
-            "
+    let families: String = families
+        .iter()
+        .map(|family| format!("use flat::{family};\n"))
+        .collect();
+    let (list, flat) = match has_empty {
+        true => ("ghost use mathlib.Core.List.{[]};\n", "flat, "),
+        false => ("", ""),
+    };
+    format!(
+        "// The {count} {many}, read flat and written from flat values, by their type number.
+
+{families}use numbers::Place;
+use numbers::Refusal;
+ghost use mathlib.Core.Path.{{_≡_}};
+{list}ghost use Rattle.numbers.specs.declared.Place.the-variants.{{At}};
+ghost use Rattle.layouts.specs.Tables.{{lookup, table{d}}};
+ghost use Rattle.flat.specs.Flat.{{{flat}FlatRead, FlatWritten}};
+"
+    )
+}
+
+fn no_values(room: usize) -> String {
+    format!(
+        "
 // The values of a body that has none.
 fn no_values(next: Place, values: &mut [u64; {room}]) -> Place
     ensures {{ λ r. ⌜ r ≡ next ⌝ }}
@@ -247,9 +257,24 @@ fn no_values(next: Place, values: &mut [u64; {room}]) -> Place
     next
 }}
 "
-        );
-    }
-    text += &format!(
+    )
+}
+
+fn read_flat(direction: Direction, rows: &[&Message], has_empty: bool) -> String {
+    let (d, small, room, enums) = (
+        direction.letter(),
+        direction.small(),
+        direction.room(),
+        direction.enums(),
+    );
+    let arms: String = rows.iter().map(|m| read_arm(m)).collect();
+    let rest = match has_empty {
+        true => "no_values(Place::Refused(Refusal::UnknownType), values),".to_string(),
+        false => format!(
+            "{{\n            *values = [0u64; {room}];\n            Place::Refused(Refusal::UnknownType)\n        }}"
+        ),
+    };
+    format!(
         "
 // A frame's body read flat: its values, 0 from a refused field on, go to where the caller has room for them; the place after its
 // fields is answered, or the refusal. The type decides the body, as in `{enums}::read_{small}message`; but its record goes flat at once, and
@@ -259,20 +284,17 @@ pub fn read_flat(s: &[u8], ty: u8, values: &mut [u64; {room}]) -> Place
 {{
     let p = Place::At(7);
     match ty {{
+{arms}        _ => {rest}
+    }}
+}}
 "
-    );
-    for m in rows {
-        text += &read_arm(m);
-    }
-    match has_empty {
-        true => text += "        _ => no_values(Place::Refused(Refusal::UnknownType), values),\n    }\n}\n",
-        false => {
-            text += &format!(
-                "        _ => {{\n            *values = [0u64; {room}];\n            Place::Refused(Refusal::UnknownType)\n        }}\n    }}\n}}\n"
-            )
-        }
-    }
-    text += &format!(
+    )
+}
+
+fn write_flat(direction: Direction, rows: &[&Message]) -> String {
+    let (d, room) = (direction.letter(), direction.room());
+    let arms: String = rows.iter().map(|m| write_arm(m)).collect();
+    format!(
         "
 // A body written at a place from the values of its record, which lie flat: its fields' refusals in order, then 10, then 11; 3 where the
 // type is not known. A refusal leaves the output as it was.
@@ -281,20 +303,21 @@ pub fn write_flat(out: &mut [u8], p: Place, lent: &[u8], ty: u8, values: &[u64; 
 {{
     let v = *values;
     match ty {{
+{arms}        _ => Place::Refused(Refusal::UnknownType),
+    }}
+}}
 "
-    );
-    for m in rows {
-        let (n, small) = (m.number, m.small());
-        text += &match m.is_empty() {
-            true => format!("        {n} => laying::begun(p, p, out.len()),\n"),
-            false => format!(
-                "        {n} => {}::write_{small}(out, p, lent, {}::{small}_of(v)),\n",
-                m.module(),
-                m.family
-            ),
-        };
+    )
+}
+
+fn write_arm(m: &Message) -> String {
+    let (n, small, module, family) = (m.number, m.small(), m.module(), &m.family);
+    match m.is_empty() {
+        true => format!("        {n} => laying::begun(p, p, out.len()),\n"),
+        false => format!(
+            "        {n} => {module}::write_{small}(out, p, lent, {family}::{small}_of(v)),\n"
+        ),
     }
-    text + "        _ => Place::Refused(Refusal::UnknownType),\n    }\n}\n"
 }
 
 fn read_arm(m: &Message) -> String {

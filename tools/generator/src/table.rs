@@ -107,6 +107,14 @@ impl Direction {
         self.letter().to_ascii_lowercase()
     }
 
+    /// The crate of its enum, which is also what its messages are called.
+    pub fn enums(self) -> &'static str {
+        match self {
+            Direction::T => "requests",
+            Direction::R => "replies",
+        }
+    }
+
     /// How many values any body of the direction has.
     pub fn room(self) -> usize {
         match self {
