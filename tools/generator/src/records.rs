@@ -119,32 +119,25 @@ fn structs(m: &Message) -> String {
     )
 }
 
-/// The function that reads a field, and its name in a proof.
-fn reads(kind: Kind) -> (String, String) {
+/// What the functions of a kind are called after: `read_u32`, `lay_u32`.
+fn called(kind: Kind) -> String {
     match kind {
-        Kind::Qid => ("qids::read_qid".into(), "read-qid".into()),
-        Kind::Str => ("strings::read_str".into(), "read-str".into()),
-        Kind::Data => ("fields::read_data".into(), "read-data".into()),
-        Kind::Names => ("fields::read_names".into(), "read-names".into()),
-        Kind::Qids => ("fields::read_qids".into(), "read-qids".into()),
-        _ => {
-            let bits = kind.width().unwrap_or(0) * 8;
-            (format!("numbers::read_u{bits}"), format!("read-u{bits}"))
-        }
+        Kind::Qid => "qid".to_string(),
+        Kind::Str => "str".to_string(),
+        Kind::Data => "data".to_string(),
+        Kind::Names => "names".to_string(),
+        Kind::Qids => "qids".to_string(),
+        _ => format!("u{}", kind.width().unwrap_or(0) * 8),
     }
 }
 
-fn lays(kind: Kind) -> (String, String) {
+/// The crate or module that has the reader of a kind.
+fn readers(kind: Kind) -> &'static str {
     match kind {
-        Kind::Qid => ("qids::lay_qid".into(), "lay-qid".into()),
-        Kind::Str => ("laying::lay_str".into(), "lay-str".into()),
-        Kind::Data => ("laying::lay_data".into(), "lay-data".into()),
-        Kind::Names => ("laying::lay_names".into(), "lay-names".into()),
-        Kind::Qids => ("laying::lay_qids".into(), "lay-qids".into()),
-        _ => {
-            let bits = kind.width().unwrap_or(0) * 8;
-            (format!("laying::lay_u{bits}"), format!("lay-u{bits}"))
-        }
+        Kind::Qid => "qids",
+        Kind::Str => "strings",
+        Kind::Data | Kind::Names | Kind::Qids => "fields",
+        _ => "numbers",
     }
 }
 
@@ -164,7 +157,7 @@ fn reader(m: &Message) -> String {
         let n = i + 1;
         text += &format!(
             "    let r{n} = {}(s, {before});\n    let p{n} = r{n}.next;\n",
-            reads(f.kind).0
+            format_args!("{}::read_{}", readers(f.kind), called(f.kind))
         );
         match is_plain(f) {
             true => values.push(format!("{}: r{n}.value", f.name)),
@@ -202,7 +195,15 @@ fn layer(m: &Message) -> String {
             kind if kind.is_wrapped() => format!("{name}.0"),
             _ => format!("lent, {name}"),
         };
-        let call = format!("{}(out, {before}, {value}, put)", lays(f.kind).0);
+        let owner = if f.kind == Kind::Qid {
+            "qids"
+        } else {
+            "laying"
+        };
+        let call = format!(
+            "{owner}::lay_{}(out, {before}, {value}, put)",
+            called(f.kind)
+        );
         match n == m.fields.len() {
             true => text += &format!("    {call}\n}}\n"),
             false => text += &format!("    let p{n} = {call};\n"),
@@ -316,7 +317,10 @@ fn read_proof(m: &Message) -> String {
     let mut calls = Occurrences::default();
     let parts: Vec<String> = (m.fields.iter().zip(&at))
         .map(|(f, c)| {
-            let call = format!("{c} .{} .ensures", calls.next(&reads(f.kind).1));
+            let call = format!(
+                "{c} .{} .ensures",
+                calls.next(&format!("read-{}", called(f.kind)))
+            );
             match f.kind {
                 Kind::Qid => format!("qid-fields ({call})"),
                 Kind::Str => format!("field (string-field ({call}))"),
@@ -397,7 +401,12 @@ fn lay_proof(m: &Message) -> String {
     let (lets, names) = places(m, |_| 2, |_, next| 4 + usize::from(!is_plain(next)));
     let mut calls = Occurrences::default();
     let facts: Vec<String> = (m.fields.iter().zip(&names))
-        .map(|(f, c)| format!("({c} .{} .ensures)", calls.next(&lays(f.kind).1)))
+        .map(|(f, c)| {
+            format!(
+                "({c} .{} .ensures)",
+                calls.next(&format!("lay-{}", called(f.kind)))
+            )
+        })
         .collect();
     let many = m.fields.len() >= MANY;
     let mut text = if many { plain_law(m) } else { String::new() };
