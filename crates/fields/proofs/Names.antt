@@ -84,9 +84,16 @@ plain-run t i (suc n) r s =
     rw e at (plain-byte t (i + n) (omega arith) (sym (r .plain .each (i + n) (omega arith) (omega arith))) refl q)
 
 -- all of it looked at, and passed
-pub all-good : (t : List ℕ) (i : ℕ) {n a : ℕ} {q : Place} → length t ≡ i → TextCheck t (At n) q → q ≡ At a → Same t i
+all-same : (t : List ℕ) (i : ℕ) → length t ≡ i → utf8 t ≡ true → noZero t ≡ true → Same t i
 unfolding utf8 chars noZero
-all-good t i l c e = let (u, z) = text-good t c e in rw (← l) (record { form = rw (drop-length t) (sym u); full = rw (drop-length t) (sym z) })
+all-same t i l u z = rw (← l) (record { form = rw (drop-length t) (sym u); full = rw (drop-length t) (sym z) })
+
+pub all-good : {s : List ℕ} {x y n a : ℕ} {q : Place} (i : ℕ) → length (take (x + y - x) (drop x s)) ≡ i → TextCheck s x y (At n) q → q ≡ At a
+    → Same (take (x + y - x) (drop x s)) i
+all-good {s} {x} {y} i l c e =
+    let n : x + y - x ≡ y = omega arith in
+    let g = text-good c e in
+    all-same (take (x + y - x) (drop x s)) i l (rw n (g .0)) (rw n (g .1))
 
 -- ---- the ways out
 
@@ -120,8 +127,8 @@ module _ {s : List ℕ} {at n : ℕ} {x : Place} where
   bytes-cut f r e h l = sym (bad-name (length s) s at n f (string-short (num-holds (omega arith) r e) h)) ∙ l .is
 
 module _ {s : List ℕ} {at n c e : ℕ} {x : Place} where
-  pub text-bad : {a : ℕ} {q : Place} {k : Refusal} → (n ≡ 0 → ⊥) → Name s at c e → TextCheck (take (e + c - e) (drop e s)) (At a) q → q ≡ Refused k → Left s at n x → q ≡ x
-  text-bad f m t h l = h ∙ sym (bad-name (length s) s at n f (name-reads m ∙ text-refused _ _ t h)) ∙ l .is
+  pub text-bad : {a : ℕ} {q : Place} {k : Refusal} → (n ≡ 0 → ⊥) → Name s at c e → TextCheck s e c (At a) q → q ≡ Refused k → Left s at n x → q ≡ x
+  text-bad f m t h l = h ∙ sym (bad-name (length s) s at n f (string-held (m .held) (m .lies) ∙ text-refused t (drop (e + c) s) h)) ∙ l .is
 
   pub one-off : {i : ℕ} → (n ≡ 0 → ⊥) → Name s at c e → length (take (e + c - e) (drop e s)) ≤ i → Same (take (e + c - e) (drop e s)) i → Left s at n x → Left s (e + c) (n - 1) x
   one-off {i} f m o t l =

@@ -1,16 +1,16 @@
 -- The ways that the readers of data and vectors go: one law for each way out, over plain variables.
-use Prim.Native.Nat.{ℕ, _+_, _-_, _*_, _≤_, _<_}
+use Prim.Native.Nat.{ℕ, _+_, _-_, _*_, _≤_, _<_, min}
 use native.Mathlib.Omega.{arith}
 use mathlib.Core.Path.{_≡_, refl, sym, ap, ap₂, _∙_}
 use mathlib.Core.Bool.{Bool, true, false, cond}
 use mathlib.Core.List.{List, [], _∷_}
-use lib.ListN.{length, take, drop, length-append, length-drop}
+use lib.ListN.{length, take, drop, length-append, length-drop, drop-of-length-le}
 use lib.Seq.{drop-drop, length-take-le}
 use lib.Dec.{leb}
 use borrow.Author.Tests.{le-leb, lt-leb}
 use Rattle.numbers.specs.Numbers.{Bytes, bytes-drop}
 use Rattle.numbers.specs.Reading.{Result, ok, bad, after, raw, readNum}
-use Rattle.numbers.specs.ReadingLaws.{Took, raw-short}
+use Rattle.numbers.specs.ReadingLaws.{or-else, Took, raw-short}
 use Rattle.numbers.specs.Places.{Within, readAt, restAt, NumRead}
 use Rattle.numbers.specs.PlaceLaws.{inside, outside, Held, num-holds, num-refused}
 use Rattle.numbers.specs.declared.Refusal.{Refusal}
@@ -19,8 +19,9 @@ use Rattle.numbers.specs.declared.Place.{Place}
 use Rattle.numbers.specs.declared.Place.the-variants.{At, Refused}
 use Rattle.fields.specs.Layouts.{Field, dat, strs, quids, Item, bytes, strings, qids, most, readMany, readField, manyBytes}
 use Rattle.fields.specs.LayoutLaws.{took-many}
+use Rattle.fields.specs.FieldLaws.{count-fits}
 use Rattle.fields.specs.Values.{Value, span, part, place}
-use Rattle.fields.specs.Fields.{nothing, placedIn, valueAt, pastField, FieldRead, ManyRead, Nowhere}
+use Rattle.fields.specs.Fields.{CountCheck, nothing, placedIn, valueAt, pastField, FieldRead, ManyRead, Nowhere}
 
 -- ---- a field, refused or read
 
@@ -65,6 +66,10 @@ held-length n e s h = length-take-le n (drop e s) (simp length-drop (omega arith
 
 held-next : (n e : ℕ) (s : List ℕ) → e + n ≤ length s → At (e + n) ≡ At (length s - length (drop (e + n) s))
 held-next n e s h = ap At (let d = length-drop (e + n) s in omega arith)
+
+-- the count of a vector, of two bytes, is never over the limit
+pub count-read : {s : List ℕ} {p a q : Place} {n : ℕ} → NumRead 2 s p n a → n ≤ 65535 → CountCheck n a q → NumRead 2 s p n q
+count-read r h c = let e = count-fits h c in record { value = r .value; next = e ∙ r .next }
 
 -- ---- data
 
@@ -149,6 +154,12 @@ module _ {s : List ℕ} {p a q : Place} {n : ℕ} {v : Value} where
   strs-bad {e} r f c h w =
       nowhere refl w
       (refused-field (counted-held counted-strs (num-holds (omega arith) r f) ∙ rw (rest-bad (readMany n (drop e s)) (length s) (sym (c .next) ∙ h))) h)
+
+-- past the end there are as many strings as at the end
+pub many-from : {s : List ℕ} {n a m : ℕ} {e : Place} → m ≡ min a (length s) → ManyRead n s m e → ManyRead n s a e
+many-from {s} {n} {a} {m} h r =
+    let f : drop m s ≡ drop a s = or-else a (length s) (λ l. let k : m ≡ a = omega arith in ap (λ i. drop i s) k) (λ l. drop-of-length-le s {i = m} (omega arith) ∙ sym (drop-of-length-le s {i = a} (omega arith))) in
+    record { next = r .next ∙ ap (λ (t : List ℕ). restAt (length s) (readMany n t)) f }
 
 -- so many strings from e to g
 record Many (n : ℕ) (s : List ℕ) (e g : ℕ) : Type 0 where

@@ -1,24 +1,28 @@
 -- Fields put together; and the one law that takes fields at places to the definition, over any layout.
-use Prim.Native.Nat.{ℕ, _+_, _-_, _≤_}
+use Prim.Native.Nat.{ℕ, _+_, _-_, _≤_, _<_}
 use native.Mathlib.Omega.{arith}
 use mathlib.Core.Path.{_≡_, refl, sym, ap, ap₂, _∙_}
+use mathlib.Core.Bool.{cond}
 use mathlib.Core.List.{List, [], _∷_, _++_}
 use lib.ListN.{length, drop, length-append, length-drop}
 use lib.Seq.{drop-drop, drop-append-seam}
+use borrow.Author.Tests.{lt-ltb, le-ltb}
 use Rattle.numbers.specs.Numbers.{Bytes, bytes-drop}
 use Rattle.numbers.specs.Reading.{Result, ok, bad, after, readNum}
-use Rattle.numbers.specs.ReadingLaws.{Took, after-inv}
+use Rattle.numbers.specs.ReadingLaws.{or-else, Took, after-inv}
 use Rattle.numbers.specs.Places.{readAt, restAt, numberIn, numAt, pastNum, NumRead}
 use Rattle.numbers.specs.PlaceLaws.{one-answer}
 use Rattle.numbers.specs.declared.Refusal.{Refusal}
+use Rattle.numbers.specs.declared.Refusal.the-variants as R
 use Rattle.numbers.specs.declared.Place.{Place}
 use Rattle.numbers.specs.declared.Place.the-variants.{At, Refused}
 use Rattle.strings.specs.Strings.{readString}
-use Rattle.strings.specs.Spans.{bytesIn, startIn, strStart, strLen, pastStr, StrRead}
-use Rattle.fields.specs.Layouts.{Field, num, str, Layout, q, Item, number, string, readField, readFields, itemBytes, itemsBytes}
+use Rattle.strings.specs.Spans.{bytesIn, checkAt, startIn, strStart, strLen, pastStr, StrRead}
+use Rattle.strings.specs.SpanLaws.{passing}
+use Rattle.fields.specs.Layouts.{Field, num, str, Layout, q, okCount, Item, number, string, readField, readFields, itemBytes, itemsBytes}
 use Rattle.fields.specs.LayoutLaws.{took-field}
 use Rattle.fields.specs.Values.{Value, val, span, place, places}
-use Rattle.fields.specs.Fields.{placedIn, valueAt, pastField, FieldRead, valuesAt, pastFields, Fields}
+use Rattle.fields.specs.Fields.{CountCheck, placedIn, valueAt, pastField, FieldRead, valuesAt, pastFields, Fields}
 
 -- ---- a number and a string are fields
 
@@ -49,6 +53,31 @@ string-field {x} {y} {s} {p = At a} b = record {
   next = b .next ∙ past-map string (length s) (readString (drop a s));
 }
 string-field {x} {y} {s} {p = Refused k} b = record { value = ap₂ span (b .start) (b .len); next = b .next }
+
+-- ---- the count of a vector
+
+pub count-over : {n a : ℕ} {p : Place} → p ≡ At a → 65535 < n → CountCheck n p (Refused R.TableTooLong)
+count-over {n} e h = record { is = rw (e, lt-ltb 65535 n h) }
+
+pub count-held : {n : ℕ} {p : Place} → n ≤ 65535 → CountCheck n p p
+count-held {n} {p} h = record { is = sym (ap (λ b. checkAt (cond b (bad R.TableTooLong) (ok n [])) p) (le-ltb 65535 n h) ∙ passing n [] p) }
+
+-- what a count that was tested is
+pub count-passed : {n a b : ℕ} {q : Place} → CountCheck n (At a) q → q ≡ At b → (n ≤ 65535) × (a ≡ b)
+count-passed {n} c e =
+    or-else n 65535
+    (λ h. let f = rw (le-ltb 65535 n h) at (sym (c .is) ∙ e) in (h, cc f))
+    (λ h. absurd (let f = rw (lt-ltb 65535 n h) at (sym (c .is) ∙ e) in let z : _≡_ {A = ℕ} 0 1 = cc f in omega arith))
+
+pub count-refused : {n a : ℕ} {q : Place} {k : Refusal} → CountCheck n (At a) q → q ≡ Refused k → 65535 < n
+count-refused {n} c e =
+    or-else n 65535
+    (λ h. absurd (let f = rw (le-ltb 65535 n h) at (sym (c .is) ∙ e) in let z : _≡_ {A = ℕ} 0 1 = cc f in omega arith))
+    (λ h. h)
+
+-- a count of two bytes is never over
+pub count-fits : {n : ℕ} {p q : Place} → n ≤ 65535 → CountCheck n p q → q ≡ p
+count-fits h c = one-answer (c .is) (count-held h .is)
 
 -- ---- one field more
 

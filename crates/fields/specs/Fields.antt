@@ -9,7 +9,8 @@ use Rattle.numbers.specs.Reading.{Result, ok, bad}
 use Rattle.numbers.specs.Places.{readAt, restAt}
 use Rattle.numbers.specs.declared.Place.{Place}
 use Rattle.numbers.specs.declared.Place.the-variants.{At, Refused}
-use Rattle.fields.specs.Layouts.{Field, num, str, dat, strs, quids, Layout, Item, readMany, readField}
+use Rattle.strings.specs.Spans.{checkAt}
+use Rattle.fields.specs.Layouts.{Field, num, str, dat, strs, quids, Layout, Item, okCount, readMany, readField}
 use Rattle.fields.specs.Values.{Value, val, span, part, place}
 
 -- the value of a field that was refused
@@ -36,6 +37,10 @@ pastField f s p = restAt (length s) (readAt (readField f) s p)
 pub record FieldRead (f : Field) (s : List ℕ) (p : Place) (v : Value) (e : Place) : Type 0 where
   pub value : v ≡ valueAt f s p
   pub next : e ≡ pastField f s p
+
+-- what the check of a vector's count answers at p
+pub record CountCheck (n : ℕ) (p q : Place) : Type 0 where
+  pub is : q ≡ checkAt (okCount n) p
 
 -- so many strings from a position on: the place after them
 pub record ManyRead (n : ℕ) (s : List ℕ) (a : ℕ) (e : Place) : Type 0 where

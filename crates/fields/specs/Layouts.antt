@@ -4,7 +4,7 @@ use mathlib.Core.Path.{_≡_}
 use mathlib.Core.Bool.{cond}
 use mathlib.Core.List.{List, [], _∷_, _++_}
 use lib.ListN.{length}
-use lib.Dec.{leb}
+use lib.Dec.{leb, ltb}
 use Rattle.numbers.specs.Numbers.{toLE}
 use Rattle.numbers.specs.Reading.{Result, ok, bad, after, raw, readNum}
 use Rattle.numbers.specs.declared.Refusal.the-variants as R
@@ -41,6 +41,10 @@ kind (strings l) = strs
 kind (qids n bs) = quids
 
 -- ---- reading
+
+-- the elements of a vector are counted by two bytes (F1.5)
+abbrev pub okCount : ℕ → Result ℕ
+okCount n = cond (ltb 65535 n) (bad R.TableTooLong) (ok n [])
 
 -- "data count above 33,554,432"
 abbrev pub most : ℕ

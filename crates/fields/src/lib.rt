@@ -1,6 +1,7 @@
 // Data and vectors, read at a place of a slice as a span or a part.
 
 use numbers::Place;
+use numbers::Read16;
 use numbers::Refusal;
 use strings::ReadSpan;
 use strings::Span;
@@ -9,9 +10,10 @@ ghost use Prim.Native.Nat.{_+_, _≤_, _<_};
 ghost use mathlib.Core.Path.{_≡_};
 ghost use mathlib.Core.Bool.{true};
 ghost use lib.ListN.{length};
+ghost use Rattle.numbers.specs.Places.{NumRead};
 ghost use Rattle.fields.specs.Layouts.{dat, strs, quids};
 ghost use Rattle.fields.specs.Values.{span, part};
-ghost use Rattle.fields.specs.Fields.{FieldRead, ManyRead, Nowhere};
+ghost use Rattle.fields.specs.Fields.{FieldRead, CountCheck, ManyRead, Nowhere};
 ghost use Rattle.fields.specs.Runs.{Plains, Run};
 
 // The elements of a vector: how many they are, and the part of the bytes that holds them.
@@ -100,6 +102,32 @@ fn plain_from(s: &[u8], i: usize) -> usize
     0
 }
 
+// The count of a vector, in bytes that are read or lent, in a table, or of one that an element is asked of: the place itself; or 8.
+pub fn check_count(count: usize, p: Place) -> Place
+    ensures { λ r. ⌜ CountCheck count p r ⌝ }
+{
+    let Place::At(_) = p else {
+        return p;
+    };
+    if 65535 < count {
+        return Place::Refused(Refusal::TableTooLong);
+    }
+    p
+}
+
+// A vector's count at a place. One of two bytes is never over the limit; the test is here for a limit that is lower.
+fn read_count(s: &[u8], p: Place) -> Read16
+    ensures { λ r. ⌜ NumRead 2 (now (s .entry)) p (r .value) (r .next) ⌝ }
+{
+    let count = numbers::read_u16(s, p);
+    let after = count.next;
+    let next = check_count(count.value as usize, after);
+    Read16 {
+        value: count.value,
+        next,
+    }
+}
+
 // So many strings from a position on: the place after them, or the refusal of the first that fails, whichever that is.
 fn scan_names(s: &[u8], from: usize, count: u16) -> Place
     requires { ⌜ from ≤ length (now s) ⌝ }
@@ -132,7 +160,8 @@ fn scan_names(s: &[u8], from: usize, count: u16) -> Place
             if 0 < k {
                 i += k;
             } else {
-                let q = strings::check_text(name, Place::At(end));
+                let all = Span { start, len };
+                let q = strings::check_str(s, all, Place::At(end));
                 let Place::At(_) = q else {
                     break 'names q;
                 };
@@ -144,18 +173,18 @@ fn scan_names(s: &[u8], from: usize, count: u16) -> Place
     }
 }
 
-// So many strings that some bytes begin with: the place after them, or the refusal of the first that fails.
-pub fn scan(s: &[u8], count: u16) -> Place
-    ensures { λ r. ⌜ ManyRead count (now (s .entry)) 0 r ⌝ }
+// So many strings from a position on, which may lie past the end, where there are none.
+pub fn scan(s: &[u8], from: usize, count: u16) -> Place
+    ensures { λ r. ⌜ ManyRead count (now (s .entry)) from r ⌝ }
 {
-    scan_names(s, 0, count)
+    scan_names(s, numbers::min(from, s.len()), count)
 }
 
 // A vector of strings at a place.
 pub fn read_names(s: &[u8], p: Place) -> ReadPart
     ensures { λ r. ⌜ FieldRead strs (now (s .entry)) p (part (r .value .count) (r .value .elements .start) (r .value .elements .len)) (r .next) ⌝ }
 {
-    let c = numbers::read_u16(s, p);
+    let c = read_count(s, p);
     let a = c.next;
     let Place::At(start) = a else {
         return no_part(a);
@@ -188,7 +217,7 @@ fn no_part(next: Place) -> ReadPart
 pub fn read_qids(s: &[u8], p: Place) -> ReadPart
     ensures { λ r. ⌜ FieldRead quids (now (s .entry)) p (part (r .value .count) (r .value .elements .start) (r .value .elements .len)) (r .next) ⌝ }
 {
-    let c = numbers::read_u16(s, p);
+    let c = read_count(s, p);
     let a = c.next;
     let Place::At(start) = a else {
         return no_part(a);

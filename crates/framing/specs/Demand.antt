@@ -16,7 +16,7 @@ use Rattle.fields.specs.Values.{Value}
 use Rattle.layouts.specs.Tables.{Row, lookup}
 use Rattle.layouts.specs.Bodies.{Answer, accepted, refused}
 use Rattle.framing.specs.Frames.{Frame, headless, framed, readFrame}
-use Rattle.framing.specs.HeaderLaws.{drop-take}
+use Rattle.laying.specs.LayingLaws.{drop-take}
 use Rattle.framing.specs.Writing.{headBytes}
 use Rattle.framing.specs.WritingLaws.{head-length}
 use Rattle.framing.specs.Local.{sizeIn}

@@ -1,12 +1,12 @@
 -- The header's ways, and a frame read at places as the definition reads it.
-use Prim.Native.Nat.{ℕ, zero, suc, _+_, _-_, _≤_, _<_, min}
+use Prim.Native.Nat.{ℕ, _+_, _-_, _≤_, _<_, min}
 use native.Mathlib.Omega.{arith}
 use native.Mathlib.Nat.{min-eq-left, min-eq-right}
 use mathlib.Core.Path.{_≡_, refl, sym, ap, _∙_}
 use mathlib.Core.Bool.{Bool, true, false, cond}
 use mathlib.Core.List.{List, [], _∷_}
 use lib.ListN.{length, take, drop, length-take, length-drop}
-use lib.Seq.{length-take-le, take-all, take-nil, take-length}
+use lib.Seq.{length-take-le, take-all, take-length}
 use borrow.Author.Tests.{lt-ltb, le-ltb}
 use Rattle.numbers.specs.Numbers.{Bytes, bytes-take}
 use Rattle.numbers.specs.Reading.{Result, ok, bad, after, readNum}
@@ -17,6 +17,7 @@ use Rattle.numbers.specs.declared.Refusal.{Refusal}
 use Rattle.numbers.specs.declared.Refusal.the-variants as R
 use Rattle.numbers.specs.declared.Place.{Place}
 use Rattle.numbers.specs.declared.Place.the-variants.{At, Refused}
+use Rattle.laying.specs.LayingLaws.{drop-take}
 use Rattle.layouts.specs.Tables.{Row, lookup}
 use Rattle.layouts.specs.Bodies.{Answer, bodyOf, readBody}
 use Rattle.layouts.specs.BodyLaws.{body-is}
@@ -76,14 +77,6 @@ size-cut r h = rw (num-refused r h .reads)
 pub size-below : {s : List ℕ} {x e : ℕ} {q : Place} → NumRead 4 s (At 0) x q → q ≡ At e → x < 4 → readHeader s ≡ bad R.SizeBelowFour
 unfolding readHeader
 size-below {x = x} r h l = rw (size-held r h .0, lt-ltb x 4 l)
-
-pub drop-take : (k n : ℕ) (s : List ℕ) → drop k (take (k + n) s) ≡ take n (drop k s)
-drop-take zero n s = let e : 0 + n ≡ n = omega arith in rw e
-drop-take (suc k) n s = let e : suc k + n ≡ suc (k + n) = omega arith in rw e (go (λ l. drop-take k n l) s)
-  where
-    go : ((l : List ℕ) → drop k (take (k + n) l) ≡ take n (drop k l)) → (l : List ℕ) → drop (suc k) (take (suc (k + n)) l) ≡ take n (drop (suc k) l)
-    go ih [] = sym (take-nil n)
-    go ih (x ∷ xs) = ih xs
 
 -- the frame's own bytes, after the size
 own : (s : List ℕ) (x : ℕ) → 4 ≤ x → take (x - 4) (drop 4 s) ≡ drop 4 (take (min x (length s)) s)

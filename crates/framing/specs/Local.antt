@@ -12,7 +12,7 @@ use Rattle.numbers.specs.ReadingLaws.{or-else, raw-short}
 use Rattle.numbers.specs.declared.Refusal.the-variants as R
 use Rattle.layouts.specs.Tables.{Row}
 use Rattle.framing.specs.Frames.{readTypeTag, readHeader, frameOf, readFrame}
-use Rattle.framing.specs.HeaderLaws.{drop-take}
+use Rattle.laying.specs.LayingLaws.{drop-take}
 
 -- the size that the first four bytes hold
 abbrev pub sizeIn : List ℕ → ℕ

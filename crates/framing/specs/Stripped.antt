@@ -25,7 +25,7 @@ use Rattle.layouts.specs.Tables.{Row, lookup, body}
 use Rattle.layouts.specs.Bodies.{Answer, accepted, refused}
 use Rattle.framing.specs.Frames.{readTypeTag, readHeader, framed, headless, frameOf, readFrame}
 use Rattle.framing.specs.Writing.{headBytes, frameBytes, frameOut, framePast}
-use Rattle.framing.specs.HeaderLaws.{drop-take}
+use Rattle.laying.specs.LayingLaws.{drop-take}
 use Rattle.framing.specs.WritingLaws.{head-length, put-fits, past-fits, frame-length}
 use Rattle.framing.specs.Stretch.{answerIn}
 use Rattle.framing.specs.Accepted.{Stands, reads-frame, Accepts, accepts}

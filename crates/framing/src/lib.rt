@@ -4,7 +4,6 @@
 use numbers::Place;
 use numbers::Refusal;
 ghost use mathlib.Core.Path.{_≡_};
-ghost use Prim.Native.Nat.{min};
 ghost use Rattle.framing.specs.Writing.{HeadPut};
 ghost use Rattle.framing.specs.Headers.{TypeTag, HeadIs};
 ghost use Rattle.framing.specs.Cuts.{CutAt};
@@ -13,15 +12,6 @@ ghost use Rattle.framing.specs.Cuts.{CutAt};
 pub enum Head {
     Held(usize, u8, u16),
     Refused(Refusal),
-}
-
-fn lesser(a: usize, b: usize) -> usize
-    ensures { λ r. ⌜ r ≡ min a b ⌝ }
-{
-    if b < a {
-        return b;
-    }
-    a
 }
 
 // After the size: the type and the tag, of the frame's own bytes.
@@ -49,7 +39,7 @@ pub fn read_header(s: &[u8]) -> Head
             if size.value < 4 {
                 return Head::Refused(Refusal::SizeBelowFour);
             }
-            let limit = lesser(size.value as usize, s.len());
+            let limit = numbers::min(size.value as usize, s.len());
             type_and_tag(&s[..limit])
         }
         Place::Refused(k) => Head::Refused(k),

@@ -17,13 +17,14 @@ use Rattle.numbers.specs.declared.Refusal.the-variants as R
 use Rattle.numbers.specs.declared.Place.{Place}
 use Rattle.numbers.specs.declared.Place.the-variants.{At, Refused}
 use Rattle.strings.specs.Strings.{stringBytes}
-use Rattle.strings.specs.Spans.{bytesIn, showSpan, showString, checkAt, Shown, SpanCheck, StrCheck, SpanPut}
+use Rattle.strings.specs.Spans.{bytesIn, showSpan, showString, checkAt, SpanCheck, StrCheck, SpanPut}
 use Rattle.strings.specs.SpanLaws.{check-inv, first-refuses, passed, whole, shown-length, span-inv, shown-in, string-inv}
 use Rattle.fields.specs.Layouts.{Field, num, str, dat, strs, quids, Item, number, string, bytes, strings, qids, readMany, manyBytes, itemBytes}
 use Rattle.fields.specs.LayoutLaws.{took-many}
-use Rattle.laying.specs.LayingLaws.{Unless, behind}
+use Rattle.laying.specs.LayingLaws.{drop-take, Unless, behind}
 use Rattle.fields.specs.Values.{Value, val, span, part, startOf, lenOf, cutOff, wholePart, show}
-use Rattle.fields.specs.Fields.{ManyRead}
+use Rattle.fields.specs.Fields.{CountCheck, ManyRead}
+use Rattle.fields.specs.FieldLaws.{count-fits}
 use Rattle.laying.specs.Laying.{limit, advance, sizeIn, checkField, headWidth, headOf, putField, pastPutField, FieldLaid, NumLaid, Advanced, CountedPut, ShowCheck, filledAt, Filled, settledAt, Settled, Begun}
 
 -- ---- a place on
@@ -121,23 +122,29 @@ module _ {lent : List ℕ} {x y : ℕ} {p q : Place} where
   strs-outside c e = record { is = e ∙ sym (first-refuses (showSpan lent x y) _ p (sym (c .is) ∙ e)) }
 
 -- the scan's end tells whether the strings fill the part
-fills : (n a : ℕ) (bs : List ℕ) → Bytes bs → (m : Result (List (List ℕ))) → readMany n bs ≡ m
-    → filledAt (restAt (length bs) m) (length bs) (At a) ≡ checkAt (after (wholePart m) (λ l s. ok (strings l) s)) (At a)
-fills n a bs b (bad k) e = refl
-fills n a bs b (ok l []) e = rw (eq-eqb (length bs - 0) (length bs) (omega arith))
-fills n a bs b (ok l (x ∷ r)) e =
+fills : (n a stop : ℕ) (bs : List ℕ) → length bs ≤ stop → Bytes bs → (m : Result (List (List ℕ))) → readMany n bs ≡ m
+    → filledAt (restAt stop m) stop (At a) ≡ checkAt (after (wholePart m) (λ l s. ok (strings l) s)) (At a)
+fills n a stop bs g b (bad k) e = refl
+fills n a stop bs g b (ok l []) e = rw (eq-eqb (stop - 0) stop (omega arith))
+fills n a stop bs g b (ok l (y ∷ r)) e =
     let t = took-many n bs b e in
-    let h : length bs ≡ length (manyBytes l) + suc (length r) = ap length (t .whole) ∙ length-append (manyBytes l) (x ∷ r) in
-    rw (ne-eqb (length bs - suc (length r)) (length bs) (λ z. omega arith))
+    let h : length bs ≡ length (manyBytes l) + suc (length r) = ap length (t .whole) ∙ length-append (manyBytes l) (y ∷ r) in
+    rw (ne-eqb (stop - suc (length r)) stop (λ z. omega arith))
 
-pub strs-scanned : {lent : List ℕ} {n x y a : ℕ} {bs : List ℕ} {p q e r : Place} → Bytes lent → SpanCheck lent x y p q → q ≡ At a → Shown lent x y bs → ManyRead n bs 0 e
-    → Filled e (length bs) q r → ShowCheck strs lent (part n x y) p r
+pub strs-scanned : {lent : List ℕ} {n x y a : ℕ} {p q e r : Place} → Bytes lent → SpanCheck lent x y p q → q ≡ At a → ManyRead n (take (x + y) lent) x e → Filled e (x + y) q r
+    → ShowCheck strs lent (part n x y) p r
 unfolding show
-strs-scanned {lent} {n} {x} {y} {a} {bs} b c h s m f =
+strs-scanned {lent} {n} {x} {y} {a} b c h m f =
     let k = passed c h in
-    let i : bs ≡ take y (drop x lent) = s .is ∙ rw (k .shows) in
-    let g = rw (m .next, h) at (f .is) in
-    record { is = g ∙ fills n a bs (rw i (bytes-take y (drop x lent) (bytes-drop x lent b))) (readMany n bs) refl ∙ rw (k .place, k .shows, i) }
+    let i : drop x (take (x + y) lent) ≡ take y (drop x lent) = drop-take x y lent in
+    let l : length (take (x + y) lent) ≡ x + y = length-take-le (x + y) lent (k .lies) in
+    let z = shown-length lent x y (k .lies) in
+    let g = rw (m .next, h, l, i) at (f .is) in
+    record { is = g ∙ fills n a (x + y) (take y (drop x lent)) (omega arith) (bytes-take y (drop x lent) (bytes-drop x lent b)) (readMany n (take y (drop x lent))) refl ∙ rw (k .place, k .shows) }
+
+-- the count of a part, which two bytes hold, refuses none
+pub part-check : {lent : List ℕ} {n x y : ℕ} {p q r : Place} → n ≤ 65535 → CountCheck n p q → SpanCheck lent x y q r → SpanCheck lent x y p r
+part-check h c s = rw (count-fits h c) at s
 
 -- ---- in whichever pass it is
 

@@ -5,10 +5,10 @@ use mathlib.Core.Path.{_≡_, refl, sym, ap, ap₂, _∙_}
 use mathlib.Core.Bool.{Bool, true, false, cond}
 use mathlib.Core.List.{List, [], _∷_, _++_, append-assoc, append-nil}
 use lib.ListN.{length, take, drop, getD, length-append}
-use lib.Seq.{drop-append-seam}
+use lib.Seq.{drop-append-seam, drop-drop, length-take-le}
 use lib.Dec.{ltb, eqb}
 use borrow.Author.Tests.{lt-ltb, le-ltb, ltb-true, eqb-true}
-use Rattle.numbers.specs.Numbers.{Bytes, length-toLE, bytes-take, bytes-drop}
+use Rattle.numbers.specs.Numbers.{Bytes, bytes-take, bytes-drop}
 use Rattle.numbers.specs.Reading.{Result, ok, bad, after}
 use Rattle.numbers.specs.ReadingLaws.{after-inv, cond-inv, Reads}
 use Rattle.numbers.specs.Places.{readAt, restAt}
@@ -19,11 +19,11 @@ use Rattle.numbers.specs.declared.Place.{Place}
 use Rattle.numbers.specs.declared.Place.the-variants.{At, Refused}
 use Rattle.strings.specs.Strings.{readString, stringBytes, GoodText}
 use Rattle.strings.specs.StringLaws.{reads-string}
-use Rattle.strings.specs.Spans.{bytesIn, showSpan, checkAt, Shown, SpanCheck, strStart, strLen, StrRead}
-use Rattle.strings.specs.SpanLaws.{first-refuses, passed, check-inv, span-inv}
+use Rattle.strings.specs.Spans.{showSpan, checkAt, SpanCheck, strStart, strLen, StrRead}
+use Rattle.strings.specs.SpanLaws.{first-refuses, passed, check-inv, shown-in, span-inv}
 use Rattle.fields.specs.Layouts.{Field, strs, quids, Item, strings, qids, readMany, manyBytes, AllGood}
 use Rattle.fields.specs.LayoutLaws.{took-many}
-use Rattle.laying.specs.LayingLaws.{span-shown, whole-inv}
+use Rattle.laying.specs.LayingLaws.{drop-take, span-shown, whole-inv}
 use Rattle.fields.specs.Values.{Value, span, part, startOf, lenOf, countOf, wholePart, show}
 use Rattle.fields.specs.Fields.{ManyRead}
 use Rattle.laying.specs.Laying.{ShowCheck}
@@ -90,6 +90,11 @@ element {f} {lent} {v} {i} {a} {p} n s e =
     (λ it r d g. check-inv (askedFor lent v i) (At 0) (sym (n .is) ∙ g)
     (λ bs t u w. record { item = it; rest = r; shows = d; below = asked-inv lent v i u; is = rw (u, d) }))
 
+-- its part lies among the lent bytes
+pub element-lies : {lent : List ℕ} {c x y i : ℕ} → Element strs lent (part c x y) i → x + y ≤ length lent
+unfolding show
+element-lies {lent} {c} {x} {y} l = after-inv (showSpan lent x y) _ (l .shows) (λ bs s e1 e2. span-inv lent x y e1)
+
 -- ---- qids
 
 -- where qid i stands, and that it lies within the lent bytes
@@ -129,14 +134,9 @@ parted (suc i) (b ∷ bs) h g =
       good = p .good;
     }
 
-string-length : (bs : List ℕ) → length (stringBytes bs) ≡ 2 + length bs
-unfolding stringBytes
-string-length bs = simp (length-append, length-toLE)
-
--- where name i stands, and that it begins within the lent bytes
-pub record Name (lent : List ℕ) (c x y i sx sy : ℕ) : Type 0 where
-  pub lies : x + sx ≤ length lent
-  pub is : ok (span (x + sx) sy) [] ≡ elementAt strs lent (part c x y) i
+-- what a span shows, if it lies among the lent bytes
+span-bytes : (lent : List ℕ) (x y : ℕ) {bs : List ℕ} → x + y ≤ length lent → showSpan lent x y ≡ ok bs [] → take y (drop x lent) ≡ bs
+span-bytes lent x y h e = let d = sym (shown-in lent x y h) ∙ e in cc d
 
 -- the names of a part that passed, as they stand in it
 record Names (lent : List ℕ) (c x y : ℕ) (it : Item) : Type 0 where
@@ -161,29 +161,26 @@ names-in {lent} {c} {x} {y} {it} b e =
     let m : bs ≡ manyBytes l = h .whole ∙ append-nil (manyBytes l) in
     record { names = l; bytes = k .0 ∙ ap (λ z. ok z []) m; size = ap length (sym m) ∙ k .1; lies = span-inv lent x y e1; item = f; count = h .good .0; good = h .good .1 })))
 
-pub name-found : {lent s : List ℕ} {c x y i sx sy : ℕ} {p q : Place} → Bytes lent → Element strs lent (part c x y) i → Shown lent x y s → ManyRead i s 0 p → StrRead s p sx sy q
-    → Name lent c x y i sx sy
+pub name-found : {lent : List ℕ} {c x y i sx sy : ℕ} {p q : Place} → Bytes lent → Element strs lent (part c x y) i → ManyRead i (take (x + y) lent) x p
+    → StrRead (take (x + y) lent) p sx sy q → ok (span sx sy) [] ≡ elementAt strs lent (part c x y) i
 unfolding strStart strLen
-name-found {lent} {s} {c} {x} {y} {i} {sx} {sy} {p} b l w m r =
+name-found {lent} {c} {x} {y} {i} {sx} {sy} {p} b l m r =
     let n = names-in b (l .shows) in
     let ns : List (List ℕ) = n .names in
     let g : List ℕ = getD ns i [] in
     let a : List ℕ = manyBytes (take i ns) in
     let z : List ℕ = stringBytes g ++ manyBytes (drop (suc i) ns) in
+    let s : List ℕ = take (x + y) lent in
     let h = l .below in
     let k = n .count in
     let t = parted i ns (omega arith) (n .good) in
-    let es : s ≡ manyBytes ns = w .is ∙ rw (n .bytes) in
-    let ez : length (a ++ z) ≡ length a + length z = length-append a z in
-    let el : length (manyBytes ns) ≡ length a + length z = ap length (t .bytes) ∙ ez in
-    let ep : p ≡ At (length a) = m .next ∙ rw (es, t .before) (ap At (omega arith)) in
-    let er : readAt readString s p ≡ ok g (manyBytes (drop (suc i) ns))
-    = rw (ep, es) (ap readString (ap (drop (length a)) (t .bytes) ∙ drop-append-seam a z) ∙ reads-string g (t .good) .back (manyBytes (drop (suc i) ns))) in
-    let ex : sx ≡ length a + 2 = r .start ∙ rw (er, ep) in
+    let es : drop x s ≡ manyBytes ns = drop-take x y lent ∙ span-bytes lent x y (n .lies) (n .bytes) in
+    let ls : length s ≡ x + y = length-take-le (x + y) lent (n .lies) in
+    let el : length (manyBytes ns) ≡ length a + length z = ap length (t .bytes) ∙ length-append a z in
+    let e1 = n .size in
+    let ep : p ≡ At (x + length a) = m .next ∙ rw (es, t .before) (ap At (omega arith)) in
+    let ed : drop (x + length a) s ≡ z = sym (drop-drop (length a) x s) ∙ ap (drop (length a)) (es ∙ t .bytes) ∙ drop-append-seam a z in
+    let er : readAt readString s p ≡ ok g (manyBytes (drop (suc i) ns)) = rw (ep, ed) (reads-string g (t .good) .back (manyBytes (drop (suc i) ns))) in
+    let ex : sx ≡ x + (length a + 2) = r .start ∙ rw (er, ep) (omega arith) in
     let ey : sy ≡ length g = r .len ∙ rw er in
-    let u : length z ≡ length (stringBytes g) + length (manyBytes (drop (suc i) ns)) = length-append (stringBytes g) (manyBytes (drop (suc i) ns)) in
-    let t2 = string-length g in
-    record {
-      lies = (let e1 = n .size in let e2 = n .lies in omega arith);
-      is = rw (ex, ey) (sym (l .is ∙ ap (λ it. ok (elementIn x i it) []) (n .item)));
-    }
+    rw (ex, ey) (sym (l .is ∙ ap (λ it. ok (elementIn x i it) []) (n .item)))

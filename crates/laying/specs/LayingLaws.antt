@@ -1,10 +1,11 @@
 -- Fields laid one after another; and the one law that takes both passes to the definition, over any layout.
-use Prim.Native.Nat.{ℕ, _+_, _*_, _≤_, _<_, min}
+use Prim.Native.Nat.{ℕ, zero, suc, _+_, _*_, _≤_, _<_, min}
 use native.Mathlib.Omega.{arith}
 use mathlib.Core.Path.{_≡_, refl, sym, ap, ap₂, _∙_}
 use mathlib.Core.Bool.{Bool, true, false}
 use mathlib.Core.List.{List, [], _∷_, _++_, append-nil}
 use lib.ListN.{length, take, drop, length-append, take-append-drop}
+use lib.Seq.{take-nil}
 use lib.Dec.{eqb}
 use borrow.Author.Tests.{le-leb}
 use Rattle.numbers.specs.Numbers.{Bytes, toLE, length-toLE, bytes-take, bytes-drop}
@@ -23,6 +24,15 @@ use Rattle.fields.specs.Layouts.{Field, num, str, dat, strs, quids, Layout, q, 
 use Rattle.fields.specs.LayoutLaws.{took-many}
 use Rattle.fields.specs.Values.{Value, val, numOf, startOf, lenOf, countOf, wholePart, show, firstOf, othersOf, shows}
 use Rattle.laying.specs.Laying.{limit, advance, sizeIn, checkField, checkFields, headWidth, headOf, countedField, pastCounted, putField, pastPutField, putFields, pastPutFields, ByPass, FieldLaid, Laid, NumLaid}
+
+-- a part of the bytes up to its end
+pub drop-take : (k n : ℕ) (s : List ℕ) → drop k (take (k + n) s) ≡ take n (drop k s)
+drop-take zero n s = let e : 0 + n ≡ n = omega arith in rw e
+drop-take (suc k) n s = let e : suc k + n ≡ suc (k + n) = omega arith in rw e (go (λ l. drop-take k n l) s)
+  where
+    go : ((l : List ℕ) → drop k (take (k + n) l) ≡ take n (drop k l)) → (l : List ℕ) → drop (suc k) (take (suc (k + n)) l) ≡ take n (drop (suc k) l)
+    go ih [] = sym (take-nil n)
+    go ih (x ∷ xs) = ih xs
 
 pub laid-none : {lent : List ℕ} {ps : Bool} {o : List ℕ} {p : Place} → Laid [] lent [] ps o p o p
 unfolding checkFields putFields pastPutFields

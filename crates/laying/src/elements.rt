@@ -19,8 +19,7 @@ pub enum Element {
 fn asked(lent: &[u8], v: Part, i: usize) -> Place
     ensures { λ r. ⌜ Asked (now (lent .entry)) (part (v .count) (v .elements .start) (v .elements .len)) i r ⌝ }
 {
-    let elements = v.elements;
-    let q = strings::check_span(lent, elements, Place::At(0));
+    let q = crate::check_part(lent, v, Place::At(0));
     let Place::At(_) = q else {
         return q;
     };
@@ -39,15 +38,11 @@ pub fn name_at(lent: &[u8], v: Part, i: usize) -> Element
     match q {
         Place::At(_) => {
             let elements = v.elements;
-            let names = strings::shown(lent, elements);
-            let before = fields::scan(names, i as u16);
-            let name = strings::read_str(names, before);
-            let value = name.value;
-            let start = elements.start + value.start;
-            let found = Span {
-                start,
-                len: value.len,
-            };
+            let start = elements.start;
+            let stop = start + elements.len;
+            let before = fields::scan(&lent[..stop], start, i as u16);
+            let name = strings::read_str(&lent[..stop], before);
+            let found = name.value;
             Element::Found(found)
         }
         Place::Refused(k) => Element::Refused(k),

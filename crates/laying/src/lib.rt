@@ -8,6 +8,7 @@ use numbers::Place;
 use numbers::Refusal;
 use strings::Span;
 ghost use mathlib.Core.Path.{_≡_};
+ghost use Rattle.strings.specs.Spans.{SpanCheck};
 ghost use Rattle.fields.specs.Layouts.{str, dat, strs, quids};
 ghost use Rattle.fields.specs.Values.{span, part, cutOff};
 ghost use Rattle.laying.specs.Laying.{Advanced, NumLaid, FieldLaid, CountedPut, ShowCheck, Filled, Settled, Begun};
@@ -95,13 +96,13 @@ pub fn lay_data(out: &mut [u8], p: Place, lent: &[u8], v: Span, put: bool) -> Pl
     advanced(advanced(q, 4), v.len)
 }
 
-// What a scan of a part's elements comes to: they fill it whole, or it is malformed, unless an element's text is to blame.
-fn filled(end: Place, len: usize, p: Place) -> Place
-    ensures { λ r. ⌜ Filled end len p r ⌝ }
+// Whether a scan of a part's elements ends where the part does: if not, the part is malformed, unless an element's text is to blame.
+fn filled(end: Place, stop: usize, p: Place) -> Place
+    ensures { λ r. ⌜ Filled end stop p r ⌝ }
 {
     match end {
         Place::At(n) => {
-            if n == len {
+            if n == stop {
                 return p;
             }
             Place::Refused(Refusal::PartMalformed)
@@ -119,18 +120,28 @@ fn cut_off(k: Refusal) -> Refusal
     k
 }
 
+// The part that a vector is written from, or asked for an element: its count first, which two bytes hold; then 9.
+fn check_part(lent: &[u8], v: Part, p: Place) -> Place
+    ensures { λ r. ⌜ SpanCheck (now (lent .entry)) (v .elements .start) (v .elements .len) p r ⌝ }
+{
+    let q = fields::check_count(v.count as usize, p);
+    let elements = v.elements;
+    strings::check_span(lent, elements, q)
+}
+
 // The elements of a vector of strings that is to be written: the place itself; or 9, then the first failing one's 14, 5 or 6, then 14.
 pub fn check_names(lent: &[u8], v: Part, p: Place) -> Place
     ensures { λ r. ⌜ ShowCheck strs (now (lent .entry)) (part (v .count) (v .elements .start) (v .elements .len)) p r ⌝ }
 {
     let elements = v.elements;
-    let q = strings::check_span(lent, elements, p);
+    let q = check_part(lent, v, p);
     let Place::At(_) = q else {
         return q;
     };
-    let names = strings::shown(lent, elements);
-    let end = fields::scan(names, v.count);
-    filled(end, names.len(), q)
+    let start = elements.start;
+    let stop = start + elements.len;
+    let end = fields::scan(&lent[..stop], start, v.count);
+    filled(end, stop, q)
 }
 
 // The elements of a vector of qids that is to be written: the place itself; or 9, then 14 unless they are 13 bytes each.
@@ -138,7 +149,7 @@ pub fn check_qids(lent: &[u8], v: Part, p: Place) -> Place
     ensures { λ r. ⌜ ShowCheck quids (now (lent .entry)) (part (v .count) (v .elements .start) (v .elements .len)) p r ⌝ }
 {
     let elements = v.elements;
-    let q = strings::check_span(lent, elements, p);
+    let q = check_part(lent, v, p);
     let Place::At(_) = q else {
         return q;
     };

@@ -1,7 +1,7 @@
 // Refusals, places, and numbers of 1, 2, 4 and 8 bytes, little endian: read at a place of a slice, put at a place of an output.
 
 ghost use mathlib.Core.Path.{_≡_};
-ghost use Prim.Native.Nat.{_+_, _^_, _≤_, _<_};
+ghost use Prim.Native.Nat.{_+_, _-_, _^_, _≤_, _<_, min as lesser};
 ghost use lib.ListN.{length, take, drop};
 ghost use Rattle.numbers.specs.Refusals.{numberOf};
 ghost use Rattle.numbers.specs.Numbers.{fromLE, toLE};
@@ -56,6 +56,25 @@ pub fn number(k: Refusal) -> u8
 pub enum Place {
     At(usize),
     Refused(Refusal),
+}
+
+pub fn min(a: usize, b: usize) -> usize
+    ensures { λ r. ⌜ r ≡ lesser a b ⌝ }
+{
+    if b < a {
+        return b;
+    }
+    a
+}
+
+// The difference, 0 where there is none.
+pub fn saturating_sub(a: usize, b: usize) -> usize
+    ensures { λ r. ⌜ r ≡ a - b ⌝ }
+{
+    if a < b {
+        return 0;
+    }
+    a - b
 }
 
 // Whether `n` bytes at `at` lie within `len` bytes. The sum is never formed, so nothing wraps.

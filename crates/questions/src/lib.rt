@@ -101,21 +101,12 @@ fn spell(hex: &[u8], out: &mut [u8]) -> usize {
     i / 2
 }
 
-fn lesser(a: usize, b: usize) -> usize
-    ensures { λ r. ⌜ r ≤ b ⌝ }
-{
-    if a < b {
-        return a;
-    }
-    b
-}
-
 // From `count` on, until there are `most` bytes or the output ends: what stands `back` bytes before.
 fn repeat(out: &mut [u8], count: usize, most: usize, back: usize) -> usize {
-    let end = lesser(most, out.len());
+    let end = numbers::min(most, out.len());
     let mut i = count;
     while i < end {
-        out[i] = out[i - lesser(back, i)];
+        out[i] = out[i - numbers::min(back, i)];
         i += 1;
     }
     i

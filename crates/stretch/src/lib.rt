@@ -59,21 +59,12 @@ fn used_of(size: usize, body: Body) -> usize
     }
 }
 
-fn less(a: usize, b: usize) -> usize
-    ensures { λ r. ⌜ r ≡ a - b ⌝ }
-{
-    if a < b {
-        return 0;
-    }
-    a - b
-}
-
 // A frame of exactly these bytes: what the reader of its direction says of its body.
 fn whole_frame(frame: &[u8], ty: u8, tag: u16, at: usize, next: usize) -> Listed
     ensures { λ r. ⌜ ListedAs (now (frame .entry)) ty tag at next r ⌝ }
 {
     let body = read_body(frame, ty);
-    let tail = less(frame.len(), used_of(frame.len(), body));
+    let tail = numbers::saturating_sub(frame.len(), used_of(frame.len(), body));
     let tag = Tag(tag);
     Listed {
         at,

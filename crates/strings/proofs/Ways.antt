@@ -23,17 +23,31 @@ use Rattle.strings.specs.Strings.{okText, readString, stringBytes}
 use Rattle.strings.specs.SpanLaws.{first-refuses, shown-in, shown-out, shown-length, passed, whole, passing, string-at, start-bad, string-held, string-short, text-refused, text-passed}
 use Rattle.strings.specs.Spans.{bytesIn, showSpan, showString, checkAt, Shown, TextCheck, SpanCheck, StrCheck, startIn, strStart, strLen, pastStr, StrRead, SpanPut, StrPut}
 
--- ---- a string's bytes
+-- ---- a string's bytes, cut out to be looked at
 
-module _ {bs : List ℕ} {p : Place} {a : ℕ} where
-  pub text-bad : p ≡ At a → utf8 bs ≡ false → TextCheck bs p (Refused R.NotUtf8)
-  text-bad e u = record { is = rw (e, u) }
+abbrev between : ℕ → ℕ → List ℕ → List ℕ
+between x e s = take (e - x) (drop x s)
 
-  pub text-zero : p ≡ At a → utf8 bs ≡ true → noZero bs ≡ false → TextCheck bs p (Refused R.ZeroByte)
-  text-zero e u z = record { is = rw (e, u, z) }
+module _ {s : List ℕ} {x y a : ℕ} {p : Place} where
+  pub text-bad : p ≡ At a → utf8 (between x (x + y) s) ≡ false → TextCheck s x y p (Refused R.NotUtf8)
+  text-bad e u =
+      let n : x + y - x ≡ y = omega arith in
+      let v = rw n at u in
+      record { is = rw (e, v) }
 
-  pub text-fine : p ≡ At a → utf8 bs ≡ true → noZero bs ≡ true → TextCheck bs p p
-  text-fine e u z = record { is = rw (e, u, z) }
+  pub text-zero : p ≡ At a → utf8 (between x (x + y) s) ≡ true → noZero (between x (x + y) s) ≡ false → TextCheck s x y p (Refused R.ZeroByte)
+  text-zero e u z =
+      let n : x + y - x ≡ y = omega arith in
+      let v = rw n at u in
+      let w = rw n at z in
+      record { is = rw (e, v, w) }
+
+  pub text-fine : p ≡ At a → utf8 (between x (x + y) s) ≡ true → noZero (between x (x + y) s) ≡ true → TextCheck s x y p p
+  text-fine e u z =
+      let n : x + y - x ≡ y = omega arith in
+      let v = rw n at u in
+      let w = rw n at z in
+      record { is = rw (e, v, w) }
 
 -- ---- a span
 
@@ -61,11 +75,9 @@ module _ {lent : List ℕ} {x y : ℕ} {p q : Place} where
   unfolding showString
   str-long c e h = let k = passed c e in record { is = rw (k .place, k .shows, lt-leb y 65535 h) }
 
-  pub str-text : {a : ℕ} {bs : List ℕ} {r : Place} → SpanCheck lent x y p q → q ≡ At a → y ≤ 65535 → Shown lent x y bs → TextCheck bs q r → StrCheck lent x y p r
+  pub str-text : {a : ℕ} {r : Place} → SpanCheck lent x y p q → q ≡ At a → y ≤ 65535 → TextCheck lent x y q r → StrCheck lent x y p r
   unfolding showString
-  str-text c e h s d =
-      let k = passed c e in
-      record { is = rw (k .place, k .shows, le-leb y 65535 h) (rw (e, s .is, k .shows) at (d .is)) }
+  str-text c e h d = let k = passed c e in record { is = rw (k .place, k .shows, le-leb y 65535 h) (rw e at (d .is)) }
 
 -- ---- a string that is read
 
@@ -81,20 +93,15 @@ module _ {s : List ℕ} {p a : Place} {n e : ℕ} {t : Bool} where
   pub str-short : NumRead 2 s p n a → a ≡ At e → Within e n (length s) t → t ≡ false → StrRead s p 0 0 (Refused R.Short)
   str-short r f i h = refused-str (string-short (num-holds (omega arith) r f) (outside i h)) refl
 
-  pub str-bad : {q : Place} {k : Refusal} → NumRead 2 s p n a → a ≡ At e → Within e n (length s) t → t ≡ true → TextCheck (take (e + n - e) (drop e s)) (At (e + n)) q → q ≡ Refused k
-      → StrRead s p 0 0 q
-  str-bad r f i h c g =
-      let m : e + n - e ≡ n = omega arith in
-      refused-str (string-held (num-holds (omega arith) r f) (inside i h) ∙ text-refused (take n (drop e s)) (drop (e + n) s) (rw m at c) g) g
+  pub str-bad : {q : Place} {k : Refusal} → NumRead 2 s p n a → a ≡ At e → Within e n (length s) t → t ≡ true → TextCheck s e n (At (e + n)) q → q ≡ Refused k → StrRead s p 0 0 q
+  str-bad r f i h c g = refused-str (string-held (num-holds (omega arith) r f) (inside i h) ∙ text-refused c (drop (e + n) s) g) g
 
-  pub str-good : {q : Place} {g : ℕ} → NumRead 2 s p n a → a ≡ At e → Within e n (length s) t → t ≡ true → TextCheck (take (e + n - e) (drop e s)) (At (e + n)) q → q ≡ At g
-      → StrRead s p e n q
+  pub str-good : {q : Place} {g : ℕ} → NumRead 2 s p n a → a ≡ At e → Within e n (length s) t → t ≡ true → TextCheck s e n (At (e + n)) q → q ≡ At g → StrRead s p e n q
   unfolding strStart strLen pastStr
   str-good r f i h c g =
-      let m : e + n - e ≡ n = omega arith in
       let l = inside i h in
       let k = num-holds (omega arith) r f in
-      let u = text-passed (take n (drop e s)) (drop (e + n) s) (rw m at c) g in
+      let u = text-passed c (drop (e + n) s) g in
       let v = string-held k l ∙ u .0 in
       let d = length-drop (e + n) s in
       record {

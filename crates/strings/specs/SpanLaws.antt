@@ -125,28 +125,32 @@ string-short {s} {p} {n} {e} h l =
     let g = h .ends in
     string-at s p ∙ rw (h .place, h .reads, raw-short n (drop e s) (simp length-drop (omega arith)))
 
-pub text-refused : (bs r : List ℕ) {n : ℕ} {q : Place} {k : Refusal} → TextCheck bs (At n) q → q ≡ Refused k → okText bs r ≡ bad k
-text-refused bs r {n} {q} {k} c e = go (utf8 bs) (noZero bs) (sym (c .is) ∙ e)
-  where
-    go : (u z : Bool) → checkAt (cond u (cond z (ok bs []) (bad R.ZeroByte)) (bad R.NotUtf8)) (At n) ≡ Refused k
-        → cond u (cond z (ok bs r) (bad R.ZeroByte)) (bad R.NotUtf8) ≡ bad k
-    go true true f = absurd (let z : _≡_ {A = ℕ} 0 1 = cc f in omega arith)
-    go true false f = let g : R.ZeroByte ≡ k = cc f in ap bad g
-    go false z f = let g : R.NotUtf8 ≡ k = cc f in ap bad g
+-- of a span that lies within, and is not too long, the check of a lent string is that of its text
+pub str-is-text : {s : List ℕ} {x y n : ℕ} {q : Place} → x + y ≤ length s → y ≤ 65535 → StrCheck s x y (At n) q → TextCheck s x y (At n) q
+unfolding showString
+str-is-text {s} {x} {y} h l c = record { is = c .is ∙ rw (shown-in s x y h, le-leb y 65535 l) }
 
-pub text-passed : (bs r : List ℕ) {n a : ℕ} {q : Place} → TextCheck bs (At n) q → q ≡ At a → (okText bs r ≡ ok bs r) × (q ≡ At n)
-text-passed bs r {n} {a} {q} c e = go (utf8 bs) (noZero bs) (sym (c .is) ∙ e)
-  where
-    go : (u z : Bool) → checkAt (cond u (cond z (ok bs []) (bad R.ZeroByte)) (bad R.NotUtf8)) (At n) ≡ At a
-        → (cond u (cond z (ok bs r) (bad R.ZeroByte)) (bad R.NotUtf8) ≡ ok bs r) × (q ≡ At n)
-    go true true f = (refl, e ∙ sym f)
-    go true false f = absurd (let z : _≡_ {A = ℕ} 0 1 = cc f in omega arith)
-    go false z f = absurd (let z : _≡_ {A = ℕ} 0 1 = cc f in omega arith)
+-- what the check of a text says of it
+module _ {s : List ℕ} {x y n : ℕ} {q : Place} (c : TextCheck s x y (At n) q) where
+  abbrev text : List ℕ
+  text = take y (drop x s)
 
-pub text-good : (bs : List ℕ) {n a : ℕ} {q : Place} → TextCheck bs (At n) q → q ≡ At a → (utf8 bs ≡ true) × (noZero bs ≡ true)
-text-good bs {n} {a} {q} c e = go (utf8 bs) (noZero bs) (sym (c .is) ∙ e)
-  where
-    go : (u z : Bool) → checkAt (cond u (cond z (ok bs []) (bad R.ZeroByte)) (bad R.NotUtf8)) (At n) ≡ At a → (u ≡ true) × (z ≡ true)
-    go true true f = (refl, refl)
-    go true false f = absurd (let z : _≡_ {A = ℕ} 0 1 = cc f in omega arith)
-    go false z f = absurd (let z : _≡_ {A = ℕ} 0 1 = cc f in omega arith)
+  pub text-refused : {k : Refusal} (r : List ℕ) → q ≡ Refused k → okText text r ≡ bad k
+  text-refused {k} r e = go (utf8 text) (noZero text) (sym (c .is) ∙ e)
+    where
+      go : (u z : Bool) → checkAt (cond u (cond z (ok text []) (bad R.ZeroByte)) (bad R.NotUtf8)) (At n) ≡ Refused k
+          → cond u (cond z (ok text r) (bad R.ZeroByte)) (bad R.NotUtf8) ≡ bad k
+      go true true f = absurd (let z : _≡_ {A = ℕ} 0 1 = cc f in omega arith)
+      go true false f = let g : R.ZeroByte ≡ k = cc f in ap bad g
+      go false z f = let g : R.NotUtf8 ≡ k = cc f in ap bad g
+
+  pub text-good : {a : ℕ} → q ≡ At a → (utf8 text ≡ true) × (noZero text ≡ true)
+  text-good {a} e = go (utf8 text) (noZero text) (sym (c .is) ∙ e)
+    where
+      go : (u z : Bool) → checkAt (cond u (cond z (ok text []) (bad R.ZeroByte)) (bad R.NotUtf8)) (At n) ≡ At a → (u ≡ true) × (z ≡ true)
+      go true true f = (refl, refl)
+      go true false f = absurd (let z : _≡_ {A = ℕ} 0 1 = cc f in omega arith)
+      go false z f = absurd (let z : _≡_ {A = ℕ} 0 1 = cc f in omega arith)
+
+  pub text-passed : {a : ℕ} (r : List ℕ) → q ≡ At a → (okText text r ≡ ok text r) × (q ≡ At n)
+  text-passed r e = let g = text-good e in (rw (g .0, g .1), c .is ∙ rw (g .0, g .1))

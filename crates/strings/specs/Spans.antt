@@ -38,8 +38,8 @@ pub record Shown (lent : List ℕ) (x y : ℕ) (bs : List ℕ) : Type 0 where
   pub is : bs ≡ bytesIn (showSpan lent x y)
 
 -- what the checks of a string's bytes, of a span, and of a lent string answer at p
-pub record TextCheck (bs : List ℕ) (p q : Place) : Type 0 where
-  pub is : q ≡ checkAt (okText bs []) p
+pub record TextCheck (s : List ℕ) (x y : ℕ) (p q : Place) : Type 0 where
+  pub is : q ≡ checkAt (okText (take y (drop x s)) []) p
 
 pub record SpanCheck (lent : List ℕ) (x y : ℕ) (p q : Place) : Type 0 where
   pub is : q ≡ checkAt (showSpan lent x y) p

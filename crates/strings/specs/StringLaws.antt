@@ -41,7 +41,7 @@ took-string xs {bs} {r} h e =
 pub char-one : {s : List ℕ} {i k k' : ℕ} → CharAt s i k → CharAt s i k' → k ≡ k'
 char-one a b = one-answer (a .is) (b .is)
 
-pub text-one : {bs : List ℕ} {p q q' : Place} → TextCheck bs p q → TextCheck bs p q' → q ≡ q'
+pub text-one : {s : List ℕ} {x y : ℕ} {p q q' : Place} → TextCheck s x y p q → TextCheck s x y p q' → q ≡ q'
 text-one a b = one-answer (a .is) (b .is)
 
 module _ {lent : List ℕ} {x y : ℕ} where

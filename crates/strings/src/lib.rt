@@ -3,7 +3,7 @@
 use numbers::Place;
 use numbers::Refusal;
 ghost use mathlib.Core.Path.{_≡_};
-ghost use Prim.Native.Nat.{_+_, _≤_, min};
+ghost use Prim.Native.Nat.{_+_, _≤_};
 ghost use lib.ListN.{length, take, drop};
 ghost use Rattle.numbers.specs.Places.{over};
 ghost use Rattle.strings.specs.Spans.{TextCheck, Shown, SpanCheck, StrCheck, StrRead, SpanPut, StrPut};
@@ -18,26 +18,6 @@ pub struct Span {
 pub struct ReadSpan {
     pub value: Span,
     pub next: Place,
-}
-
-// The check of a string's bytes: the place itself; or 5, then 6.
-pub fn check_text(s: &[u8], p: Place) -> Place
-    ensures { λ r. ⌜ TextCheck (now (s .entry)) p r ⌝ }
-{
-    let Place::At(_) = p else {
-        return p;
-    };
-    let e = utf8::extremes_of(s);
-    if 128 <= e.high {
-        let well_formed = utf8::all_characters(s);
-        if !well_formed {
-            return Place::Refused(Refusal::NotUtf8);
-        }
-    }
-    if e.low == 0 {
-        return Place::Refused(Refusal::ZeroByte);
-    }
-    p
 }
 
 // The part of the lent bytes that a span shows; the empty part where it lies outside them.
@@ -66,6 +46,31 @@ pub fn check_span(lent: &[u8], v: Span, p: Place) -> Place
     Place::Refused(Refusal::SpanOutside)
 }
 
+// The check of a string's bytes, a part of some bytes: the place itself; or 5, then 6. It is lent all of them, and not the part cut out,
+// so that a position in the text counts as the span does.
+fn check_text(s: &[u8], v: Span, p: Place) -> Place
+    requires { ⌜ v .start + v .len ≤ length (now s) ⌝ }
+    ensures { λ r. ⌜ TextCheck (now (s .entry)) (v .start) (v .len) p r ⌝ }
+{
+    let Place::At(_) = p else {
+        return p;
+    };
+    let start = v.start;
+    let end = start + v.len;
+    let text = &s[start..end];
+    let e = utf8::extremes_of(text);
+    if 128 <= e.high {
+        let well_formed = utf8::all_characters(text);
+        if !well_formed {
+            return Place::Refused(Refusal::NotUtf8);
+        }
+    }
+    if e.low == 0 {
+        return Place::Refused(Refusal::ZeroByte);
+    }
+    p
+}
+
 // A string of the lent bytes that is to be written: the place itself; or 9, 7, 5, 6.
 pub fn check_str(lent: &[u8], v: Span, p: Place) -> Place
     ensures { λ r. ⌜ StrCheck (now (lent .entry)) (v .start) (v .len) p r ⌝ }
@@ -77,7 +82,7 @@ pub fn check_str(lent: &[u8], v: Span, p: Place) -> Place
     if 65535 < v.len {
         return Place::Refused(Refusal::StringTooLong);
     }
-    check_text(shown(lent, v), q)
+    check_text(lent, v, q)
 }
 
 // A string at a place: count, bytes, UTF-8, zero byte.
@@ -96,14 +101,14 @@ pub fn read_str(s: &[u8], p: Place) -> ReadSpan
     let len = count.value as usize;
     if numbers::within(start, len, s.len()) {
         let end = start + len;
-        let q = check_text(&s[start..end], Place::At(end));
+        let some = Span { start, len };
+        let q = check_text(s, some, Place::At(end));
         let Place::At(_) = q else {
             return ReadSpan {
                 value: none,
                 next: q,
             };
         };
-        let some = Span { start, len };
         return ReadSpan {
             value: some,
             next: q,
@@ -138,16 +143,6 @@ fn copy_block(out: &mut [u8], at: usize, lent: &[u8], start: usize, len: usize)
     copy_bytes(out, at, &block, 0, len);
 }
 
-// How many of the bytes that are left the next block takes.
-fn block_of(left: usize) -> usize
-    ensures { λ r. ⌜ r ≡ min left 65536 ⌝ }
-{
-    if left < 65536 {
-        return left;
-    }
-    65536
-}
-
 // What `copy_bytes` does, block by block.
 fn copy(out: &mut [u8], at: usize, lent: &[u8], start: usize, len: usize)
     requires { ⌜ (at + len ≤ length (now out)) × (start + len ≤ length (now lent)) ⌝ }
@@ -155,7 +150,7 @@ fn copy(out: &mut [u8], at: usize, lent: &[u8], start: usize, len: usize)
 {
     let mut done = 0;
     while done < len {
-        let n = block_of(len - done);
+        let n = numbers::min(len - done, 65536);
         copy_block(out, at + done, lent, start + done, n);
         done += n;
     }

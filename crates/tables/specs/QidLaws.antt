@@ -13,16 +13,19 @@ use Rattle.numbers.specs.Reading.{ok}
 use Rattle.numbers.specs.ReadingLaws.{or-else}
 use Rattle.numbers.specs.Places.{over, putAt, pastPut, Put}
 use Rattle.numbers.specs.PlaceLaws.{length-over, put-then}
+use Rattle.numbers.specs.declared.Refusal.{Refusal}
 use Rattle.numbers.specs.declared.Refusal.the-variants as R
 use Rattle.numbers.specs.declared.Place.{Place}
 use Rattle.numbers.specs.declared.Place.the-variants.{At, Refused}
 use Rattle.fields.specs.Layouts.{Item, number, itemBytes, itemsBytes}
+use Rattle.fields.specs.Fields.{CountCheck}
+use Rattle.fields.specs.FieldLaws.{count-passed, count-refused}
 use Rattle.laying.specs.Laying.{limit}
 use Rattle.layouts.specs.declared.qids.Qid.{Qid}
 use Rattle.framing.specs.Writing.{headBytes, frameBytes, frameOut, framePast, HeadPut}
 use Rattle.framing.specs.WritingLaws.{head-length, put-fits, past-fits, put-over, put-full, frame-length, over-none}
 use Rattle.tables.specs.Tables.{qidItems, RwalkWritten}
-use Rattle.tables.specs.Qids.{noQid, qidBytes, putQid, placed, toFollow, headed, answerOf}
+use Rattle.tables.specs.Qids.{noQid, qidBytes, putQid, placed, rwalkPast, allOf, toFollow, headAt, headed}
 
 -- ---- the qids, one after the other
 
@@ -86,8 +89,9 @@ qid-put at i x {o} h p1 p2 p3 =
 
 -- ---- the head
 
-pub head-count : (n tag : ℕ) {o o1 o2 : List ℕ} {q r : Place} → n ≤ 65535 → 9 + 13 * n ≤ length o → HeadPut 111 tag (At (9 + 13 * n)) o o1 q → Put (toLE 2 n) o1 (At 7) o2 r → o2 ≡ headed o tag n
-head-count n tag {o} {o1} h l a b =
+head-count : (n tag : ℕ) {o o1 o2 : List ℕ} {q r : Place} → 9 + 13 * n ≤ length o → HeadPut 111 tag (At (9 + 13 * n)) o o1 q → Put (toLE 2 n) o1 (At 7) o2 r
+    → o2 ≡ over o 0 (headBytes (9 + 13 * n) 111 tag ++ toLE 2 n)
+head-count n tag {o} {o1} l a b =
     let hd : List ℕ = headBytes (9 + 13 * n) 111 tag in
     let k : length hd ≡ 7 = head-length (9 + 13 * n) 111 tag in
     let c : length (toLE 2 n) ≡ 2 = length-toLE 2 n in
@@ -95,29 +99,55 @@ head-count n tag {o} {o1} h l a b =
     let e : o1 ≡ over o 0 hd = a .bytes ∙ put-fits hd o 0 (omega arith) in
     let m : length o1 ≡ length o = ap length e ∙ length-over o 0 hd (omega arith) in
     b .bytes ∙ put-fits (toLE 2 n) o1 7 (omega arith) ∙ ap (λ (z : List ℕ). over z 7 (toLE 2 n)) e ∙ over-on o 0 7 hd (toLE 2 n) (omega arith) (omega arith)
-    ∙ rw (le-ltb 65535 n h, le-ltb (length o) (9 + 13 * n) l)
 
-pub head-none : (n tag : ℕ) (o : List ℕ) → 65535 < n → (0 ≡ toFollow (length o) n) × (o ≡ headed o tag n)
-head-none n tag o h = let f = lt-ltb 65535 n h in (rw f, rw f)
+-- where the frame ends
 
-pub head-full : (n tag : ℕ) (o : List ℕ) → n ≤ 65535 → length o < 9 + 13 * n → (0 ≡ toFollow (length o) n) × (o ≡ headed o tag n)
-head-full n tag o h l = let f = le-ltb 65535 n h in let g = lt-ltb (length o) (9 + 13 * n) l in (rw (f, g), rw (f, g))
+pub past-long : (room n : ℕ) {p : Place} {k : Refusal} → CountCheck n (At 9) p → p ≡ Refused k → p ≡ rwalkPast room n
+past-long room n c e =
+    let f = lt-ltb 65535 n (count-refused c e) in
+    let g = rw f at (c .is) in
+    rw f g
 
-pub all-follow : (n room : ℕ) → n ≤ 65535 → 9 + 13 * n ≤ room → n ≡ toFollow room n
-all-follow n room h l = rw (le-ltb 65535 n h, le-ltb room (9 + 13 * n) l)
+module _ (room n : ℕ) {p : Place} {a : ℕ} (c : CountCheck n (At 9) p) (e : p ≡ At a) where
+  -- the place that the count was tested at, and the count
+  pub past-head : (n ≤ 65535) × (9 ≡ a)
+  past-head = count-passed c e
 
-pub answer-long : (room n : ℕ) → 65535 < n → Refused R.TableTooLong ≡ answerOf room n
-answer-long room n h = rw (lt-ltb 65535 n h)
+  pub past-full : room < a + 13 * n → Refused R.NoRoom ≡ rwalkPast room n
+  past-full l = let h = past-head in rw (le-ltb 65535 n (h .0), lt-ltb room (9 + 13 * n) (rw (← (h .1)) at l))
 
-pub answer-full : (room n : ℕ) → n ≤ 65535 → room < 9 + 13 * n → Refused R.NoRoom ≡ answerOf room n
-answer-full room n h l = rw (le-ltb 65535 n h, lt-ltb room (9 + 13 * n) l)
+  pub past-room : a + 13 * n ≤ room → At (a + 13 * n) ≡ rwalkPast room n
+  past-room l = let h = past-head in rw (← (h .1)) (rw (le-ltb 65535 n (h .0), le-ltb room (9 + 13 * n) (rw (← (h .1)) at l)))
 
-pub answer-fits : (room n : ℕ) → n ≤ 65535 → 9 + 13 * n ≤ room → At (9 + 13 * n) ≡ answerOf room n
-answer-fits room n h l = rw (le-ltb 65535 n h, le-ltb room (9 + 13 * n) l)
+-- what is known where it can be written
+pub record Fitting (room n e : ℕ) : Type 0 where
+  pub count : n ≤ 65535
+  pub size : e ≡ 9 + 13 * n
+  pub held : 9 + 13 * n ≤ room
+
+pub fitting : (room n : ℕ) {e : ℕ} → rwalkPast room n ≡ At e → Fitting room n e
+fitting room n {e} f =
+    or-else n 65535
+    (λ h.
+    let c = le-ltb 65535 n h in
+    or-else (9 + 13 * n) room
+    (λ l. let d = rw (c, le-ltb room (9 + 13 * n) l) at f in let z : 9 + 13 * n ≡ e = cc d in record { count = h; size = sym z; held = l })
+    (λ l. absurd (let d = rw (c, lt-ltb room (9 + 13 * n) l) at f in let z : _≡_ {A = ℕ} 0 1 = cc d in omega arith)))
+    (λ h. absurd (let d = rw (lt-ltb 65535 n h) at f in let z : _≡_ {A = ℕ} 0 1 = cc d in omega arith))
+
+pub head-none : (n tag : ℕ) (o : List ℕ) {p : Place} {k : Refusal} → p ≡ rwalkPast (length o) n → p ≡ Refused k → (0 ≡ toFollow (length o) n) × (o ≡ headed o tag n)
+head-none n tag o f g = let d = sym f ∙ g in (ap (λ p. allOf n p) (sym d), ap (λ p. headAt o tag n p) (sym d))
+
+pub head-put : (n tag : ℕ) (o : List ℕ) {e : ℕ} {o1 o2 : List ℕ} {p q r : Place} → p ≡ rwalkPast (length o) n → p ≡ At e → HeadPut 111 tag p o o1 q → Put (toLE 2 n) o1 (At 7) o2 r
+    → (n ≡ toFollow (length o) n) × (o2 ≡ headed o tag n)
+head-put n tag o {e} f g a b =
+    let k = fitting (length o) n (sym f ∙ g) in
+    let d : rwalkPast (length o) n ≡ At (9 + 13 * n) = sym f ∙ g ∙ ap At (k .size) in
+    (ap (λ p. allOf n p) (sym d), head-count n tag (k .held) (rw (g ∙ ap At (k .size)) at a) b ∙ ap (λ p. headAt o tag n p) (sym d))
 
 -- ---- the frame
 
-module _ (tag : ℕ) (t : List Qid) (o : List ℕ) {r : Place} (e : r ≡ answerOf (length o) (length t)) where
+module _ (tag : ℕ) (t : List Qid) (o : List ℕ) {r : Place} (e : r ≡ rwalkPast (length o) (length t)) where
   abbrev n : ℕ
   n = length t
 

@@ -9,6 +9,8 @@ use Rattle.numbers.specs.Places.{over}
 use Rattle.numbers.specs.declared.Refusal.the-variants as R
 use Rattle.numbers.specs.declared.Place.{Place}
 use Rattle.numbers.specs.declared.Place.the-variants.{At, Refused}
+use Rattle.strings.specs.Spans.{checkAt}
+use Rattle.fields.specs.Layouts.{okCount}
 use Rattle.layouts.specs.declared.qids.Qid.{Qid}
 use Rattle.framing.specs.Writing.{headBytes}
 
@@ -28,14 +30,26 @@ abbrev pub placed : List ℕ → ℕ → List Qid → ℕ → List ℕ
 placed l at t zero = l
 placed l at t (suc k) = putQid (placed l at t k) at k (getD t k noQid)
 
+-- where the frame ends: 8, then 11, else its length
+abbrev roomFor : ℕ → Place → Place
+roomFor room (At n) = cond (ltb room n) (Refused R.NoRoom) (At n)
+roomFor room (Refused k) = Refused k
+
+abbrev pub rwalkPast : ℕ → ℕ → Place
+rwalkPast room n = roomFor room (checkAt (okCount n) (At (9 + 13 * n)))
+
 -- how many qids are to follow the head: all, or none where the frame is refused
+abbrev pub allOf : ℕ → Place → ℕ
+allOf n (At e) = n
+allOf n (Refused k) = 0
+
 abbrev pub toFollow : ℕ → ℕ → ℕ
-toFollow room n = cond (ltb 65535 n) 0 (cond (ltb room (9 + 13 * n)) 0 n)
+toFollow room n = allOf n (rwalkPast room n)
 
 -- the header and the count; or nothing where the frame is refused
-abbrev pub headed : List ℕ → ℕ → ℕ → List ℕ
-headed l tag n = cond (ltb 65535 n) l (cond (ltb (length l) (9 + 13 * n)) l (over l 0 (headBytes (9 + 13 * n) 111 tag ++ toLE 2 n)))
+abbrev pub headAt : List ℕ → ℕ → ℕ → Place → List ℕ
+headAt l tag n (At e) = over l 0 (headBytes e 111 tag ++ toLE 2 n)
+headAt l tag n (Refused k) = l
 
--- 8, then 11, else the frame's length
-abbrev pub answerOf : ℕ → ℕ → Place
-answerOf room n = cond (ltb 65535 n) (Refused R.TableTooLong) (cond (ltb room (9 + 13 * n)) (Refused R.NoRoom) (At (9 + 13 * n)))
+abbrev pub headed : List ℕ → ℕ → ℕ → List ℕ
+headed l tag n = headAt l tag n (rwalkPast (length l) n)

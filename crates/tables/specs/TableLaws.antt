@@ -15,6 +15,8 @@ use Rattle.numbers.specs.declared.Refusal.the-variants as R
 use Rattle.numbers.specs.declared.Place.{Place}
 use Rattle.numbers.specs.declared.Place.the-variants.{At, Refused}
 use Rattle.numbers.specs.Reading.{Result}
+use Rattle.fields.specs.Fields.{CountCheck}
+use Rattle.fields.specs.FieldLaws.{count-passed, count-refused}
 use Rattle.fields.specs.Layouts.{Layout, num, str, Item}
 use Rattle.fields.specs.Values.{Value, val, span}
 use Rattle.laying.specs.Laying.{FieldLaid, Laid, NumLaid, Begun}
@@ -51,17 +53,24 @@ walk-laid t f g h l = lay (lay-num f) (lay (lay-num g) (lay (lay-num h) l))
 -- ---- the frame
 
 module _ {tag fid newfid : ℕ} {lent : List ℕ} {t : List (List ℕ)} {o : List ℕ} where
-  pub twalk-long : 65535 < length t → TwalkWritten tag fid newfid lent t o o (Refused R.TableTooLong)
+  pub twalk-long : {p : Place} {k : Refusal} → CountCheck (length t) (At 7) p → p ≡ Refused k → TwalkWritten tag fid newfid lent t o o p
   unfolding frameOut framePast
-  twalk-long h = record { is = record { bytes = rw (lt-ltb 65535 (length t) h); next = rw (lt-ltb 65535 (length t) h) } }
+  twalk-long c e =
+      let f = lt-ltb 65535 (length t) (count-refused c e) in
+      let g = rw f at (c .is) in
+      record { is = record { bytes = rw f; next = rw f g } }
 
   in-table : {n : ℕ} {o' : List ℕ} {q : Place} → length t ≤ 65535 → n ≡ length t → FrameWritten (walkFields t) 110 tag lent (walkValues fid newfid n t) o o' q
       → TwalkWritten tag fid newfid lent t o o' q
   in-table h e w = let f = le-ltb 65535 (length t) h in record { is = record { bytes = rw (f, ← e) (w .bytes); next = rw (f, ← e) (w .next) } }
 
-  pub twalk-put : {n : ℕ} {o1 o2 o3 : List ℕ} {e q r z : Place} → Bytes lent → length t ≤ 65535 → n ≡ length t → Laid (walkFields t) lent (walkValues fid newfid n t) false o (At 7) o1 e
-      → Begun (At 7) e (length o1) q → Laid (walkFields t) lent (walkValues fid newfid n t) true o1 q o2 r → HeadPut 110 tag r o2 o3 z → TwalkWritten tag fid newfid lent t o o3 z
-  twalk-put b h m c s l d = in-table h m (frame-written (written b c s l) d)
+  pub twalk-put : {n : ℕ} {o1 o2 o3 : List ℕ} {a : ℕ} {p e q r z : Place} → Bytes lent → CountCheck (length t) (At 7) p → p ≡ At a → n ≡ length t
+      → Laid (walkFields t) lent (walkValues fid newfid n t) false o p o1 e → Begun p e (length o1) q → Laid (walkFields t) lent (walkValues fid newfid n t) true o1 q o2 r
+      → HeadPut 110 tag r o2 o3 z → TwalkWritten tag fid newfid lent t o o3 z
+  twalk-put b k f m c s l d =
+      let i = count-passed k f in
+      let g = f ∙ ap At (sym (i .1)) in
+      in-table (i .0) m (frame-written (written b (rw g at c) (rw g at s) l) d)
 
 -- ---- one answer
 

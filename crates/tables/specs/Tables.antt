@@ -1,14 +1,11 @@
 -- Document 01, "Writing one frame": "Names may also come as a lent table of spans, and the qids of an Rwalk as a lent table of qids, each 13 bytes on the wire; there 8 comes before any element."
 use Prim.Native.Nat.{ℕ}
 use mathlib.Core.Path.{_≡_}
-use mathlib.Core.Bool.{cond}
 use mathlib.Core.List.{List, [], _∷_, map}
 use lib.ListN.{length, getD}
-use lib.Dec.{ltb}
-use Rattle.numbers.specs.Reading.{Result, ok, bad}
-use Rattle.numbers.specs.declared.Refusal.the-variants as R
+use Rattle.numbers.specs.Reading.{Result, ok, after}
 use Rattle.numbers.specs.declared.Place.{Place}
-use Rattle.fields.specs.Layouts.{Field, num, str, Layout, Item, number}
+use Rattle.fields.specs.Layouts.{Field, num, str, Layout, Item, number, okCount}
 use Rattle.fields.specs.Values.{Value, val, span, shows}
 use Rattle.layouts.specs.declared.qids.Qid.{Qid}
 use Rattle.framing.specs.Writing.{frameOut, framePast}
@@ -20,7 +17,7 @@ pub record TableWritten (ty tag : ℕ) (m : Result (List Item)) (o o' : List ℕ
 
 -- "8 comes before any element"
 abbrev pub fromTable : ℕ → Result (List Item) → Result (List Item)
-fromTable n m = cond (ltb 65535 n) (bad R.TableTooLong) m
+fromTable n m = after (okCount n) (λ _ _. m)
 
 -- ---- names: a row of the table is a span, its start and its length
 

@@ -11,7 +11,7 @@ ghost use Prim.Native.Nat.{_+_, _*_, _<_, _≤_};
 ghost use lib.ListN.{length};
 ghost use Rattle.laying.specs.Laying.{Laid};
 ghost use Rattle.tables.specs.Tables.{nameFields, nameValues, walkFields, walkValues, TwalkWritten, RwalkWritten};
-ghost use Rattle.tables.specs.Qids.{putQid, placed, toFollow, headed, answerOf};
+ghost use Rattle.tables.specs.Qids.{putQid, placed, rwalkPast, toFollow, headed};
 
 // The names of a table, in order, each a string. A row of the table is a span: its start and its length.
 fn lay_names(out: &mut [u8], p: Place, lent: &[u8], names: &[[usize; 2]], put: bool) -> Place
@@ -60,11 +60,11 @@ pub fn write_twalk(
 ) -> Place
     ensures { λ r. ⌜ TwalkWritten (tag .0) (fid .0) (newfid .0) (now (lent .entry)) (now (names .entry)) (now (out .entry)) (now (out .exit)) r ⌝ }
 {
-    if 65535 < names.len() {
-        return Place::Refused(Refusal::TableTooLong);
-    }
+    let p = fields::check_count(names.len(), Place::At(7));
+    let Place::At(_) = p else {
+        return p;
+    };
     let count = names.len() as u16;
-    let p = Place::At(7);
     let end = lay_twalk(out, p, fid, newfid, count, lent, names, laying::CHECK);
     let start = laying::begun(p, end, out.len());
     let past = lay_twalk(out, start, fid, newfid, count, lent, names, laying::PUT);
@@ -94,34 +94,32 @@ fn put_qids(out: &mut [u8], at: usize, qids: &[Qid], count: usize)
     }
 }
 
-// What stands before the qids of an Rwalk, put if the frame can be written; and how many qids are to follow it.
-fn rwalk_head(out: &mut [u8], tag: Tag, count: usize) -> usize
-    ensures { λ r. ⌜ (r ≡ toFollow (length (now (out .entry))) count) × (now (out .exit) ≡ headed (now (out .entry)) (tag .0) count) ⌝ }
+// Where an Rwalk of so many qids ends in so much room: 8, then 11, else the frame's length. It is below the limit of 10.
+fn rwalk_past(room: usize, count: usize) -> Place
+    ensures { λ r. ⌜ r ≡ rwalkPast room count ⌝ }
 {
-    if 65535 < count {
-        return 0;
-    }
-    let size = 9 + 13 * count;
-    if out.len() < size {
-        return 0;
-    }
-    framing::put_header(out, Place::At(size), 111, tag.0);
-    numbers::put_u16(out, Place::At(7), count as u16);
-    count
-}
-
-// What writing so many qids into so much room answers: 8, then 11, else the frame's length. It is below the limit of 10.
-fn rwalk_answer(room: usize, count: usize) -> Place
-    ensures { λ r. ⌜ r ≡ answerOf room count ⌝ }
-{
-    if 65535 < count {
-        return Place::Refused(Refusal::TableTooLong);
-    }
-    let size = 9 + 13 * count;
+    let p = fields::check_count(count, Place::At(9));
+    let Place::At(head) = p else {
+        return p;
+    };
+    let size = head + 13 * count;
     if room < size {
         return Place::Refused(Refusal::NoRoom);
     }
     Place::At(size)
+}
+
+// What stands before the qids of an Rwalk, put if the frame can be written; and how many qids are to follow it.
+fn rwalk_head(out: &mut [u8], tag: Tag, count: usize) -> usize
+    ensures { λ r. ⌜ (r ≡ toFollow (length (now (out .entry))) count) × (now (out .exit) ≡ headed (now (out .entry)) (tag .0) count) ⌝ }
+{
+    let end = rwalk_past(out.len(), count);
+    let Place::At(_) = end else {
+        return 0;
+    };
+    framing::put_header(out, end, 111, tag.0);
+    numbers::put_u16(out, Place::At(7), count as u16);
+    count
 }
 
 // An Rwalk whose qids are a table of structs: 8; then 11. The answer is its length.
@@ -131,5 +129,5 @@ pub fn write_rwalk(out: &mut [u8], tag: Tag, qids: &[Qid]) -> Place
 {
     let count = rwalk_head(&mut *out, tag, qids.len());
     put_qids(&mut *out, 9, qids, count);
-    rwalk_answer(out.len(), qids.len())
+    rwalk_past(out.len(), qids.len())
 }

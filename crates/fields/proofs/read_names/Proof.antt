@@ -12,10 +12,10 @@ enum-told : tie.Need-enum-told
 enum-told c = search needs
 
 returns : tie.Need-returns
-returns c = strs-cut (c .before .before .before .read-u16 .ensures) (c .before .enum-told .given .1) (c .no-part .ensures)
+returns c = strs-cut (c .before .before .before .read-count .ensures) (c .before .enum-told .given .1) (c .no-part .ensures)
 
 scan-names-requires : tie.Need-scan-names-requires
-scan-names-requires c κs = count-lies (c .before .before .before .read-u16 .ensures) (c .before .a .given .1)
+scan-names-requires c κs = count-lies (c .before .before .before .read-count .ensures) (c .before .a .given .1)
 
 enum-known-end : tie.Need-enum-known-end
 enum-known-end c = search needs
@@ -27,7 +27,7 @@ returns-2 : tie.Need-returns-2
 returns-2 c =
     let d = c .before .before .before in
     let e = d .before .before in
-    strs-bad (e .before .before .read-u16 .ensures) (e .a .given .1) (d .scan-names .ensures) (c .before .enum-told2 .given .1) (c .no-part2 .ensures)
+    strs-bad (e .before .before .read-count .ensures) (e .a .given .1) (d .scan-names .ensures) (c .before .enum-told2 .given .1) (c .no-part2 .ensures)
 
 sub-len : tie.Need-sub-len
 sub-len c =
@@ -35,7 +35,7 @@ sub-len c =
     let e = d .before .before in
     let r = e .before .before in
     let b = bytes-all (r .before .before .args .s .now) (λ i. r .before .shared-slice-known .given i .fits) in
-    strs-on b (r .read-u16 .ensures) (e .a .given .1) (d .scan-names .ensures) (c .before .end .given .1)
+    strs-on b (r .read-count .ensures) (e .a .given .1) (d .scan-names .ensures) (c .before .end .given .1)
 
 returns-3 : tie.Need-returns-3
 returns-3 c =
@@ -43,7 +43,7 @@ returns-3 c =
     let e = d .before .before in
     let r = e .before .before in
     let b = bytes-all (r .before .before .args .s .now) (λ i. r .before .shared-slice-known .given i .fits) in
-    strs-good b (r .read-u16 .ensures) (e .a .given .1) (d .scan-names .ensures) (c .before .end .given .1)
+    strs-good b (r .read-count .ensures) (e .a .given .1) (d .scan-names .ensures) (c .before .end .given .1)
 
 pub read-names-spec : {M : Type 1} → statement M
 read-names-spec =

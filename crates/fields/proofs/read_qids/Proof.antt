@@ -12,7 +12,7 @@ enum-told : tie.Need-enum-told
 enum-told c = search needs
 
 returns : tie.Need-returns
-returns c = quids-cut (c .before .before .before .read-u16 .ensures) (c .before .enum-told .given .1) (c .no-part .ensures)
+returns c = quids-cut (c .before .before .before .read-count .ensures) (c .before .enum-told .given .1) (c .no-part .ensures)
 
 cast-len : tie.Need-cast-len
 cast-len c = search needs
@@ -26,12 +26,12 @@ add-end c = omega (arith, inside (c .before .within .ensures) (c .if1 .taken))
 returns-2 : tie.Need-returns-2
 returns-2 c =
     let d = c .before .before .before .before in
-    quids-good (d .before .before .read-u16 .ensures) (d .a .given .1) (c .before .within .ensures) (c .if1 .taken)
+    quids-good (d .before .before .read-count .ensures) (d .a .given .1) (c .before .within .ensures) (c .if1 .taken)
 
 returns-3 : tie.Need-returns-3
 returns-3 c =
     let d = c .before .before .before .before .before in
-    quids-short (d .before .before .read-u16 .ensures) (d .a .given .1) (c .before .before .within .ensures) (c .before .if1 .left) (c .no-part2 .ensures)
+    quids-short (d .before .before .read-count .ensures) (d .a .given .1) (c .before .before .within .ensures) (c .before .if1 .left) (c .no-part2 .ensures)
 
 pub read-qids-spec : {M : Type 1} → statement M
 read-qids-spec =

@@ -1,10 +1,13 @@
 -- The outer invariant: what is left to scan comes to what was asked. The inner one: what is left of the text is what all of it is.
-use Prim.Native.Nat.{_≤_, _-_, _+_}
+use Prim.Native.Nat.{_≤_, _<_, _-_, _+_}
 use mathlib.Core.Path.{_≡_, refl, sym, _∙_}
 use native.Mathlib.Omega.{arith}
 use borrow.Author.Needs.{needs}
 use lib.ListN.{length, drop}
+use Rattle.numbers.specs.Numbers.{bytes-all}
 use Rattle.numbers.specs.Places.{restAt}
+use Rattle.numbers.specs.PlaceLaws.{num-fits}
+use Rattle.strings.specs.SpanLaws.{str-is-text}
 use Rattle.fields.specs.Layouts.{readMany}
 use Rattle.fields.proofs.Names.{Left, Same, from-front, plain-run, all-good, the-name, name-length, none-left, count-cut, bytes-cut, text-bad, one-off}
 use Rattle.fields.proofs.scan_names.Statement.{statement}
@@ -84,7 +87,7 @@ loop-less-2 c = omega arith
 loop-again-2 : tie.Need-loop-again-2 Inv-loop μ-loop Inv-names μ-names
 loop-again-2 c =
     let l = c .before .before .before .before .before .before .loop in
-    (omega arith, l .inv .1, all-good _ _ (l .inv .1) (c .before .before .check-text .ensures) (c .enum-told2 .given .1))
+    (omega arith, l .inv .1, all-good _ (l .inv .1) (str-is-text (omega arith) (omega arith) (c .before .before .check-str .ensures)) (c .enum-told2 .given .1))
 
 sub-n : tie.Need-sub-n Inv-loop μ-loop Inv-names μ-names
 sub-n c = search needs
@@ -125,8 +128,10 @@ returns-5 : tie.Need-returns-5 Inv-loop μ-loop Inv-names μ-names
 returns-5 c =
     let a = c .before .before .before .before .before .before .before .before .before .before .before .before in
     let r = a .before .before in
-    let m = the-name (r .read-u16 .ensures) (a .a .given .1) (omega arith) in
-    record { next = text-bad (r .before .if1 .left) m (c .before .before .check-text .ensures) (c .enum-told3 .given .1) (r .before .before .names .inv .1) }
+    let m = the-name (r .read-u16 .ensures) (a .a .given .1) (omega (arith, c .before .before .before .before .before .before .before .before .before .if2 .left, c .before .before .before .before .before .before .before .before .if3 .left)) in
+    let b = bytes-all (r .before .before .before .before .args .s .now) (λ i. r .before .before .before .shared-slice-known .given i .fits) in
+    let f : r .read-u16 .result .value < 65536 = num-fits b (r .read-u16 .ensures) in
+    record { next = text-bad (r .before .if1 .left) m (str-is-text (m .lies) (omega arith) (c .before .before .check-str .ensures)) (c .enum-told3 .given .1) (r .before .before .names .inv .1) }
 
 pub scan-names-spec : {M : Type 1} → statement M
 scan-names-spec =

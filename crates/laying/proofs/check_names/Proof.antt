@@ -1,6 +1,9 @@
 use borrow.Author.Needs.{needs}
 use native.Mathlib.Omega.{arith}
+use mathlib.Core.Path.{sym}
+use lib.Seq.{length-take-le}
 use Rattle.numbers.specs.Numbers.{bytes-all}
+use Rattle.strings.specs.SpanLaws.{span-lies}
 use Rattle.laying.proofs.Lays.{strs-outside, strs-scanned}
 use Rattle.laying.proofs.check_names.Statement.{statement}
 use Rattle.laying.proofs.check_names.Tie as tie
@@ -12,16 +15,32 @@ enum-told-2 : tie.Need-enum-told-2
 enum-told-2 c = search needs
 
 returns : tie.Need-returns
-returns c = strs-outside (c .before .before .check-span .ensures) (c .enum-told2 .given .1)
+returns c = strs-outside (c .before .before .check-part .ensures) (c .enum-told2 .given .1)
+
+add-stop : tie.Need-add-stop
+add-stop c = omega (arith, span-lies (c .before .before .before .check-part .ensures) (c .before .enum-told .given .1))
+
+slice-aggregate-scan : tie.Need-slice-aggregate-scan
+slice-aggregate-scan c =
+    sym (length-take-le _ _ (span-lies (c .before .before .before .before .check-part .ensures) (c .before .before .enum-told .given .1)))
 
 returns-2 : tie.Need-returns-2
 returns-2 c =
-    let d = c .before .before .before in
+    let d = c .before .before .before .before in
     let e = d .before .before in
     let b = bytes-all (e .before .before .before .args .lent .now) (λ i. e .before .before .shared-slice-known .given i .fits) in
-    strs-scanned b (e .check-span .ensures) (d .enum-told .given .1) (c .before .before .shown .ensures) (c .before .scan .ensures) (c .filled .ensures)
+    strs-scanned b (e .check-part .ensures) (d .enum-told .given .1) (c .before .scan .ensures) (c .filled .ensures)
 
 pub check-names-spec : {M : Type 1} → statement M
 check-names-spec =
     tie.close
-    (tie.spec (λ _ _. tt) enum-told enum-told-2 returns (λ _ _. tt) (λ _ _. tt) (λ _ _. tt) returns-2)
+    (tie.spec
+    (λ _ _. tt)
+    enum-told
+    enum-told-2
+    returns
+    add-stop
+    slice-aggregate-scan
+    (λ _ _. tt)
+    (λ _ _. tt)
+    returns-2)

@@ -10,7 +10,7 @@ enum-told-2 : tie.Need-enum-told-2
 enum-told-2 c = search needs
 
 returns : tie.Need-returns
-returns c = quids-outside (c .before .before .check-span .ensures) (c .enum-told2 .given .1)
+returns c = quids-outside (c .before .before .check-part .ensures) (c .enum-told2 .given .1)
 
 cast-if1 : tie.Need-cast-if1
 cast-if1 c = search needs
@@ -21,12 +21,12 @@ mul-if1 c = search needs
 returns-2 : tie.Need-returns-2
 returns-2 c =
     let d = c .before .before .before in
-    quids-fine (d .before .before .check-span .ensures) (d .enum-told .given .1) (c .if1 .taken)
+    quids-fine (d .before .before .check-part .ensures) (d .enum-told .given .1) (c .if1 .taken)
 
 returns-3 : tie.Need-returns-3
 returns-3 c =
     let d = c .before .before .before in
-    quids-malformed (d .before .before .check-span .ensures) (d .enum-told .given .1) (c .if1 .left)
+    quids-malformed (d .before .before .check-part .ensures) (d .enum-told .given .1) (c .if1 .left)
 
 pub check-qids-spec : {M : Type 1} → statement M
 check-qids-spec =

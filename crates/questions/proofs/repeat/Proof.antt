@@ -12,14 +12,14 @@ Inv-loop out₀ count most back end i₀ out i = length out ≡ length out₀
 abbrev μ-loop : tie.MeasureT-loop
 μ-loop out₀ count most back end i₀ out i = end - i
 
-lesser-requires : tie.Need-lesser-requires Inv-loop μ-loop
-lesser-requires c κs = search needs
+min-requires : tie.Need-min-requires Inv-loop μ-loop
+min-requires c κs = search needs
 
 loop-holds : tie.Need-loop-holds Inv-loop μ-loop
 loop-holds c = search needs
 
-lesser-requires-2 : tie.Need-lesser-requires-2 Inv-loop μ-loop
-lesser-requires-2 c κs = search needs
+min-requires-2 : tie.Need-min-requires-2 Inv-loop μ-loop
+min-requires-2 c κs = search needs
 
 sub-out : tie.Need-sub-out Inv-loop μ-loop
 sub-out c = search needs
@@ -51,9 +51,9 @@ repeat-spec =
     (tie.spec
     Inv-loop
     μ-loop
-    lesser-requires
+    min-requires
     loop-holds
-    lesser-requires-2
+    min-requires-2
     sub-out
     slice-read-out
     slice-write-out

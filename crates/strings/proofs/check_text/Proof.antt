@@ -19,24 +19,47 @@ enum-told-2 c = search needs
 returns : tie.Need-returns
 returns c = search needs
 
+add-end : tie.Need-add-end
+add-end c = search needs
+
+sub-text : tie.Need-sub-text
+sub-text c = search needs
+
+part-text-start : tie.Need-part-text-start
+part-text-start c = search needs
+
+part-text-end : tie.Need-part-text-end
+part-text-end c = search needs
+
 returns-2 : tie.Need-returns-2
 returns-2 c =
-    text-bad (c .before .before .before .before .before .enum-told .given .1) (sym (c .before .all-characters .ensures) ∙ not-true _ (c .if2 .taken))
+    text-bad (c .before .before .before .before .before .before .before .enum-told .given .1) (sym (c .before .all-characters .ensures) ∙ not-true _ (c .if2 .taken))
 
 returns-3 : tie.Need-returns-3
 returns-3 c =
     let d = c .before .before .before .before in
-    let s = d .before .before .before .before .args .s .now in
-    let u = ⊎-elim (λ w. sym (w .1 .ensures) ∙ not-false _ (w .2 .left)) (λ w. ascii-text s (omega (arith, d .extremes-of .ensures .1))) (c .before .before .if1 .came) in
-    text-zero (d .before .enum-told .given .1) u (zero-text s (sym (d .extremes-of .ensures .0) ∙ c .if3 .taken))
+    let u = ⊎-elim (λ w. sym (w .1 .ensures) ∙ not-false _ (w .2 .left)) (λ w. ascii-text _ (omega (arith, d .extremes-of .ensures .1))) (c .before .before .if1 .came) in
+    text-zero (d .before .before .before .enum-told .given .1) u (zero-text _ (sym (d .extremes-of .ensures .0) ∙ c .if3 .taken))
 
 returns-4 : tie.Need-returns-4
 returns-4 c =
     let d = c .before .before .before .before in
-    let s = d .before .before .before .before .args .s .now in
-    let u = ⊎-elim (λ w. sym (w .1 .ensures) ∙ not-false _ (w .2 .left)) (λ w. ascii-text s (omega (arith, d .extremes-of .ensures .1))) (c .before .before .if1 .came) in
-    text-fine (d .before .enum-told .given .1) u (full-text s (λ e. c .if3 .left (d .extremes-of .ensures .0 ∙ e)))
+    let u = ⊎-elim (λ w. sym (w .1 .ensures) ∙ not-false _ (w .2 .left)) (λ w. ascii-text _ (omega (arith, d .extremes-of .ensures .1))) (c .before .before .if1 .came) in
+    text-fine (d .before .before .before .enum-told .given .1) u (full-text _ (λ e. c .if3 .left (d .extremes-of .ensures .0 ∙ e)))
 
 pub check-text-spec : {M : Type 1} → statement M
 check-text-spec =
-    tie.close (tie.spec enum-told enum-told-2 returns (λ _ _. tt) (λ _ _. tt) returns-2 returns-3 returns-4)
+    tie.close
+    (tie.spec
+    enum-told
+    enum-told-2
+    returns
+    add-end
+    sub-text
+    part-text-start
+    part-text-end
+    (λ _ _. tt)
+    (λ _ _. tt)
+    returns-2
+    returns-3
+    returns-4)

@@ -19,11 +19,11 @@ abbrev μ-loop : tie.MeasureT-loop
 loop-holds : tie.Need-loop-holds Inv-loop μ-loop
 loop-holds c = let a = c .before .before .args in (omega arith, refl, copy-none (a .out .now) (a .at))
 
-sub-block-of : tie.Need-sub-block-of Inv-loop μ-loop
-sub-block-of c = search needs
+sub-min : tie.Need-sub-min Inv-loop μ-loop
+sub-min c = search needs
 
-block-of-requires : tie.Need-block-of-requires Inv-loop μ-loop
-block-of-requires c κs = tt
+min-requires : tie.Need-min-requires Inv-loop μ-loop
+min-requires c κs = tt
 
 add-copy-block : tie.Need-add-copy-block Inv-loop μ-loop
 add-copy-block c = search needs
@@ -33,24 +33,24 @@ add-copy-block-2 c = search needs
 
 copy-block-requires : tie.Need-copy-block-requires Inv-loop μ-loop
 copy-block-requires c κs =
-    let n = next-block (c .before .block-of .ensures) (omega arith) in (n .2, omega arith, omega arith)
+    let n = next-block (c .before .min .ensures) (omega arith) in (n .2, omega arith, omega arith)
 
 add-done : tie.Need-add-done Inv-loop μ-loop
 add-done c = search needs
 
 loop-less : tie.Need-loop-less Inv-loop μ-loop
 loop-less c =
-    let n = next-block (c .before .before .before .before .block-of .ensures) (omega arith) in omega arith
+    let n = next-block (c .before .before .before .before .min .ensures) (omega arith) in omega arith
 
 loop-again : tie.Need-loop-again Inv-loop μ-loop
 loop-again c =
     let b = c .before .before .before .before in
     let l = b .before .before .loop in
     let a = b .before .before .before .before .before .args in
-    let n = next-block (b .block-of .ensures) (omega arith) in (
+    let n = next-block (b .min .ensures) (omega arith) in (
       omega arith,
       search needs,
-      copy-more (a .out .now) (a .lent .now) (a .at) (a .start) (a .len) (l .done) (b .block-of .result) (omega arith) (omega arith) (omega arith) (l .inv .2) (c .before .before .copy-block .ensures),
+      copy-more (a .out .now) (a .lent .now) (a .at) (a .start) (a .len) (l .done) (b .min .result) (omega arith) (omega arith) (omega arith) (l .inv .2) (c .before .before .copy-block .ensures),
     )
 
 same-length : tie.Need-same-length Inv-loop μ-loop
@@ -69,8 +69,8 @@ copy-spec =
     Inv-loop
     μ-loop
     loop-holds
-    sub-block-of
-    block-of-requires
+    sub-min
+    min-requires
     add-copy-block
     add-copy-block-2
     copy-block-requires

@@ -20,14 +20,8 @@ cast-len c = search needs
 add-end : tie.Need-add-end
 add-end c = omega (arith, inside (c .before .within .ensures) (c .if1 .taken))
 
-sub-check-text : tie.Need-sub-check-text
-sub-check-text c = search needs
-
-part-check-text-start : tie.Need-part-check-text-start
-part-check-text-start c = search needs
-
-part-check-text-end : tie.Need-part-check-text-end
-part-check-text-end c = let h = inside (c .before .within .ensures) (c .if1 .taken) in search needs
+check-text-requires : tie.Need-check-text-requires
+check-text-requires c κs = inside (c .before .within .ensures) (c .if1 .taken)
 
 enum-told-2 : tie.Need-enum-told-2
 enum-told-2 c = search needs
@@ -37,13 +31,13 @@ enum-told-3 c = search needs
 
 returns-2 : tie.Need-returns-2
 returns-2 c =
-    let d = c .before .before .before .before in
+    let d = c .before .before .before in
     let e = d .before .before .before .before in
     str-bad (e .before .before .read-u16 .ensures) (e .a .given .1) (d .before .within .ensures) (d .if1 .taken) (c .before .before .check-text .ensures) (c .enum-told3 .given .1)
 
 returns-3 : tie.Need-returns-3
 returns-3 c =
-    let d = c .before .before .before .before in
+    let d = c .before .before .before in
     let e = d .before .before .before .before in
     str-good (e .before .before .read-u16 .ensures) (e .a .given .1) (d .before .within .ensures) (d .if1 .taken) (c .before .before .check-text .ensures) (c .enum-told2 .given .1)
 
@@ -63,10 +57,7 @@ read-str-spec =
     cast-len
     (λ _ _. tt)
     add-end
-    sub-check-text
-    part-check-text-start
-    part-check-text-end
-    (λ _ _. tt)
+    check-text-requires
     enum-told-2
     enum-told-3
     returns-2

@@ -3,8 +3,7 @@ use mathlib.Core.Path.{_≡_, refl, sym, _∙_, ap, subst}
 use Prim.Native.Nat.{ℕ, zero, suc, _*_, _+_, _<_, _≤_, _^_}
 use Prim.Native.Nat.{zero-le}
 use native.Mathlib.Nat.{lt-irrefl, le-refl, lt-of-le-of-lt}
-use borrow.Author.Tests.{ltb-false}
-use mathlib.Core.Bool.{Bool, true, false, cond}
+use mathlib.Core.Bool.{true}
 use mathlib.Core.List.{List, [], _∷_}
 use lib.Dec.{T as Holds, ltb, lit<}
 use lib.ListN.{length}
@@ -45,9 +44,10 @@ use denote.Triple.Walked.{says, Stays, stay-slice, stay-none-slice, stay-none, w
 use denote.Exit.{yes}
 use Rattle.layouts.specs.declared.qids.Qid.{Qid}
 use Rattle.numbers.specs.declared.Place.{Place}
+use Rattle.numbers.specs.declared.Place.the-variants.{At, Refused}
 use Rattle.layouts.specs.declared.ids.Tag.{Tag}
-use Rattle.tables.specs.Qids.{placed, answerOf, toFollow, headed}
-use Rattle.tables.specs.QidLaws.{rwalk-written}
+use Rattle.tables.specs.Qids.{placed, rwalkPast, allOf, toFollow, headed}
+use Rattle.tables.specs.QidLaws.{fitting, rwalk-written}
 use Rattle.tables.proofs.Again.{LentAgain, lends-again, comes-back}
 use Rattle.layouts.proofs.qids.Qid as T
 use Rattle.layouts.proofs.ids.Tag as G
@@ -60,10 +60,10 @@ use Rattle.tables.proofs.put_qids as puts
 use Rattle.tables.proofs.put_qids.Symbol as puts-def
 use Rattle.tables.proofs.put_qids.Symbol.{name as #put-qids}
 use Rattle.tables.proofs.put_qids.Met as puts-thm
-use Rattle.tables.proofs.rwalk_answer as ans
-use Rattle.tables.proofs.rwalk_answer.Symbol as ans-def
-use Rattle.tables.proofs.rwalk_answer.Symbol.{name as #rwalk-answer}
-use Rattle.tables.proofs.rwalk_answer.Met as ans-thm
+use Rattle.tables.proofs.rwalk_past as ans
+use Rattle.tables.proofs.rwalk_past.Symbol as ans-def
+use Rattle.tables.proofs.rwalk_past.Symbol.{name as #rwalk-past}
+use Rattle.tables.proofs.rwalk_past.Met as ans-thm
 use Rattle.numbers.proofs.Place as O
 use Rattle.numbers.proofs.Place.Laws as O′
 use Rattle.tables.proofs.write_rwalk.Key.{name as #write-rwalk}
@@ -75,13 +75,12 @@ abbrev stayed : Stays (f.ended .signature .params) (f.ended .kept)
 stayed = (stay-slice (0 ∷ []) tt (plain (λ _. u8)), (stay-none (λ _. G.the-row) yes, (stay-none-slice (1 ∷ []) tt (plain (λ _. T.the-row)) yes, tt)))
 
 -- what follows the head is there, and has room
-follow-go : (a b : Bool) (room n : ℕ) → (b ≡ false → 9 + 13 * n ≤ room) → (0 < cond a 0 (cond b 0 n) → 9 + 13 * cond a 0 (cond b 0 n) ≤ room) × (cond a 0 (cond b 0 n) ≤ n)
-follow-go true b room n f = (λ h. absurd (lt-irrefl 0 h), zero-le)
-follow-go false true room n f = (λ h. absurd (lt-irrefl 0 h), zero-le)
-follow-go false false room n f = (λ h. f refl, le-refl n)
+follow-go : (p : Place) (room n : ℕ) → p ≡ rwalkPast room n → (0 < allOf n p → 9 + 13 * allOf n p ≤ room) × (allOf n p ≤ n)
+follow-go (Refused k) room n f = (λ h. absurd (lt-irrefl 0 h), zero-le)
+follow-go (At e) room n f = (λ h. fitting room n (sym f) .held, le-refl n)
 
 follow : (room n : ℕ) → (0 < toFollow room n → 9 + 13 * toFollow room n ≤ room) × (toFollow room n ≤ n)
-follow room n = follow-go (ltb 65535 n) (ltb room (9 + 13 * n)) room n (ltb-false room (9 + 13 * n))
+follow room n = follow-go (rwalkPast room n) room n refl
 
 abbrev machG : Tag → Val
 machG h = LL.tuple-val G.the-type G′.the-laws (G.the-type .to h)
@@ -103,8 +102,8 @@ module _ {M : Type 1} (𝓤 : URA M) (H : Heap 𝓤) (A : Atoms 𝓤) (mem : Mem
   abbrev Ans : Contract 𝓤
   Ans = tripleOf 𝓤 H A ans.signature (ans.spec 𝓤 H A mem run)
 
-  answered : (m n : ℕ) (r : Place) → ent 𝓤 (ensured 𝓤 H A ans.ended (ans.clauses 𝓤 H A mem run) tt (m, (n, tt)) tt r) (fact 𝓤 (r ≡ answerOf m n))
-  answered m n r = exE 𝓤 _ (λ ws. snd∗ 𝓤 (sem 𝓤 H A (lasts ans.ended tt (m, (n, tt)) ws)) (fact 𝓤 (r ≡ answerOf m n)))
+  answered : (m n : ℕ) (r : Place) → ent 𝓤 (ensured 𝓤 H A ans.ended (ans.clauses 𝓤 H A mem run) tt (m, (n, tt)) tt r) (fact 𝓤 (r ≡ rwalkPast m n))
+  answered m n r = exE 𝓤 _ (λ ws. snd∗ 𝓤 (sem 𝓤 H A (lasts ans.ended tt (m, (n, tt)) ws)) (fact 𝓤 (r ≡ rwalkPast m n)))
 
 module _ {M : Type 1} (𝓤 : URA M) (H : Heap 𝓤) (A : Atoms 𝓤) (W : Given 𝓤 H A) (mem : Memory → SProp 𝓤) (run : Routine → Fun 𝓤) (κ κ′ : Lft) (q q′ : Share) (b o : ℕ) (γ : GName) (xs : List ℕ) (tag : Tag) (tab : RefT (List Qid)) where
   abbrev ys : List Qid
@@ -151,7 +150,7 @@ module _ {M : Type 1} (𝓤 : URA M) (H : Heap 𝓤) (A : Atoms 𝓤) (W : Given
   abbrev Tab : Fml
   Tab = ShrSlice (named 1) κ′ T.the-row .own tab (tv ∷ [])
 
-  exits : Is G.the-row tag (machG tag ∷ []) → length fs ≡ length xs → (r : Place) (w : Val) → r ≡ answerOf (length xs) n
+  exits : Is G.the-row tag (machG tag ∷ []) → length fs ≡ length xs → (r : Place) (w : Val) → r ≡ rwalkPast (length xs) n
       → ent 𝓤 (⋆ 𝓤 H A (‵ (O.the-row .own r (w ∷ [])) ∷ ‵ (OutAt κ γ fs (length xs)) ∷ ‵ (flft κ q) ∷ (‵ (flft κ′ q′) ⊛ ‵ ftrue) ∷ ‵ Tab ∷ [])) (Post w)
   exits gt len r w e =
       qed W (‵ (O.the-row .own r (w ∷ [])) ∷ ‵ (OutAt κ γ fs (length xs)) ∷ ‵ (flft κ q) ∷ (‵ (flft κ′ q′) ⊛ ‵ ftrue) ∷ ‵ Tab ∷ []) ∵
@@ -183,7 +182,7 @@ module _ {M : Type 1} (𝓤 : URA M) (H : Heap 𝓤) (A : Atoms 𝓤) (W : Given
   goes-ans : length xs < 2 ^ 64 → n < 2 ^ 64 → ent 𝓤 (sem 𝓤 H A ftrue) (Ans 𝓤 H A mem run .pre to-ans)
   goes-ans go gn = qed W (‵ ftrue ∷ []) ∵ nothing ! $ owned ! usize (Is usize) (uint-makes 𝓤 H A W w64) n _ (refl, gn) $ fjoin ! $ owned ! usize (Is usize) (uint-makes 𝓤 H A W w64) (length xs) _ (refl, go) $ fjoin ! $ move ! (1 ∷ 0 ∷ []) $ join ! $ frame ! $ done !
 
-  module _ (C : Calls 𝓤 H) (Λ : Loops 𝓤 H) (fm : FmC 𝓤 H (W .laws) C) (known-head : Triple 𝓤 (C #rwalk-head) (Head 𝓤 H A mem run)) (known-puts : Triple 𝓤 (C #put-qids) (Puts 𝓤 H A mem run)) (known-ans : Triple 𝓤 (C #rwalk-answer) (Ans 𝓤 H A mem run)) where
+  module _ (C : Calls 𝓤 H) (Λ : Loops 𝓤 H) (fm : FmC 𝓤 H (W .laws) C) (known-head : Triple 𝓤 (C #rwalk-head) (Head 𝓤 H A mem run)) (known-puts : Triple 𝓤 (C #put-qids) (Puts 𝓤 H A mem run)) (known-ans : Triple 𝓤 (C #rwalk-past) (Ans 𝓤 H A mem run)) where
     walk : Room u8 (length xs) → Is G.the-row tag (machG tag ∷ []) → Room T.the-row n → ent 𝓤 (onEntry 𝓤 H A f.signature (κ, (κ′, tt)) (q, (q′, tt)) x vss) (WpFn 𝓤 H C Λ code.function (sv (length xs) ∷ machG tag ∷ tv ∷ []) Post)
     walk go gt gn =
         qed W ((‵ (flft κ q) ⊛ ‵ (flft κ′ q′) ⊛ ‵ ftrue) ∷ ‵ (owns (MutSlice (named 0) κ u8 ∷ G.the-row ∷ ShrSlice (named 1) κ′ T.the-row ∷ []) x vss) ∷ []) ∵ enter ! C Λ code.function (sv (length xs) ∷ machG tag ∷ tv ∷ []) _ $
@@ -239,7 +238,7 @@ module _ {M : Type 1} (𝓤 : URA M) (H : Heap 𝓤) (A : Atoms 𝓤) (W : Given
         nothing ! $ use1 W (raw (Ans 𝓤 H A mem run .pre to-ans)) (goes-ans (go .0) (gn .0)) $
         calls-at ! fm (Ans 𝓤 H A mem run) known-ans to-ans (and-then ! (load ! (from ! (stop !)) (look ! 14 refl)) (and-then ! (load ! (from ! (stop !)) (look ! 6 refl)) (no-more !))) (λ w₂.
         use1 W (later (some (λ (r₂ : Place). (‵ ftrue ⊛ ‵ (O.the-row .own r₂ (w₂ ∷ []))) ⊛ raw (ensured 𝓤 H A ans.ended (ans.clauses 𝓤 H A mem run) tt (length xs, (n, tt)) tt r₂)))) (id⊢ 𝓤 _) $ await ! tt $ pick ! (λ r₂.
-        split ! $ move ! (1 ∷ []) $ use1 W (raw (fact 𝓤 (r₂ ≡ answerOf (length xs) n))) (answered 𝓤 H A mem run (length xs) n r₂) $ heard ! (r₂ ≡ answerOf (length xs) n) (λ e₂. split ! $ drop ! $
+        split ! $ move ! (1 ∷ []) $ use1 W (raw (fact 𝓤 (r₂ ≡ rwalkPast (length xs) n))) (answered 𝓤 H A mem run (length xs) n r₂) $ heard ! (r₂ ≡ rwalkPast (length xs) n) (λ e₂. split ! $ drop ! $
         peeks ! O.the-row (Is O.the-row) (shows 𝓤 H A O.the-row) r₂ (w₂ ∷ []) (λ is₂.
         -- [the answer; out; κ; κ′ and true; …; the table; _11 at 6; …]: local j at 28 - 2 * j
         land ! (from ! (stop !)) (init ! 28 refl (EL.lawful O.the-type O′.the-laws 𝓤 H A W tt .typed r₂ _ is₂ .0)) $
@@ -255,14 +254,14 @@ module _ {M : Type 1} (𝓤 : URA M) (H : Heap 𝓤) (A : Atoms 𝓤) (W : Given
         fit l e m = (λ h. subst (λ (k : ℕ). 9 + 13 * K ≤ k) (sym (lh l e m)) (follow (length xs) n .0 h), follow (length xs) n .1)
 
 module _ {M : Type 1} (𝓤 : URA M) (H : Heap 𝓤) (A : Atoms 𝓤) (W : Given 𝓤 H A) (mem : Memory → SProp 𝓤) (run : Routine → Fun 𝓤) where
-  rwalk-walks : (C : Calls 𝓤 H) (Λ : Loops 𝓤 H) → FmC 𝓤 H (W .laws) C → Triple 𝓤 (C #rwalk-head) (Head 𝓤 H A mem run) → Triple 𝓤 (C #put-qids) (Puts 𝓤 H A mem run) → Triple 𝓤 (C #rwalk-answer) (Ans 𝓤 H A mem run)
+  rwalk-walks : (C : Calls 𝓤 H) (Λ : Loops 𝓤 H) → FmC 𝓤 H (W .laws) C → Triple 𝓤 (C #rwalk-head) (Head 𝓤 H A mem run) → Triple 𝓤 (C #put-qids) (Puts 𝓤 H A mem run) → Triple 𝓤 (C #rwalk-past) (Ans 𝓤 H A mem run)
       → Walks 𝓤 H A f.ended stayed (WpFn 𝓤 H C Λ code.function) (f.clauses 𝓤 H A mem run)
   rwalk-walks C Λ fm k₁ k₂ k₃ = walked 𝓤 H A f.ended stayed (f.clauses 𝓤 H A mem run) (WpFn 𝓤 H C Λ code.function) (λ κs. (slice-vals, (LL.vals G.the-type G′.the-laws, (slice-vals, tt)))) (λ κs. (mut-slice-tells (named 0) (κs .0) u8, (LL.tells G.the-type G′.the-laws, (shr-slice-tells (named 1) (κs .1 .0) T.the-row, tt))))
       (λ κs qs bounds a g are. via 𝓤 _ (fst∗ 𝓤 _ (emp 𝓤))
       (walk 𝓤 H A W mem run (κs .0) (κs .1 .0) (qs .0) (qs .1 .0) (a .0 .ptr .0) (a .0 .ptr .1) (a .0 .name) (a .0 .now) (a .1 .0) (a .1 .1 .0) C Λ fm k₁ k₂ k₃ (are .0 .0 .1) (are .1 .0) (are .1 .1 .0 .0 .1)))
 
 rwalk-meets : {M : Type 1} (𝓤 : URA M) (H : Heap 𝓤) (A : Atoms 𝓤) (W : Given 𝓤 H A) (mem : Memory → SProp 𝓤) (run : Routine → Fun 𝓤) (𝓣 : Tables 𝓤 H)
-    → Triple 𝓤 (𝓣 .C #rwalk-head) (Head 𝓤 H A mem run) → Triple 𝓤 (𝓣 .C #put-qids) (Puts 𝓤 H A mem run) → Triple 𝓤 (𝓣 .C #rwalk-answer) (Ans 𝓤 H A mem run)
+    → Triple 𝓤 (𝓣 .C #rwalk-head) (Head 𝓤 H A mem run) → Triple 𝓤 (𝓣 .C #put-qids) (Puts 𝓤 H A mem run) → Triple 𝓤 (𝓣 .C #rwalk-past) (Ans 𝓤 H A mem run)
     → Meets 𝓤 H A f.signature (WpFn 𝓤 H (𝓣 .C) (𝓣 .Λ) code.function) (f.spec 𝓤 H A mem run)
 rwalk-meets 𝓤 H A W mem run 𝓣 k₁ k₂ k₃ = walk-meets 𝓤 H A f.ended stayed W (goes-slice 𝓤 H A W 2 0 tt (plain (λ _. u8)), (goes-none 𝓤 H A W 2 (λ _. G.the-row) yes (λ κs x f. refl), (goes-none-slice 𝓤 H A W 2 (1 ∷ []) tt (plain (λ _. T.the-row)) yes, tt))) (f.clauses 𝓤 H A mem run)
     (WpFn 𝓤 H (𝓣 .C) (𝓣 .Λ) code.function) (WpFn-mono 𝓤 H (W .laws) 𝓣 code.function) (rwalk-walks 𝓤 H A W mem run (𝓣 .C) (𝓣 .Λ) (fmOf 𝓤 H (W .laws) 𝓣) k₁ k₂ k₃)
@@ -275,4 +274,4 @@ write-rwalk-spec 𝓤 H 𝓜 𝓖 𝓡 =
     (rwalk-meets 𝓤 H (𝓖 .A) (givenOf 𝓤 H 𝓜 𝓖) (𝓜 .mem) (𝓡 .run) (tablesOf 𝓤 H 𝓜 (tables 𝓤 H 𝓜 𝓡 code.env))
     (cited 𝓤 H (Head 𝓤 H (𝓖 .A) (𝓜 .mem) (𝓡 .run)) 𝓜 𝓡 code.env #rwalk-head head-def.routine code.calls-tables·rwalk-head (head-thm.met 𝓤 H 𝓜 𝓖 𝓡))
     (cited 𝓤 H (Puts 𝓤 H (𝓖 .A) (𝓜 .mem) (𝓡 .run)) 𝓜 𝓡 code.env #put-qids puts-def.routine code.calls-tables·put-qids (puts-thm.met 𝓤 H 𝓜 𝓖 𝓡))
-    (cited 𝓤 H (Ans 𝓤 H (𝓖 .A) (𝓜 .mem) (𝓡 .run)) 𝓜 𝓡 code.env #rwalk-answer ans-def.routine code.calls-tables·rwalk-answer (ans-thm.met 𝓤 H 𝓜 𝓖 𝓡)))
+    (cited 𝓤 H (Ans 𝓤 H (𝓖 .A) (𝓜 .mem) (𝓡 .run)) 𝓜 𝓡 code.env #rwalk-past ans-def.routine code.calls-tables·rwalk-past (ans-thm.met 𝓤 H 𝓜 𝓖 𝓡)))

@@ -2,15 +2,23 @@ use borrow.Author.Needs.{needs}
 use native.Mathlib.Omega.{arith}
 use mathlib.Core.Path.{refl}
 use Rattle.numbers.specs.Numbers.{bytes-all}
+use Rattle.fields.specs.FieldLaws.{count-passed}
 use Rattle.tables.specs.TableLaws.{twalk-long, twalk-put}
 use Rattle.tables.proofs.write_twalk.Statement.{statement}
 use Rattle.tables.proofs.write_twalk.Tie as tie
 
+enum-told : tie.Need-enum-told
+enum-told c = search needs
+
+enum-told-2 : tie.Need-enum-told-2
+enum-told-2 c = search needs
+
 returns : tie.Need-returns
-returns c = twalk-long (c .if1 .taken)
+returns c = twalk-long (c .before .before .check-count .ensures) (c .enum-told2 .given .1)
 
 cast-count : tie.Need-cast-count
-cast-count c = search needs
+cast-count c =
+    omega (arith, count-passed (c .before .before .check-count .ensures) (c .enum-told .given .1) .0)
 
 same-length : tie.Need-same-length
 same-length c = search needs
@@ -21,10 +29,23 @@ returns-2 c =
     let p = h .before .before .before .before in
     let s = p .before .before in
     let l = s .before .before .before in
-    let a = l .before .before .before .before .before in
-    let b = bytes-all (a .args .lent .now) (λ i. l .before .before .before .shared-slice-known .given i .fits) in
-    twalk-put b (l .before .before .if1 .left) refl (l .lay-twalk .ensures) (s .begun .ensures) (p .lay-twalk2 .ensures) (h .put-header .ensures)
+    let e = l .before .before in
+    let k = e .before .before in
+    let b = bytes-all (k .before .before .before .args .lent .now) (λ i. k .before .shared-slice-known .given i .fits) in
+    twalk-put b (k .check-count .ensures) (e .enum-told .given .1) refl (l .lay-twalk .ensures) (s .begun .ensures) (p .lay-twalk2 .ensures) (h .put-header .ensures)
 
 pub write-twalk-spec : {M : Type 1} → statement M
 write-twalk-spec =
-    tie.close (tie.spec returns cast-count (λ _ _. tt) (λ _ _. tt) (λ _ _. tt) (λ _ _. tt) same-length returns-2)
+    tie.close
+    (tie.spec
+    (λ _ _. tt)
+    enum-told
+    enum-told-2
+    returns
+    cast-count
+    (λ _ _. tt)
+    (λ _ _. tt)
+    (λ _ _. tt)
+    (λ _ _. tt)
+    same-length
+    returns-2)

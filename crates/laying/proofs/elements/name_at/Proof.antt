@@ -1,29 +1,36 @@
 use borrow.Author.Needs.{needs}
 use native.Mathlib.Omega.{arith}
+use mathlib.Core.Path.{sym}
+use lib.Seq.{length-take-le}
 use Rattle.numbers.specs.Numbers.{bytes-all}
 use Rattle.laying.specs.Elements.{viewElement}
-use Rattle.laying.specs.ElementLaws.{element, element-refused, name-found}
+use Rattle.laying.specs.ElementLaws.{element, element-lies, element-refused, name-found}
 use Rattle.laying.proofs.elements.name_at.Statement.{statement}
 use Rattle.laying.proofs.elements.name_at.Tie as tie
 
 enum-told : tie.Need-enum-told
 enum-told c = search needs
 
+add-stop : tie.Need-add-stop
+add-stop c =
+    let d = c .before .before .before .before in
+    omega (arith, element-lies (element (d .before .asked .ensures) (d .check-names .ensures) (c .before .before .enum-told .given .1)))
+
+slice-aggregate-scan : tie.Need-slice-aggregate-scan
+slice-aggregate-scan c =
+    let d = c .before .before .before .before .before in
+    sym (length-take-le _ _ (element-lies (element (d .before .asked .ensures) (d .check-names .ensures) (c .before .before .before .enum-told .given .1))))
+
 cast-scan : tie.Need-cast-scan
 cast-scan c =
-    let d = c .before .before .before .before in
-    let l = element (d .before .asked .ensures) (d .check-names .ensures) (c .before .before .enum-told .given .1) .below in
+    let d = c .before .before .before .before .before in
+    let l = element (d .before .asked .ensures) (d .check-names .ensures) (c .before .before .before .enum-told .given .1) .below in
     omega arith
 
-add-start : tie.Need-add-start
-add-start c =
-    let d = c .before .before .before in
-    let n = d .before .before in
-    let q = n .before .before .before .before in
-    let b = bytes-all (q .before .before .before .args .lent .now) (λ i. q .before .before .shared-slice-known .given i .fits) in
-    let l = element (q .before .asked .ensures) (q .check-names .ensures) (n .before .before .enum-told .given .1) in
-    let m = name-found b l (n .shown .ensures) (d .before .scan .ensures) (d .read-str .ensures) .lies in
-    omega arith
+slice-aggregate-read-str : tie.Need-slice-aggregate-read-str
+slice-aggregate-read-str c =
+    let d = c .before .before .before .before .before .before .before in
+    sym (length-take-le _ _ (element-lies (element (d .before .asked .ensures) (d .check-names .ensures) (c .before .before .before .before .before .enum-told .given .1))))
 
 enum-known-q : tie.Need-enum-known-q
 enum-known-q c = search needs
@@ -31,12 +38,11 @@ enum-known-q c = search needs
 returns : tie.Need-returns
 unfolding viewElement
 returns c =
-    let d = c .before .before .before in
-    let n = d .before .before in
-    let q = n .before .before .before .before in
+    let n = c .before .before .before .before .before .before .before in
+    let q = n .before .before in
     let b = bytes-all (q .before .before .before .args .lent .now) (λ i. q .before .before .shared-slice-known .given i .fits) in
-    let l = element (q .before .asked .ensures) (q .check-names .ensures) (n .before .before .enum-told .given .1) in
-    name-found b l (n .shown .ensures) (d .before .scan .ensures) (d .read-str .ensures) .is
+    let l = element (q .before .asked .ensures) (q .check-names .ensures) (n .enum-told .given .1) in
+    name-found b l (c .before .before .before .scan .ensures) (c .before .read-str .ensures)
 
 returns-2 : tie.Need-returns-2
 unfolding viewElement
@@ -49,11 +55,12 @@ name-at-spec =
     (λ _ _. tt)
     (λ _ _. tt)
     enum-told
-    (λ _ _. tt)
+    add-stop
+    slice-aggregate-scan
     cast-scan
     (λ _ _. tt)
+    slice-aggregate-read-str
     (λ _ _. tt)
-    add-start
     enum-known-q
     returns
     returns-2)
