@@ -46,7 +46,7 @@ fn string(p: Place, s: &[u8]) {
     questions::list(&[v.start as u64, v.len as u64]);
 }
 
-// A span, as a part of the bytes, as a string, and as text by itself.
+// A span, as a part of the bytes, as a string, and its text by itself.
 fn span(p: Place, start: u64, len: u64, s: &[u8]) {
     let v = Span {
         start: start as usize,
@@ -55,7 +55,11 @@ fn span(p: Place, start: u64, len: u64, s: &[u8]) {
     questions::placed(strings::check_span(s, v, p));
     questions::placed(strings::check_str(s, v, p));
     let shown = strings::shown(s, v);
-    questions::placed(strings::check_text(shown, p));
+    let all = Span {
+        start: 0,
+        len: shown.len(),
+    };
+    questions::placed(strings::check_str(shown, all, p));
     questions::figure(texts::sheafsledge_is_utf8(shown) as u64);
     questions::print(shown);
 }

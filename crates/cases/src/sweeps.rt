@@ -1,6 +1,7 @@
 // Every string of a product of ranges is tried, and counted by what it is answered.
 
 use numbers::Place;
+use strings::Span;
 ghost use Prim.Native.Nat.{_<_};
 
 // The byte at `i` of the ranges; 0 where there is none, so that a range that is not given has one byte.
@@ -27,7 +28,11 @@ fn nth(low: u8, n: u64) -> u8 {
 
 // 0 where it is text and its place stays; else its refusal's number; 7 for anything that no text is answered.
 fn answer(s: &[u8]) -> usize {
-    let p = strings::check_text(s, Place::At(3));
+    let all = Span {
+        start: 0,
+        len: s.len(),
+    };
+    let p = strings::check_str(s, all, Place::At(3));
     match p {
         Place::At(n) => {
             if n == 3 {
@@ -50,7 +55,7 @@ fn count(counts: &mut [u64; 14], i: usize) {
     counts[k] = std::num::wrapping_add_u64(counts[k], 1);
 }
 
-// One string more: by `check_text` at 0 to 7, by `char_at` at 8 to 12, by `is_utf8` at 13.
+// One string more: by `check_str` at 0 to 7, by `char_at` at 8 to 12, by `is_utf8` at 13.
 fn try_one(counts: &mut [u64; 14], s: &[u8]) {
     count(counts, answer(s));
     let len = utf8::char_at(s, 0);

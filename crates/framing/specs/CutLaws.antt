@@ -22,9 +22,9 @@ use Rattle.layouts.specs.Bodies.{Answer, accepted, refused, readBody}
 use Rattle.framing.specs.Frames.{readTypeTag, readHeader, framed, readFrame}
 use Rattle.framing.specs.HeaderLaws.{frame-is}
 use Rattle.framing.specs.Local.{sizeIn}
-use Rattle.framing.specs.Stretch.{typeIn, tagIn, tableFor, answerIn, answerOf, tailIn, frame, end, stop, frameOf, front, frameAt}
+use Rattle.framing.specs.Stretch.{typeIn, tagIn, tableFor, answerIn, answerOf, tailIn, frame, end, stop, listedFrame, front, frameAt}
 use Rattle.framing.specs.Headers.{Headed}
-use Rattle.framing.specs.Cuts.{between, Whole, CutAt}
+use Rattle.framing.specs.Cuts.{between, Stands, CutAt}
 use Rattle.framing.specs.declared.Cut.{Cut}
 use Rattle.framing.specs.declared.Cut.the-variants as C
 
@@ -82,7 +82,7 @@ module _ (ts rs : List Row) (s : List ℕ) (p : ℕ) where
       let d = length-drop p s in
       rw (le-ltb (length (drop p s)) 4 (omega arith), z .1, le-ltb x 7 l, lt-ltb (length (drop p s)) x (omega arith)) at (inside-it (omega arith))
 
-  at-whole : {x e : ℕ} {q : Place} → NumRead 4 s (At p) x q → q ≡ At e → 7 ≤ x → p + x ≤ length s → frameOf ts rs p (take x (drop p s)) ≡ frameAt ts rs s p
+  at-whole : {x e : ℕ} {q : Place} → NumRead 4 s (At p) x q → q ≡ At e → 7 ≤ x → p + x ≤ length s → listedFrame ts rs p (take x (drop p s)) ≡ frameAt ts rs s p
   unfolding front
   at-whole {x} r e l w =
       let z = size-held r e in
@@ -130,7 +130,7 @@ whole-cut {s} {p} {x} r e h w g a b =
       is = λ ts rs. rw n (at-whole ts rs s p r e h i);
     }
 
-pub length-whole : {s : List ℕ} {p ty tag e : ℕ} → Whole s p ty tag e → length (between p e s) ≡ e - p
+pub length-whole : {s : List ℕ} {p ty tag e : ℕ} → Stands s p ty tag e → length (between p e s) ≡ e - p
 length-whole {s} {p} {e = e} w =
     let h = w .held in
     let d = length-drop p s in
@@ -147,7 +147,7 @@ module _ (s : List ℕ) (p : ℕ) where
   unfolding CutAt
   stops-there e = e
 
-  pub cut-whole : {g : Cut} {ty tag e : ℕ} → CutAt s p g → g ≡ C.Whole ty tag e → Whole s p ty tag e
+  pub cut-whole : {g : Cut} {ty tag e : ℕ} → CutAt s p g → g ≡ C.Whole ty tag e → Stands s p ty tag e
   unfolding CutAt
   cut-whole h e = rw e at h
 

@@ -15,7 +15,7 @@ use Rattle.numbers.specs.declared.Refusal.the-variants as R
 use Rattle.layouts.specs.Tables.{Row}
 use Rattle.layouts.specs.Bodies.{Answer}
 use Rattle.framing.specs.Local.{sizeIn}
-use Rattle.framing.specs.Stretch.{typeIn, tagIn, answerOf, tailIn, Step, frame, end, stop, frameOf, front, frameAt, Listing, entry, ends, stops, listFrom, listing}
+use Rattle.framing.specs.Stretch.{typeIn, tagIn, answerOf, tailIn, Step, frame, end, stop, listedFrame, front, frameAt, Listing, entry, ends, stops, listFrom, listing}
 
 -- ---- what stands at the front
 
@@ -27,12 +27,12 @@ pub record Front (xs : List ℕ) (n : ℕ) : Type 0 where
   pub held : n ≤ length xs
 
 module _ (ts rs : List Row) (p : ℕ) (xs : List ℕ) where
-  pub front-frame : {n : ℕ} → Front xs n → front ts rs p xs ≡ frameOf ts rs p (take n xs)
+  pub front-frame : {n : ℕ} → Front xs n → front ts rs p xs ≡ listedFrame ts rs p (take n xs)
   unfolding front
   front-frame {n} f = rw (le-ltb (length xs) 4 (f .four), f .size, le-ltb n 7 (f .seven), le-ltb (length xs) n (f .held))
 
   -- it is a frame, or a refusal at that position
-  pub front-case : {X : Type 0} → ((n : ℕ) → Front xs n → front ts rs p xs ≡ frameOf ts rs p (take n xs) → X) → ((k : Refusal) → front ts rs p xs ≡ stop k p → X) → X
+  pub front-case : {X : Type 0} → ((n : ℕ) → Front xs n → front ts rs p xs ≡ listedFrame ts rs p (take n xs) → X) → ((k : Refusal) → front ts rs p xs ≡ stop k p → X) → X
   unfolding front
   front-case f g =
       or-else 4 (length xs)

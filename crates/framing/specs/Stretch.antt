@@ -46,14 +46,14 @@ pub data Step : Type 0 where
   end : ℕ → Step
   stop : Refusal → ℕ → Step
 
-abbrev pub frameOf : List Row → List Row → ℕ → List ℕ → Step
-frameOf ts rs p f = frame p (length f) (typeIn f) (tagIn f) (answerOf ts rs f) (tailIn (length f) (answerOf ts rs f)) (p + length f)
+abbrev pub listedFrame : List Row → List Row → ℕ → List ℕ → Step
+listedFrame ts rs p f = frame p (length f) (typeIn f) (tagIn f) (answerOf ts rs f) (tailIn (length f) (answerOf ts rs f)) (p + length f)
 
 -- of the bytes that are left: "1 to 3 bytes left, or size greater than what is left is 12, but size 0 to 6 is 13 and comes first where 4 bytes are there"
 unfoldable pub front : List Row → List Row → ℕ → List ℕ → Step
 front ts rs p xs =
     cond (ltb (length xs) 4) (stop R.StretchCut p)
-    (cond (ltb (sizeIn xs) 7) (stop R.StretchSize p) (cond (ltb (length xs) (sizeIn xs)) (stop R.StretchCut p) (frameOf ts rs p (take (sizeIn xs) xs))))
+    (cond (ltb (sizeIn xs) 7) (stop R.StretchSize p) (cond (ltb (length xs) (sizeIn xs)) (stop R.StretchCut p) (listedFrame ts rs p (take (sizeIn xs) xs))))
 
 -- "A position past the end" is 12; "the end where exactly nothing is left"
 unfoldable pub frameAt : List Row → List Row → List ℕ → ℕ → Step

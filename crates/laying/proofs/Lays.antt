@@ -18,14 +18,14 @@ use Rattle.numbers.specs.declared.Place.{Place}
 use Rattle.numbers.specs.declared.Place.the-variants.{At, Refused}
 use Rattle.strings.specs.Strings.{stringBytes}
 use Rattle.strings.specs.Spans.{bytesIn, showSpan, showString, checkAt, SpanCheck, StrCheck, SpanPut}
-use Rattle.strings.specs.SpanLaws.{check-inv, first-refuses, passed, whole, shown-length, span-inv, shown-in, string-inv}
+use Rattle.strings.specs.SpanLaws.{check-inv, first-refuses, passed, shown-length, span-inv, shown-in, string-inv}
 use Rattle.fields.specs.Layouts.{Field, num, str, dat, strs, quids, Item, number, string, bytes, strings, qids, readMany, manyBytes, itemBytes}
 use Rattle.fields.specs.LayoutLaws.{took-many}
 use Rattle.laying.specs.LayingLaws.{drop-take, Unless, behind}
 use Rattle.fields.specs.Values.{Value, val, span, part, startOf, lenOf, cutOff, wholePart, show}
 use Rattle.fields.specs.Fields.{CountCheck, ManyRead}
 use Rattle.fields.specs.FieldLaws.{count-fits}
-use Rattle.laying.specs.Laying.{limit, advance, sizeIn, checkField, headWidth, headOf, putField, pastPutField, FieldLaid, NumLaid, Advanced, CountedPut, ShowCheck, filledAt, Filled, settledAt, Settled, Begun}
+use Rattle.laying.specs.Laying.{limit, advance, shownSize, checkField, headWidth, headOf, putField, pastPutField, FieldLaid, NumLaid, Advanced, CountedPut, ShowCheck, filledAt, Filled, settledAt, Settled, Begun}
 
 -- ---- a place on
 
@@ -76,7 +76,7 @@ check-laid {f} {lent} {o} {v} {p} {q} z c x y = record {
   next = y .is ∙ ap (advance (lenOf v)) (x .is) ∙ twice (headWidth f) (lenOf v) q ∙ ap (advance (headWidth f + lenOf v)) (c .is) ∙ go (show f lent v) refl p;
 }
   where
-    go : (m : Result Item) → show f lent v ≡ m → (p' : Place) → advance (headWidth f + lenOf v) (checkAt m p') ≡ advance (sizeIn m) (checkAt m p')
+    go : (m : Result Item) → show f lent v ≡ m → (p' : Place) → advance (headWidth f + lenOf v) (checkAt m p') ≡ advance (shownSize m) (checkAt m p')
     go m e (Refused k) = refl
     go (ok i s) e (At n) = ap (λ k. At (min (n + k) limit)) (sym (z .is i s e))
     go (bad k) e (At n) = refl

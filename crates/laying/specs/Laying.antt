@@ -26,12 +26,12 @@ advance n (At a) = At (min (a + n) limit)
 advance n (Refused k) = Refused k
 
 -- how long an item is that a value shows
-abbrev pub sizeIn : Result Item → ℕ
-sizeIn (ok i r) = length (itemBytes i)
-sizeIn (bad k) = 0
+abbrev pub shownSize : Result Item → ℕ
+shownSize (ok i r) = length (itemBytes i)
+shownSize (bad k) = 0
 
 unfoldable pub checkField : Field → List ℕ → Value → Place → Place
-checkField f lent v p = advance (sizeIn (show f lent v)) (checkAt (show f lent v) p)
+checkField f lent v p = advance (shownSize (show f lent v)) (checkAt (show f lent v) p)
 
 unfoldable pub checkFields : Layout → List ℕ → List Value → Place → Place
 checkFields [] lent vs p = p

@@ -23,7 +23,7 @@ use Rattle.strings.specs.SpanLaws.{shown-in, shown-length, span-inv, string-inv
 use Rattle.fields.specs.Layouts.{Field, num, str, dat, strs, quids, Layout, q, Item, number, string, bytes, strings, qids, readMany, manyBytes, itemBytes, itemsBytes}
 use Rattle.fields.specs.LayoutLaws.{took-many}
 use Rattle.fields.specs.Values.{Value, val, numOf, startOf, lenOf, countOf, wholePart, show, firstOf, othersOf, shows}
-use Rattle.laying.specs.Laying.{limit, advance, sizeIn, checkField, checkFields, headWidth, headOf, countedField, pastCounted, putField, pastPutField, putFields, pastPutFields, ByPass, FieldLaid, Laid, NumLaid}
+use Rattle.laying.specs.Laying.{limit, advance, shownSize, checkField, checkFields, headWidth, headOf, countedField, pastCounted, putField, pastPutField, putFields, pastPutFields, ByPass, FieldLaid, Laid, NumLaid}
 
 -- a part of the bytes up to its end
 pub drop-take : (k n : ℕ) (s : List ℕ) → drop k (take (k + n) s) ≡ take n (drop k s)

@@ -20,7 +20,7 @@ use Rattle.numbers.specs.declared.Place.{Place}
 use Rattle.numbers.specs.declared.Place.the-variants.{At, Refused}
 use Rattle.utf8.specs.Utf8.{utf8, noZero}
 use Rattle.strings.specs.Strings.{okText, readString, stringBytes}
-use Rattle.strings.specs.SpanLaws.{first-refuses, shown-in, shown-out, shown-length, passed, whole, passing, string-at, start-bad, string-held, string-short, text-refused, text-passed}
+use Rattle.strings.specs.SpanLaws.{first-refuses, shown-in, shown-out, shown-length, passed, string-passed, passing, string-at, start-bad, string-held, string-short, text-refused, text-passed}
 use Rattle.strings.specs.Spans.{bytesIn, showSpan, showString, checkAt, Shown, TextCheck, SpanCheck, StrCheck, startIn, strStart, strLen, pastStr, StrRead, SpanPut, StrPut}
 
 -- ---- a string's bytes, cut out to be looked at
@@ -168,20 +168,20 @@ string-length lent x y h =
     let k = shown-length lent x y h in simp (length-append, length-toLE) (omega arith)
 
 pub string-small : {lent : List ℕ} {x y a : ℕ} {p q : Place} → StrCheck lent x y p q → q ≡ At a → y ≤ 65535
-string-small c e = whole c e .small
+string-small c e = string-passed c e .small
 
 module _ {lent o : List ℕ} {x y : ℕ} {p q : Place} where
   pub string-refused : {k : Refusal} → StrCheck lent x y p q → q ≡ Refused k → StrPut lent x y o p o q
   string-refused c e = record { put = rw (← (c .is)) (put-stays e) }
 
   pub string-full : {a : ℕ} {t : Bool} → StrCheck lent x y p q → q ≡ At a → Within a (y + 2) (length o) t → t ≡ false → StrPut lent x y o p o (Refused R.NoRoom)
-  string-full c e i h = let k = whole c e in record { put = rw (← (c .is), k .shows) (put-full (string-length lent x y (k .lies)) e i h) }
+  string-full c e i h = let k = string-passed c e in record { put = rw (← (c .is), k .shows) (put-full (string-length lent x y (k .lies)) e i h) }
 
   pub string-done : {a : ℕ} {t : Bool} {o1 o2 : List ℕ} {m r : Place} → StrCheck lent x y p q → q ≡ At a → Within a (y + 2) (length o) t → t ≡ true → Put (toLE 2 y) o (At a) o1 m
       → SpanPut lent x y o1 m o2 r → StrPut lent x y o p o2 r
   unfolding stringBytes
   string-done {m = m} c e i h f g =
-      let k = whole c e in
+      let k = string-passed c e in
       let n = shown-length lent x y (k .lies) in
       let s = shown-in lent x y (k .lies) in
       record { put = rw (← (c .is), e, k .shows, n) (put-then f (rw (s, passing (take y (drop x lent)) [] m) at (g .put)) refl (simp (length-append, length-toLE) (rw n (let l = inside i h in omega arith)))) }

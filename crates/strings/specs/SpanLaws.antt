@@ -85,14 +85,14 @@ string-inv lent x y {bs} {r} e =
     let es : s ≡ [] = cc d in
     record { lies = h; small = leb-true y 65535 (u .0); bytes = eb ∙ ec; rest = er ∙ es })
 
-pub record Whole (lent : List ℕ) (x y : ℕ) (p : Place) (a : ℕ) : Type 0 where
+pub record StringPassed (lent : List ℕ) (x y : ℕ) (p : Place) (a : ℕ) : Type 0 where
   pub place : p ≡ At a
   pub lies : x + y ≤ length lent
   pub small : y ≤ 65535
   pub shows : showString lent x y ≡ ok (take y (drop x lent)) []
 
-pub whole : {lent : List ℕ} {x y a : ℕ} {p q : Place} → StrCheck lent x y p q → q ≡ At a → Whole lent x y p a
-whole {lent} {x} {y} {a} {p} c e =
+pub string-passed : {lent : List ℕ} {x y a : ℕ} {p q : Place} → StrCheck lent x y p q → q ≡ At a → StringPassed lent x y p a
+string-passed {lent} {x} {y} {a} {p} c e =
     check-inv (showString lent x y) p (sym (c .is) ∙ e)
     (λ bs r f g.
     let i = string-inv lent x y f in
