@@ -9,7 +9,7 @@ use Rattle.layouts.specs.Tables.{tableT, tableR}
 use Rattle.layouts.specs.Bodies.{Answer}
 use Rattle.framing.specs.Frames.{readFrame}
 use Rattle.framing.specs.Stretch.{tableFor, answerIn, answerOf, tailIn, Step, frame, end, stop, frameAt}
-use Rattle.framing.specs.Cuts.{between, Stands}
+use Rattle.framing.specs.Cuts.{between, WholeAt}
 use Rattle.framing.specs.CutLaws.{length-whole, frame-same}
 use Rattle.exports.specs.declared.stretches.FlatStep.{FlatStep}
 
@@ -23,7 +23,7 @@ flatStep (stop k at) = stopped (numberOf k) false
 
 -- ---- a whole frame
 
-module _ {s : List ℕ} {p ty tag e : ℕ} (w : Stands s p ty tag e) where
+module _ {s : List ℕ} {p ty tag e : ℕ} (w : WholeAt s p ty tag e) where
   -- what the reader of its direction answers for exactly these bytes
   abbrev said : Answer
   said = answerIn (readFrame (tableFor tableT tableR ty) (between p e s))

@@ -169,20 +169,21 @@ fields-accepted (f ∷ fs) s a {is} {r} b h e =
       next = rw (← n, g .next) (k .next);
     })))
 
+-- where the first of some items stands, it is the others that are refused
+pub others-bad : (i : Item) (m : Result (List Item)) {k : Refusal} → after m (λ is u. ok (i ∷ is) u) ≡ bad k → m ≡ bad k
+others-bad i (ok is u) c = absurd (let z : _≡_ {A = ℕ} 0 1 = cc c in omega arith)
+others-bad i (bad j) {k} c = let f : j ≡ k = cc c in ap bad f
+
 -- refused: the place carries the definition's refusal
 pub fields-refused : (fs : Layout) (s : List ℕ) (a : ℕ) {k : Refusal} → Bytes s → a ≤ length s → readFields fs (drop a s) ≡ bad k → pastFields fs s (At a) ≡ Refused k
 unfolding readFields pastFields
 fields-refused [] s a b h e = absurd (let z : _≡_ {A = ℕ} 0 1 = cc e in omega arith)
 fields-refused (f ∷ fs) s a {k} b h e = go (readField f (drop a s)) refl e (λ n l c. fields-refused fs s n b l c)
   where
-    behind : (i : Item) (m : Result (List Item)) → after m (λ is u. ok (i ∷ is) u) ≡ bad k → m ≡ bad k
-    behind i (ok is u) c = absurd (let z : _≡_ {A = ℕ} 0 1 = cc c in omega arith)
-    behind i (bad j) c = let f : j ≡ k = cc c in ap bad f
-
     go : (m : Result Item) → readField f (drop a s) ≡ m → after m (λ i r. after (readFields fs r) (λ is u. ok (i ∷ is) u)) ≡ bad k
         → ((n : ℕ) → n ≤ length s → readFields fs (drop n s) ≡ bad k → pastFields fs s (At n) ≡ Refused k)
         → pastFields fs s (pastField f s (At a)) ≡ Refused k
     go (ok i t) d c ih =
         let g = there f s a b h d in
-        rw (g .next) (ih (a + length (itemBytes i)) (g .lies) (rw (g .rest) at (behind i (readFields fs t) c)))
+        rw (g .next) (ih (a + length (itemBytes i)) (g .lies) (rw (g .rest) at (others-bad i (readFields fs t) c)))
     go (bad j) d c ih = let g : j ≡ k = cc c in rw (refuses f s a d, g) (stays fs s k)

@@ -10,7 +10,7 @@ use Rattle.numbers.specs.Reading.{Result, ok, bad, after, raw, readNum}
 use Rattle.numbers.specs.declared.Refusal.the-variants as R
 use Rattle.strings.specs.Strings.{readString, stringBytes, GoodText}
 
--- Document 01, "Bytes of a frame": a number of so many bytes, a string (s), data (d), a vector of strings, a vector of qids
+-- F1: a number of so many bytes, a string, data, a vector of strings, a vector of qids
 pub data Field : Type 0 where
   num : ℕ → Field
   str : Field
@@ -21,7 +21,7 @@ pub data Field : Type 0 where
 abbrev pub Layout : Type 0
 Layout = List Field
 
--- "Qid (q) is ty[1] version[4] path[8], 13 bytes."
+-- a qid is ty[1] version[4] path[8], 13 bytes (F1.6)
 abbrev pub q : Layout
 q = num 1 ∷ num 4 ∷ num 8 ∷ []
 
@@ -42,20 +42,20 @@ kind (qids n bs) = quids
 
 -- ---- reading
 
--- the elements of a vector are counted by two bytes (F1.5)
+-- a vector has at most as many elements as two bytes can count (F1.9)
 abbrev pub okCount : ℕ → Result ℕ
 okCount n = cond (ltb 65535 n) (bad R.TableTooLong) (ok n [])
 
--- "data count above 33,554,432"
+-- how many bytes data may have that is read (F1.9)
 abbrev pub most : ℕ
 most = 33554432
 
--- "A vector is count[2] and its elements.": so many strings
+-- so many strings, one after the other (F4.11)
 unfoldable pub readMany : ℕ → List ℕ → Result (List (List ℕ))
 readMany zero xs = ok [] xs
 readMany (suc n) xs = after (readString xs) (λ b r. after (readMany n r) (λ bs s. ok (b ∷ bs) s))
 
--- "For data: count, then the limit, then bytes."
+-- a field by its kind (F4.8 to F4.12); data: count, limit, bytes
 unfoldable pub readField : Field → List ℕ → Result Item
 readField (num w) xs = after (readNum w xs) (λ n r. ok (number w n) r)
 readField str xs = after (readString xs) (λ bs r. ok (string bs) r)
@@ -63,7 +63,7 @@ readField dat xs = after (readNum 4 xs) (λ n r. cond (leb n most) (after (raw n
 readField strs xs = after (readNum 2 xs) (λ n r. after (readMany n r) (λ l s. ok (strings l) s))
 readField quids xs = after (readNum 2 xs) (λ n r. after (raw (13 * n) r) (λ bs s. ok (qids n bs) s))
 
--- "fields in order. The first step that fails answers."
+-- fields in order; the first that fails answers (F4.2)
 unfoldable pub readFields : Layout → List ℕ → Result (List Item)
 readFields [] xs = ok [] xs
 readFields (f ∷ fs) xs = after (readField f xs) (λ i r. after (readFields fs r) (λ is s. ok (i ∷ is) s))

@@ -53,17 +53,17 @@ places a (i ∷ is) = place a i ∷ places (a + length (itemBytes i)) is
 
 -- ---- what a value shows of the lent bytes, with the writer's refusals. The rest of an `ok` is not used, and is []
 
--- "the first failing one answers, cut off 14, then 5, 6"
+-- an element that the part cuts off is 14 (F5.7)
 abbrev pub cutOff : Refusal → Refusal
 cutOff k = cond (eqb (numberOf k) 1) R.PartMalformed k
 
--- "bytes left over 14"
+-- bytes left over are 14 (F5.7)
 abbrev pub wholePart : {A : Type 0} → Result A → Result A
 wholePart (ok a []) = ok a []
 wholePart (ok a (x ∷ r)) = bad R.PartMalformed
 wholePart (bad k) = bad (cutOff k)
 
--- "each string 9, 7, 5, 6; data 9; a walk's element part 9, then its elements"; "A qid part is 14 unless it is 13 times the count."
+-- a field that is to be written (F5.5 to F5.9)
 unfoldable pub show : Field → List ℕ → Value → Result Item
 show (num w) lent v = ok (number w (numOf v)) []
 show str lent v = after (showString lent (startOf v) (lenOf v)) (λ bs r. ok (string bs) r)
@@ -82,7 +82,7 @@ abbrev pub othersOf : List Value → List Value
 othersOf [] = []
 othersOf (v ∷ vs) = vs
 
--- "fields in order"
+-- fields in order (F5.2)
 unfoldable pub shows : Layout → List ℕ → List Value → Result (List Item)
 shows [] lent vs = ok [] []
 shows (f ∷ fs) lent vs = after (show f lent (firstOf vs)) (λ i r. after (shows fs lent (othersOf vs)) (λ is s. ok (i ∷ is) s))

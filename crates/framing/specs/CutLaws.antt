@@ -24,7 +24,7 @@ use Rattle.framing.specs.HeaderLaws.{frame-is}
 use Rattle.framing.specs.Local.{sizeIn}
 use Rattle.framing.specs.Stretch.{typeIn, tagIn, tableFor, answerIn, answerOf, tailIn, frame, end, stop, listedFrame, front, frameAt}
 use Rattle.framing.specs.Headers.{Headed}
-use Rattle.framing.specs.Cuts.{between, Stands, CutAt}
+use Rattle.framing.specs.Cuts.{between, WholeAt, CutAt}
 use Rattle.framing.specs.declared.Cut.{Cut}
 use Rattle.framing.specs.declared.Cut.the-variants as C
 
@@ -130,7 +130,7 @@ whole-cut {s} {p} {x} r e h w g a b =
       is = λ ts rs. rw n (at-whole ts rs s p r e h i);
     }
 
-pub length-whole : {s : List ℕ} {p ty tag e : ℕ} → Stands s p ty tag e → length (between p e s) ≡ e - p
+pub length-whole : {s : List ℕ} {p ty tag e : ℕ} → WholeAt s p ty tag e → length (between p e s) ≡ e - p
 length-whole {s} {p} {e = e} w =
     let h = w .held in
     let d = length-drop p s in
@@ -147,7 +147,7 @@ module _ (s : List ℕ) (p : ℕ) where
   unfolding CutAt
   stops-there e = e
 
-  pub cut-whole : {g : Cut} {ty tag e : ℕ} → CutAt s p g → g ≡ C.Whole ty tag e → Stands s p ty tag e
+  pub cut-whole : {g : Cut} {ty tag e : ℕ} → CutAt s p g → g ≡ C.Whole ty tag e → WholeAt s p ty tag e
   unfolding CutAt
   cut-whole h e = rw e at h
 

@@ -14,7 +14,7 @@ abbrev pub between : ℕ → ℕ → List ℕ → List ℕ
 between p e s = take (e - p) (drop p s)
 
 -- a whole frame from p to e, of the size that it declares; k is its type and g its tag
-pub record Stands (s : List ℕ) (p k g e : ℕ) : Type 0 where
+pub record WholeAt (s : List ℕ) (p k g e : ℕ) : Type 0 where
   pub seven : p + 7 ≤ e
   pub held : e ≤ length s
   pub size : sizeIn (between p e s) ≡ e - p
@@ -24,6 +24,6 @@ pub record Stands (s : List ℕ) (p k g e : ℕ) : Type 0 where
 
 -- how a stretch is cut at a position, whatever the tables: no body is looked at
 unfoldable pub CutAt : List ℕ → ℕ → Cut → Type 0
-CutAt s p (C.Whole ty tag e) = Stands s p ty tag e
+CutAt s p (C.Whole ty tag e) = WholeAt s p ty tag e
 CutAt s p C.End = (ts rs : List Row) → end p ≡ frameAt ts rs s p
 CutAt s p (C.Refused k) = (ts rs : List Row) → stop k p ≡ frameAt ts rs s p

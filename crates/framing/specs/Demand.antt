@@ -1,4 +1,4 @@
--- Demand 3, of whole stretches and over any two tables: "Frames lengthened after their last field, and unknown frames put between, leave the old listing as it was".
+-- Demand 3, of whole stretches and over any two tables: lengthening frames after their last field, and putting unknown ones between them, leaves the old listing as it was.
 use Prim.Native.Nat.{ℕ, _+_, _-_, _^_, _≤_, _<_}
 use native.Mathlib.Omega.{arith}
 use mathlib.Core.Path.{_≡_, refl, sym, ap, ap₂, _∙_, subst}
@@ -57,7 +57,7 @@ oldLines p nothing = ends p
 oldLines p (grown f g ty used vs w a l e) = entry p (length f) (typeIn f) (tagIn f) (accepted ty vs used) (length f - used) (oldLines (p + length f) e)
 oldLines p (added f s e) = oldLines p e
 
--- the new one: the old records in the old order, "the bytes added counted as tail, and each inserted frame refused with 3, with its type and tag"
+-- the new one: the old records in the old order, the bytes added counted as tail, and each frame put between refused with 3, with its type and tag
 unfoldable pub newLines : {ts rs : List Row} {old new : List ℕ} → ℕ → Edited ts rs old new → Listing
 newLines p nothing = ends p
 newLines p (grown f g ty used vs w a l e) =
@@ -71,13 +71,13 @@ answer-inv (headless k) e f = absurd (let z : _≡_ {A = ℕ} 0 1 = cc e in omeg
 answer-inv (framed tag a) e f = f tag (ap (framed tag) e)
 
 -- type and tag stand after the size, in front of the fields
-type-behind : (f : List ℕ) (u : ℕ) → 7 ≤ u → typeIn f ≡ fromLE (take 1 (drop 4 (take u f)))
-type-behind f u h =
+type-held : (f : List ℕ) (u : ℕ) → 7 ≤ u → typeIn f ≡ fromLE (take 1 (drop 4 (take u f)))
+type-held f u h =
     let e : u ≡ 4 + (u - 4) = omega arith in
     ap fromLE (sym (ap (λ n. take 1 (drop 4 (take n f))) e ∙ ap (take 1) (drop-take 4 (u - 4) f) ∙ take-take 1 (u - 4) (drop 4 f) (omega arith)))
 
-tag-behind : (f : List ℕ) (u : ℕ) → 7 ≤ u → tagIn f ≡ fromLE (take 2 (drop 1 (drop 4 (take u f))))
-tag-behind f u h =
+tag-held : (f : List ℕ) (u : ℕ) → 7 ≤ u → tagIn f ≡ fromLE (take 2 (drop 1 (drop 4 (take u f))))
+tag-held f u h =
     let e : u ≡ 5 + (u - 5) = omega arith in
     ap fromLE (sym (ap (take 2) (drop-drop 1 4 (take u f)) ∙ ap (λ n. take 2 (drop 5 (take n f))) e ∙ ap (take 2) (drop-take 5 (u - 5) f) ∙ take-take 2 (u - 5) (drop 5 f) (omega arith)))
 
@@ -111,8 +111,8 @@ module _ (ts rs : List Row) (f g : List ℕ) {ty used : ℕ} {vs : List Value} (
       let n : length (take used f) ≡ 7 + length i = ap length (first-used rows f A) ∙ length-append (headBytes (A .size) ty tag) i ∙ ap (λ m. m + length i) (head-length (A .size) ty tag) in
       let k = length-take used f in
       let m = l .longer in
-      let t : typeIn g ≡ typeIn f = type-behind g used (omega arith) ∙ ap (λ (x : List ℕ). fromLE (take 1 x)) (l .same) ∙ sym (type-behind f used (omega arith)) in
-      let v : tagIn g ≡ tagIn f = tag-behind g used (omega arith) ∙ ap (λ (x : List ℕ). fromLE (take 2 (drop 1 x))) (l .same) ∙ sym (tag-behind f used (omega arith)) in
+      let t : typeIn g ≡ typeIn f = type-held g used (omega arith) ∙ ap (λ (x : List ℕ). fromLE (take 1 x)) (l .same) ∙ sym (type-held f used (omega arith)) in
+      let v : tagIn g ≡ tagIn f = tag-held g used (omega arith) ∙ ap (λ (x : List ℕ). fromLE (take 2 (drop 1 x))) (l .same) ∙ sym (tag-held f used (omega arith)) in
       let w = l .whole in
       let seven = w .seven in
       let z : length g < 256 ^ 4 = rw (← (w .sized)) (size-small g c (omega arith)) in

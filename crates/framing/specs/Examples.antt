@@ -1,4 +1,4 @@
--- Document 01, "Frames to try": A to N, the proved set, read as the paper says; G in both directions, since the paper names neither.
+-- F10, frames to try: A to N, read as its table says; G in both directions.
 use Prim.Native.Nat.{ℕ}
 use mathlib.Core.Path.{_≡_, refl}
 use mathlib.Core.List.{List, [], _∷_}

@@ -100,7 +100,7 @@ module _ (ts rs : List Row) (s : List ℕ) where
   stopped p [] h e = absurd (omega arith)
   stopped p (x ∷ xs) h e = list-stop ts rs p x xs e
 
-  -- "the listing is these answers in order"
+  -- the listing is these answers in order (F6.8)
   pub list-step : (p : ℕ) → p ≤ length s → listed p ≡ goesOn (frameAt ts rs s p) listed
   list-step p h =
       or-else (length s) p (λ l. at-end p (omega arith))
@@ -112,7 +112,7 @@ module _ (ts rs : List Row) (s : List ℕ) where
       rw (before-end p l, e) (list-next ts rs p n (drop p s) f ∙ entry-sized (sym z) (ap (listFrom ts rs (p + n) 0) (drop-drop n p s) ∙ ap listed (ap (λ m. p + m) (sym z)))))
       (λ k e. rw (before-end p l, e) (stopped p (drop p s) (omega arith) e)))
 
-  -- "Each step moves on at least seven bytes."
+  -- a step moves on by seven bytes or more (F6.8)
   pub record Moved (p n next : ℕ) : Type 0 where
     pub seven : 7 ≤ n
     pub on : next ≡ p + n
@@ -142,7 +142,7 @@ module _ (ts rs : List Row) (s : List ℕ) where
           (λ m. let u = (rw (le-ltb (length s) p (omega arith), eq-eqb (length s) p (omega arith)) at e) in let c : _≡_ {A = ℕ} 0 1 = cc u in omega arith)
           (λ m. let u = (rw (lt-ltb (length s) p m) at e) in let c : _≡_ {A = ℕ} 0 1 = cc u in omega arith)
 
--- ---- "The sizes listed add up to the stopping position."
+-- ---- the sizes listed add up to the position where it ends (F6.8)
 
 abbrev pub sizesIn : Listing → ℕ
 sizesIn (entry at n ty tag a tail l) = n + sizesIn l

@@ -1,4 +1,4 @@
--- "The reader may look at the four size bytes and at the first size bytes, as far as they are held; no later byte alters its answer."
+-- No byte after the frame's own changes its answer (F4.1).
 use Prim.Native.Nat.{ℕ, _+_, _-_, _≤_, _<_, min}
 use native.Mathlib.Omega.{arith}
 use mathlib.Core.Path.{_≡_, refl, sym, ap, ap₂, _∙_}

@@ -1,4 +1,4 @@
--- Demand 3, of one frame and over any table: "written frames read back".
+-- Demand 3, of one frame and over any table: what is written reads back.
 use Prim.Native.Nat.{ℕ, suc, _+_, _*_, _^_, _≤_, _<_}
 use native.Mathlib.Omega.{arith}
 use mathlib.Core.Path.{_≡_, refl, sym, ap, ap₂, _∙_}

@@ -1,4 +1,4 @@
--- Document 01, "A stretch, the lister and pairs": "A stretch is frames back to back." Over any two tables, of requests and of replies.
+-- A stretch is frames back to back (F6), over any two tables, of requests and of replies.
 use Prim.Native.Nat.{ℕ, zero, suc, _+_, _-_, _%_, pred}
 use mathlib.Core.Bool.{cond}
 use mathlib.Core.List.{List, [], _∷_}
@@ -21,11 +21,11 @@ typeIn f = fromLE (take 1 (drop 4 f))
 abbrev pub tagIn : List ℕ → ℕ
 tagIn f = fromLE (take 2 (drop 5 f))
 
--- "exactly size bytes go to the T reader if the type is even, else to the R reader"
+-- the reader of requests if the type is even, else that of replies (F6.3)
 abbrev pub tableFor : List Row → List Row → ℕ → List Row
 tableFor ts rs ty = cond (eqb (ty % 2) 0) ts rs
 
--- "type, tag and answer are listed": in both directions the answer is the body's, or the header's refusal
+-- what is listed as the answer, in both directions: the body's, or the header's refusal (F6.4)
 abbrev pub answerIn : Frame → Answer
 answerIn (headless k) = refused k
 answerIn (framed tag a) = a
@@ -33,7 +33,7 @@ answerIn (framed tag a) = a
 unfoldable pub answerOf : List Row → List Row → List ℕ → Answer
 answerOf ts rs f = answerIn (readFrame (tableFor ts rs (typeIn f)) f)
 
--- "tail is size minus bytes used"; a refused frame has none
+-- the size less the bytes used; a refused frame has none (F6.5)
 abbrev pub tailIn : ℕ → Answer → ℕ
 tailIn size (accepted ty vs used) = size - used
 tailIn size (refused k) = 0
@@ -49,17 +49,17 @@ pub data Step : Type 0 where
 abbrev pub listedFrame : List Row → List Row → ℕ → List ℕ → Step
 listedFrame ts rs p f = frame p (length f) (typeIn f) (tagIn f) (answerOf ts rs f) (tailIn (length f) (answerOf ts rs f)) (p + length f)
 
--- of the bytes that are left: "1 to 3 bytes left, or size greater than what is left is 12, but size 0 to 6 is 13 and comes first where 4 bytes are there"
+-- of the bytes that are left: fewer than four, or than the size, are 12; a size below seven is 13, and comes first where four are there (F6.2)
 unfoldable pub front : List Row → List Row → ℕ → List ℕ → Step
 front ts rs p xs =
     cond (ltb (length xs) 4) (stop R.StretchCut p)
     (cond (ltb (sizeIn xs) 7) (stop R.StretchSize p) (cond (ltb (length xs) (sizeIn xs)) (stop R.StretchCut p) (listedFrame ts rs p (take (sizeIn xs) xs))))
 
--- "A position past the end" is 12; "the end where exactly nothing is left"
+-- past the end it is 12; the end, where exactly nothing is left (F6.2)
 unfoldable pub frameAt : List Row → List Row → List ℕ → ℕ → Step
 frameAt ts rs s p = cond (ltb (length s) p) (stop R.StretchCut p) (cond (eqb (length s) p) (end p) (front ts rs p (drop p s)))
 
--- ---- the listing: "these answers in order from 0"
+-- ---- the listing (F6.8)
 
 pub data Listing : Type 0 where
   entry : ℕ → ℕ → ℕ → ℕ → Answer → ℕ → Listing → Listing

@@ -1,4 +1,4 @@
--- Demand 3, of one frame and over any table: "stripped frames give the same record and are written back byte for byte"; "cut frames are refused as short".
+-- Demand 3, of one frame and over any table: a stripped frame gives the same record, and is written back byte for byte; a cut one is refused as short.
 use Prim.Native.Nat.{ℕ, zero, suc, _+_, _-_, _^_, _≤_, _<_, min}
 use native.Mathlib.Omega.{arith}
 use mathlib.Core.Path.{_≡_, refl, sym, ap, ap₂, _∙_}
@@ -35,8 +35,8 @@ unfoldable pub resized : ℕ → List ℕ → List ℕ
 resized n s = toLE 4 n ++ drop 4 (take n s)
 
 -- a frame of k bytes is no more than those, and its size is theirs
-behind-size : (n m ty tag : ℕ) (b : List ℕ) → toLE 4 n ++ drop 4 (headBytes m ty tag ++ b) ≡ headBytes n ty tag ++ b
-behind-size n m ty tag b =
+after-size : (n m ty tag : ℕ) (b : List ℕ) → toLE 4 n ++ drop 4 (headBytes m ty tag ++ b) ≡ headBytes n ty tag ++ b
+after-size n m ty tag b =
     let h : headBytes m ty tag ++ b ≡ toLE 4 m ++ (toLE 1 ty ++ (toLE 2 tag ++ b)) = simp append-assoc in
     ap (λ (x : List ℕ). toLE 4 n ++ drop 4 x) h ∙ ap (λ (x : List ℕ). toLE 4 n ++ x) (drop-at (toLE 4 m) _ 4 (length-toLE 4 m)) ∙ (simp append-assoc)
 
@@ -62,7 +62,7 @@ module _ (rows : List Row) (s : List ℕ) {ty tag used : ℕ} {vs : List Value} 
 
   pub stripped-is : resized used s ≡ headBytes used ty tag ++ itemsBytes (A .items)
   unfolding resized
-  stripped-is = ap (λ (x : List ℕ). toLE 4 used ++ drop 4 x) first-used ∙ behind-size used (A .size) ty tag (itemsBytes (A .items))
+  stripped-is = ap (λ (x : List ℕ). toLE 4 used ++ drop 4 x) first-used ∙ after-size used (A .size) ty tag (itemsBytes (A .items))
 
   pub stands-at : (n : ℕ) → n ≤ A .size → Stands rows n ty tag (A .items)
   stands-at n h = record {
@@ -73,7 +73,7 @@ module _ (rows : List Row) (s : List ℕ) {ty tag used : ℕ} {vs : List Value} 
     known = A .stands .known;
   }
 
-  -- "stripped frames give the same record"
+  -- a stripped frame gives the same record
   pub stripped-read : readFrame rows (resized used s) ≡ framed tag (accepted ty vs used)
   stripped-read =
       let i : List ℕ = itemsBytes (A .items) in
@@ -93,7 +93,7 @@ module _ (rows : List Row) (s : List ℕ) {ty tag used : ℕ} {vs : List Value} 
       ∙ ap (λ (x : List ℕ). shows (map kind (A .items)) x (places 7 (A .items))) e
       ∙ shows-items (A .items) h (A .left ++ r) 7 (A .stands .goods) (head-length (A .size) ty tag)
 
-  -- "and are written back byte for byte"
+  -- and is written back byte for byte
   pub stripped-written : (o : List ℕ) → used ≤ length o
       → (frameOut ty tag (shows (body (lookup rows ty)) s vs) o ≡ over o 0 (resized used s)) × (framePast ty tag (shows (body (lookup rows ty)) s vs) o ≡ At used)
   unfolding frameOut framePast frameBytes
@@ -108,17 +108,17 @@ module _ (rows : List Row) (s : List ℕ) {ty tag used : ℕ} {vs : List Value} 
         rw (shows-record, t) (past-fits (frameBytes ty tag (A .items)) o 0 (omega arith) ∙ ap At (omega arith)),
       )
 
--- ---- "cut frames are refused as short"
+-- ---- a cut frame is refused as short
 
 -- the first j bytes, with the size lowered to match where it is still held
 unfoldable pub cutAt : ℕ → List ℕ → List ℕ
 cutAt j s = cond (ltb j 4) (take j s) (resized j s)
 
 -- after the size: type, tag and items, cut anywhere
-cut-behind : (rows : List Row) {size ty tag : ℕ} {is : List Item} → Stands rows size ty tag is → (m : ℕ) → m < length (toLE 1 ty ++ (toLE 2 tag ++ itemsBytes is))
+cut-body : (rows : List Row) {size ty tag : ℕ} {is : List Item} → Stands rows size ty tag is → (m : ℕ) → m < length (toLE 1 ty ++ (toLE 2 tag ++ itemsBytes is))
     → answerIn (frameOf rows (readTypeTag (take m (toLE 1 ty ++ (toLE 2 tag ++ itemsBytes is))))) ≡ refused R.Short
 unfolding readTypeTag
-cut-behind rows {size} {ty} {tag} {is} w m h =
+cut-body rows {size} {ty} {tag} {is} w m h =
     cutting (reads-num 1 ty (w .typed)) (toLE 2 tag ++ itemsBytes is) m h (λ e. rw e)
     (λ m1 h1 e. rw e
     (cutting (reads-num 2 tag (w .tagged)) (itemsBytes is) m1 h1 (λ e1. rw e1) (λ m2 h2 e1. rw (e1, w .known, reads-fields is (w .goods) .cut m2 h2))))
@@ -150,7 +150,7 @@ module _ (rows : List Row) (s : List ℕ) {ty tag used : ℕ} {vs : List Value} 
       let u = A .uses in
       let r = rest-length in
       rw (first-cut l, reads-num 4 j (omega arith) .back (take (j - 4) rest), le-ltb j 4 l, take-take (j - 4) (j - 4) rest (omega arith))
-      (cut-behind rows (A .stands) (j - 4) (omega arith))
+      (cut-body rows (A .stands) (j - 4) (omega arith))
 
   pub cut-short : answerIn (readFrame rows (cutAt j s)) ≡ refused R.Short
   unfolding cutAt

@@ -1,4 +1,4 @@
--- Document 01, "Writing one frame": "fields in order", "then 10; then 11"; "On success the frame stands at the front of the output and the rest is untouched."
+-- Writing one frame (F5): its fields in order, then 10, then 11 (F5.2); what success leaves in the output (F5.12), and what a refusal does (F5.13).
 use Prim.Native.Nat.{ℕ, _+_, _≤_}
 use mathlib.Core.Path.{_≡_}
 use mathlib.Core.Bool.{cond}
@@ -16,7 +16,7 @@ use Rattle.fields.specs.Layouts.{Layout, Item, itemsBytes}
 use Rattle.fields.specs.Values.{Value, shows}
 use Rattle.laying.specs.Laying.{limit}
 
--- "size[4] type[1] tag[2]"
+-- size[4] type[1] tag[2] (F1.2)
 abbrev pub headBytes : ℕ → ℕ → ℕ → List ℕ
 headBytes size ty tag = toLE 4 size ++ toLE 1 ty ++ toLE 2 tag
 

@@ -21,7 +21,7 @@ use Rattle.strings.specs.Spans.{bytesIn, showSpan, showString, checkAt, SpanChe
 use Rattle.strings.specs.SpanLaws.{check-inv, first-refuses, passed, shown-length, span-inv, shown-in, string-inv}
 use Rattle.fields.specs.Layouts.{Field, num, str, dat, strs, quids, Item, number, string, bytes, strings, qids, readMany, manyBytes, itemBytes}
 use Rattle.fields.specs.LayoutLaws.{took-many}
-use Rattle.laying.specs.LayingLaws.{drop-take, Unless, behind}
+use Rattle.laying.specs.LayingLaws.{drop-take, Unless, after-count}
 use Rattle.fields.specs.Values.{Value, val, span, part, startOf, lenOf, cutOff, wholePart, show}
 use Rattle.fields.specs.Fields.{CountCheck, ManyRead}
 use Rattle.fields.specs.FieldLaws.{count-fits}
@@ -85,7 +85,7 @@ pub sized : {f : Field} {lent : List ℕ} {v : Value} → Unless f → Bytes len
 sized {f} {lent} {v} u b = record {
   is =
       λ i r e.
-      let k = behind f lent v u b e in
+      let k = after-count f lent v u b e in
       ap length (k .item) ∙ length-append (toLE (headWidth f) (headOf f v)) (k .tail) ∙ ap₂ (λ x y. x + y) (length-toLE (headWidth f) (headOf f v)) (k .size);
 }
 

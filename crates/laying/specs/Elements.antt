@@ -1,4 +1,4 @@
--- Document 01, "Reading one frame": "element i is answered as a part of the caller's bytes: a name without its count, a qid whole."
+-- The elements of a walk (F4.18): the answer for one is a span of the caller's bytes, of a name without its count, of a qid whole.
 use Prim.Native.Nat.{ℕ, _+_, _*_}
 use mathlib.Core.Path.{_≡_}
 use mathlib.Core.Bool.{cond}
@@ -23,11 +23,11 @@ elementIn x i (bytes bs) = span 0 0
 elementIn x i (strings l) = span (x + (length (manyBytes (take i l)) + 2)) (length (getD l i []))
 elementIn x i (qids n bs) = span (x + 13 * i) 13
 
--- "9, then 15"
+-- 9, then 15 (F4.19)
 unfoldable pub askedFor : List ℕ → Value → ℕ → Result (List ℕ)
 askedFor lent v i = after (showSpan lent (startOf v) (lenOf v)) (λ bs r. cond (ltb i (countOf v)) (ok bs r) (bad R.NoSuchElement))
 
--- "Asking for it checks 9, then 15, then the whole part as the writer does." The rest of an `ok` is not used, and is []
+-- then the whole part, as its writer checks it (F4.19). The rest of an `ok` is not used, and is []
 unfoldable pub elementAt : Field → List ℕ → Value → ℕ → Result Value
 elementAt f lent v i = after (askedFor lent v i) (λ bs r. after (show f lent v) (λ it s. ok (elementIn (startOf v) i it) []))
 

@@ -135,7 +135,7 @@ filledAt (Refused k) n p = Refused (cutOff k)
 pub record Filled (e : Place) (n : ℕ) (p q : Place) : Type 0 where
   pub is : q ≡ filledAt e n p
 
--- ---- a whole layout written: "fields in order", "then 10; then 11", and a refusal leaves the output as it was
+-- ---- a whole layout written: its fields in order, then 10, then 11, and a refusal leaves the output as it was (F5.16)
 
 abbrev pub writtenOut : Result (List Item) → List ℕ → Place → List ℕ
 writtenOut m o (Refused k) = o

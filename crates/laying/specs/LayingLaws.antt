@@ -102,7 +102,7 @@ Unless strs = Unit {0}
 Unless quids = Unit {0}
 
 -- an item that a value shows: its bytes are those of the span, after the count
-pub record Behind (f : Field) (lent : List ℕ) (v : Value) (i : Item) : Type 0 where
+pub record AfterCount (f : Field) (lent : List ℕ) (v : Value) (i : Item) : Type 0 where
   pub tail : List ℕ
   pub shows : showSpan lent (startOf v) (lenOf v) ≡ ok tail []
   pub size : length tail ≡ lenOf v
@@ -121,10 +121,10 @@ whole-inv (ok a []) {a = b} e f = f (let g : a ≡ b = cc e in ap (λ x. ok x []
 whole-inv (ok a (x ∷ r)) e f = absurd (let z : _≡_ {A = ℕ} 0 1 = cc e in omega arith)
 whole-inv (bad k) e f = absurd (let z : _≡_ {A = ℕ} 0 1 = cc e in omega arith)
 
-pub behind : (f : Field) (lent : List ℕ) (v : Value) {i : Item} {r : List ℕ} → Unless f → Bytes lent → show f lent v ≡ ok i r → Behind f lent v i
+pub after-count : (f : Field) (lent : List ℕ) (v : Value) {i : Item} {r : List ℕ} → Unless f → Bytes lent → show f lent v ≡ ok i r → AfterCount f lent v i
 unfolding show itemBytes stringBytes
-behind (num w) lent v u b e = absurd u
-behind str lent v {i} u b e =
+after-count (num w) lent v u b e = absurd u
+after-count str lent v {i} u b e =
     after-inv (showString lent (startOf v) (lenOf v)) _ e
     (λ bs s e1 e2.
     let k = string-inv lent (startOf v) (lenOf v) e1 in
@@ -137,13 +137,13 @@ behind str lent v {i} u b e =
       size = l;
       item = ap (λ n. toLE 2 n ++ bs) l;
     }))
-behind dat lent v {i} u b e =
+after-count dat lent v {i} u b e =
     after-inv (showSpan lent (startOf v) (lenOf v)) _ e
     (λ bs s e1 e2.
     let k = span-shown lent (startOf v) (lenOf v) e1 in
     let f : bytes bs ≡ i = cc e2 in
     rw (← f) (record { tail = bs; shows = k .0; size = k .1; item = ap (λ n. toLE 4 n ++ bs) (k .1) }))
-behind strs lent v {i} u b e =
+after-count strs lent v {i} u b e =
     after-inv (showSpan lent (startOf v) (lenOf v)) _ e
     (λ bs s e1 e2. after-inv (wholePart (readMany (countOf v) bs)) _ e2
     (λ l t e3 e4. whole-inv (readMany (countOf v) bs) e3
@@ -153,7 +153,7 @@ behind strs lent v {i} u b e =
     let h = took-many (countOf v) bs (rw (k .2) (bytes-take (lenOf v) (drop (startOf v) lent) (bytes-drop (startOf v) lent b))) e5 in
     let m : manyBytes l ≡ bs = sym (h .whole ∙ append-nil (manyBytes l)) in
     rw (← f) (record { tail = bs; shows = k .0; size = k .1; item = ap₂ (λ n z. toLE 2 n ++ z) (h .good .0) m }))))
-behind quids lent v {i} u b e =
+after-count quids lent v {i} u b e =
     after-inv (showSpan lent (startOf v) (lenOf v)) _ e
     (λ bs s e1 e2.
     let k = span-shown lent (startOf v) (lenOf v) e1 in
@@ -172,9 +172,9 @@ put-none o a h =
 put-self : (bs o : List ℕ) (p : Place) → Put bs o p (putAt bs o p) (pastPut bs o p)
 put-self bs o p = record { bytes = refl; next = refl }
 
-put-behind : (f : Field) (lent : List ℕ) (v : Value) (o : List ℕ) (a : ℕ) {i : Item} → Behind f lent v i → a + length (itemBytes i) ≤ length o
+put-after-count : (f : Field) (lent : List ℕ) (v : Value) (o : List ℕ) (a : ℕ) {i : Item} → AfterCount f lent v i → a + length (itemBytes i) ≤ length o
     → Put (itemBytes i) o (At a) (countedField f lent v o (At a)) (pastCounted f lent v o (At a))
-put-behind f lent v o a {i} k h =
+put-after-count f lent v o a {i} k h =
     let hd : List ℕ = toLE (headWidth f) (headOf f v) in
     let m : Place = pastPut hd o (At a) in
     rw (k .item, k .shows, passing (k .tail) [] m)
@@ -190,10 +190,10 @@ put-field : (f : Field) (lent : List ℕ) (v : Value) (o : List ℕ) (a : ℕ) {
     → Put (itemBytes i) o (At a) (putField f lent v o (At a)) (pastPutField f lent v o (At a))
 unfolding putField pastPutField
 put-field (num w) lent v o a {i} b e h = number-put w lent v o a e
-put-field str lent v o a b e h = put-behind str lent v o a (behind str lent v tt b e) h
-put-field dat lent v o a b e h = put-behind dat lent v o a (behind dat lent v tt b e) h
-put-field strs lent v o a b e h = put-behind strs lent v o a (behind strs lent v tt b e) h
-put-field quids lent v o a b e h = put-behind quids lent v o a (behind quids lent v tt b e) h
+put-field str lent v o a b e h = put-after-count str lent v o a (after-count str lent v tt b e) h
+put-field dat lent v o a b e h = put-after-count dat lent v o a (after-count dat lent v tt b e) h
+put-field strs lent v o a b e h = put-after-count strs lent v o a (after-count strs lent v tt b e) h
+put-field quids lent v o a b e h = put-after-count quids lent v o a (after-count quids lent v tt b e) h
 
 put-next : {bs o o' : List ℕ} {a : ℕ} {q : Place} → Put bs o (At a) o' q → a + length bs ≤ length o → q ≡ At (a + length bs)
 unfolding pastPut

@@ -16,6 +16,7 @@ use Rattle.numbers.specs.declared.Refusal.{Refusal}
 use Rattle.numbers.specs.declared.Refusal.the-variants as R
 use Rattle.numbers.specs.declared.Place.{Place}
 use Rattle.numbers.specs.declared.Place.the-variants.{At, Refused}
+use Rattle.fields.specs.FieldLaws.{others-bad}
 use Rattle.fields.specs.Layouts.{Field, num, str, dat, strs, quids, Layout, Item, itemBytes, itemsBytes}
 use Rattle.fields.specs.Values.{Value, show, firstOf, othersOf, shows}
 use Rattle.laying.specs.Laying.{limit, advance, checkField, checkFields, putFields, pastPutFields, Laid, writtenOut, writtenPast, Written, settledAt, Settled, begunAt, Begun, putField, pastPutField}
@@ -72,14 +73,10 @@ unfolding shows checkFields
 failed [] lent vs a e = absurd (let z : _≡_ {A = ℕ} 0 1 = cc e in omega arith)
 failed (f ∷ fs) lent vs a {k} e = go (show f lent (firstOf vs)) refl e (λ n c. failed fs lent (othersOf vs) n c)
   where
-    behind : (i : Item) (m : Result (List Item)) → after m (λ is u. ok (i ∷ is) u) ≡ bad k → m ≡ bad k
-    behind i (ok is u) c = absurd (let z : _≡_ {A = ℕ} 0 1 = cc c in omega arith)
-    behind i (bad j) c = let f : j ≡ k = cc c in ap bad f
-
     go : (m : Result Item) → show f lent (firstOf vs) ≡ m → after m (λ i r. after (shows fs lent (othersOf vs)) (λ is u. ok (i ∷ is) u)) ≡ bad k
         → ((n : ℕ) → shows fs lent (othersOf vs) ≡ bad k → checkFields fs lent (othersOf vs) (At n) ≡ Refused k)
         → checkFields fs lent (othersOf vs) (checkField f lent (firstOf vs) (At a)) ≡ Refused k
-    go (ok i t) d c ih = rw (check-passed f lent (firstOf vs) a d) (ih (min (a + length (itemBytes i)) limit) (behind i (shows fs lent (othersOf vs)) c))
+    go (ok i t) d c ih = rw (check-passed f lent (firstOf vs) a d) (ih (min (a + length (itemBytes i)) limit) (others-bad i (shows fs lent (othersOf vs)) c))
     go (bad j) d c ih = let g : j ≡ k = cc c in rw (check-failed f lent (firstOf vs) a d, g) (stays fs lent (othersOf vs) k)
 
 -- ---- and what is written

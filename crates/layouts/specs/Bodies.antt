@@ -22,7 +22,7 @@ abbrev pub finishAt : ℕ → List Value → Place → Answer
 finishAt ty vs (At n) = accepted ty vs n
 finishAt ty vs (Refused k) = refused k
 
--- the definition, of the bytes xs that begin at position a: "an unknown type refused; fields in order"; the values are where the items stand
+-- the definition, of the bytes xs that begin at position a: 3 for an unknown type, else the fields in order (F4.2); the values are where the items stand (F4.16)
 abbrev pub itemsAt : ℕ → ℕ → Result (List Item) → Answer
 itemsAt ty a (ok is r) = accepted ty (places a is) (a + length (itemsBytes is))
 itemsAt ty a (bad k) = refused k

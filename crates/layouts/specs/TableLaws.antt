@@ -1,4 +1,4 @@
--- The tables are document 01's: which of the 256 numbers are known in each direction, computed.
+-- Which of the 256 numbers are known in each direction (F3.3), computed.
 use Prim.Native.Nat.{ℕ, zero, suc}
 use mathlib.Core.Path.{_≡_, refl}
 use mathlib.Core.List.{List, [], _∷_, _++_}

@@ -1,4 +1,4 @@
--- Document 01's example of the lister's text, computed of the definitions.
+-- F8.9: an example of the lister's text, computed from the definitions.
 use Prim.Native.Nat.{ℕ}
 use mathlib.Core.Path.{_≡_, refl}
 use mathlib.Core.List.{List, [], _∷_}
@@ -21,7 +21,7 @@ pub b-c-k-j :
 unfolding fromLE toLE raw readNum readField readFields itemBytes itemsBytes places readTypeTag readHeader readFrame answerOf front listFrom listing decimal joined linesFrom
 b-c-k-j = refl
 
--- "Empty input gives the header and `end 0 0`."
+-- F8.6: no input
 pub empty : joined (report tableT tableR []) ≡ 97 ∷ 116 ∷ 32 ∷ 115 ∷ 105 ∷ 122 ∷ 101 ∷ 32 ∷ 116 ∷ 121 ∷ 112 ∷ 101 ∷ 32 ∷ 116 ∷ 97 ∷ 103 ∷ 32 ∷ 97 ∷ 110 ∷ 115 ∷ 119 ∷ 101 ∷ 114 ∷ 32 ∷ 116 ∷ 97 ∷ 105 ∷ 108 ∷ 10 ∷ 101 ∷ 110 ∷ 100 ∷ 32 ∷ 48 ∷ 32 ∷ 48 ∷ 10 ∷ []
 unfolding listFrom listing decimal joined linesFrom
 empty = refl

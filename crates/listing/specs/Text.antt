@@ -1,4 +1,4 @@
--- Document 01, "The lister program .. prints decimal fields: position, size, type, tag, answer (0 or the refusal), tail (`-` if refused)." A text is its pieces, put one after the other.
+-- The lister's text (F8). A text is its pieces, put one after the other.
 use Prim.Native.Nat.{ℕ, zero, suc, _^_}
 use mathlib.Core.Path.{_≡_}
 use mathlib.Core.Bool.{cond}
@@ -56,14 +56,14 @@ abbrev pub newline : List ℕ
 newline = 10 ∷ []
 
 abbrev pub fieldPieces : ℕ → List ℕ → List (List ℕ)
-fieldPieces n behind = decimal n ∷ behind ∷ []
+fieldPieces n next = decimal n ∷ next ∷ []
 
--- "answer (0 or the refusal)"
+-- 0 or the refusal's number (F8.5)
 abbrev pub numberIn : Answer → ℕ
 numberIn (accepted ty vs used) = 0
 numberIn (refused k) = numberOf k
 
--- "tail (`-` if refused)"
+-- `-` where the frame is refused (F8.5)
 abbrev pub tailPieces : ℕ → ℕ → List (List ℕ)
 tailPieces n tail = cond (eqb n 0) (fieldPieces tail newline) ((45 ∷ 10 ∷ []) ∷ [])
 
@@ -71,11 +71,11 @@ abbrev pub linePieces : ℕ → ℕ → ℕ → ℕ → ℕ → ℕ → List (Li
 linePieces at size ty tag n tail =
     fieldPieces at space ++ (fieldPieces size space ++ (fieldPieces ty space ++ (fieldPieces tag space ++ (fieldPieces n space ++ tailPieces n tail))))
 
--- "at size type tag answer tail"
+-- at size type tag answer tail (F8.2)
 abbrev pub header : List ℕ
 header = 97 ∷ 116 ∷ 32 ∷ 115 ∷ 105 ∷ 122 ∷ 101 ∷ 32 ∷ 116 ∷ 121 ∷ 112 ∷ 101 ∷ 32 ∷ 116 ∷ 97 ∷ 103 ∷ 32 ∷ 97 ∷ 110 ∷ 115 ∷ 119 ∷ 101 ∷ 114 ∷ 32 ∷ 116 ∷ 97 ∷ 105 ∷ 108 ∷ 10 ∷ []
 
--- "end " and "stop "
+-- the words of the last line (F8.6)
 abbrev pub endWord : List ℕ
 endWord = 101 ∷ 110 ∷ 100 ∷ 32 ∷ []
 
@@ -85,20 +85,20 @@ stopWord = 115 ∷ 116 ∷ 111 ∷ 112 ∷ 32 ∷ []
 abbrev pub lastPieces : List ℕ → ℕ → ℕ → List (List ℕ)
 lastPieces word p n = word ∷ (fieldPieces p space ++ fieldPieces n newline)
 
--- "The last line has position and frames. A stretch that stops early ends instead with `stop`, position, refusal."
+-- F8.6: position and frames, or position and refusal
 unfoldable pub linesFrom : ℕ → Listing → List (List ℕ)
 linesFrom n (entry at size ty tag a tail l) = linePieces at size ty tag (numberIn a) tail ++ linesFrom (suc n) l
 linesFrom n (ends p) = lastPieces endWord p n
 linesFrom n (stops k p) = lastPieces stopWord p (numberOf k)
 
--- "Longer input gives only `input too long`."
+-- what longer input gives (F8.1)
 abbrev pub tooLong : List ℕ
 tooLong = 105 ∷ 110 ∷ 112 ∷ 117 ∷ 116 ∷ 32 ∷ 116 ∷ 111 ∷ 111 ∷ 32 ∷ 108 ∷ 111 ∷ 110 ∷ 103 ∷ 10 ∷ []
 
 abbrev pub listingPieces : List Row → List Row → List ℕ → List (List ℕ)
 listingPieces ts rs s = header ∷ linesFrom 0 (listing ts rs s)
 
--- "reads standard input, up to 65,536 bytes"
+-- the text of some input, up to 65,536 bytes of it (F8.1)
 abbrev pub report : List Row → List Row → List ℕ → List (List ℕ)
 report ts rs s = cond (ltb 65536 (length s)) (tooLong ∷ []) (listingPieces ts rs s)
 
@@ -107,8 +107,8 @@ report ts rs s = cond (ltb 65536 (length s)) (tooLong ∷ []) (listingPieces ts 
 pub record DecimalPut (n : ℕ) (o : List ℕ) (p : Place) (o' : List ℕ) (q : Place) : Type 0 where
   pub is : Put (decimal n) o p o' q
 
-pub record FieldPut (n : ℕ) (behind o : List ℕ) (p : Place) (o' : List ℕ) (q : Place) : Type 0 where
-  pub is : PutAll (fieldPieces n behind) o p o' q
+pub record FieldPut (n : ℕ) (next o : List ℕ) (p : Place) (o' : List ℕ) (q : Place) : Type 0 where
+  pub is : PutAll (fieldPieces n next) o p o' q
 
 pub record TailPut (n tail : ℕ) (o : List ℕ) (p : Place) (o' : List ℕ) (q : Place) : Type 0 where
   pub is : PutAll (tailPieces n tail) o p o' q

@@ -33,11 +33,11 @@ fn put_decimal(out: &mut [u8], p: Place, n: u64) -> Place
 }
 
 // A decimal field and what stands after it.
-fn put_field(out: &mut [u8], p: Place, n: u64, behind: &[u8]) -> Place
-    ensures { λ r. ⌜ FieldPut n (now (behind .entry)) (now (out .entry)) p (now (out .exit)) r ⌝ }
+fn put_field(out: &mut [u8], p: Place, n: u64, next: &[u8]) -> Place
+    ensures { λ r. ⌜ FieldPut n (now (next .entry)) (now (out .entry)) p (now (out .exit)) r ⌝ }
 {
     let q = put_decimal(out, p, n);
-    put_text(out, q, behind)
+    put_text(out, q, next)
 }
 
 // 0, or the number of the refusal.

@@ -1,4 +1,4 @@
--- Document 01, "All numbers are little endian": bytes to number and number to bytes, over the width.
+-- Numbers, their lowest byte first (F1.1): bytes to number and number to bytes, over the width.
 use Prim.Native.Nat.{ℕ, zero, suc, _+_, _*_, _^_, _/_, _%_, _<_}
 use native.Mathlib.Nat.{mod-add-div, div-lt-iff-lt-mul, pow-suc, zero-lt-suc, add-mul-div-left, div-eq-of-lt, zero-add, add-mul-mod-self-left, mod-eq-of-lt, mod-lt}
 use native.Mathlib.Omega.{arith}

@@ -12,12 +12,12 @@ pub data Result (A : Type 0) : Type 0 where
   ok : A → List ℕ → Result A
   bad : Refusal → Result A
 
--- "The first step that fails answers": the next reader goes on with the rest, unless the first is refused
+-- the first step that fails answers (F4.2): the next reader goes on with the rest, unless the first is refused
 abbrev pub after : {A B : Type 0} → Result A → (A → List ℕ → Result B) → Result B
 after (ok a r) k = k a r
 after (bad n) k = bad n
 
--- n bytes as they stand; 1 where "bytes end inside a field or header"
+-- n bytes as they stand; 1 where there are fewer (F9.1)
 unfoldable pub raw : ℕ → List ℕ → Result (List ℕ)
 raw n xs = cond (leb n (length xs)) (ok (take n xs) (drop n xs)) (bad R.Short)
 

@@ -1,4 +1,4 @@
--- Document 01, "Refusal numbers": the number of each refusal.
+-- The number of each refusal (F9).
 use Prim.Native.Nat.{ℕ}
 use Rattle.numbers.specs.declared.Refusal.{Refusal}
 use Rattle.numbers.specs.declared.Refusal.the-variants as R

@@ -7,7 +7,7 @@ ghost use Rattle.numbers.specs.Refusals.{numberOf};
 ghost use Rattle.numbers.specs.Numbers.{fromLE, toLE};
 ghost use Rattle.numbers.specs.Places.{Within, NumRead, Put, over};
 
-// Why a reading or a writing is refused, in the order of document 01's table; `numberOf` gives each case its number there.
+// Why a reading or a writing is refused (F9), in the order of the numbers that `numberOf` gives.
 pub enum Refusal {
     Short,
     SizeBelowFour,
@@ -27,7 +27,7 @@ pub enum Refusal {
     HoldsRefusal,
 }
 
-// The refusal's number in document 01.
+// The refusal's number (F9).
 pub fn number(k: Refusal) -> u8
     ensures { λ r. ⌜ r ≡ numberOf k ⌝ }
 {

@@ -1,4 +1,4 @@
--- Document 01's examples of pairs, computed of the definition.
+-- F10.9: examples of pairs, computed from the definition.
 use mathlib.Core.Path.{_≡_, refl}
 use mathlib.Core.Bool.{true, false}
 use Rattle.layouts.specs.Tables.{tableT}

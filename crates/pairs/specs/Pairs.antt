@@ -1,4 +1,4 @@
--- "A reply answers a request exactly if the tags are equal, the request's type is one of the 28, and the reply's type is that number plus one."
+-- Which reply answers which request (F7.1): equal tags, a known request, and a reply of the next number.
 use Prim.Native.Nat.{ℕ, _+_}
 use mathlib.Core.Bool.{Bool, true, false, cond}
 use mathlib.Core.List.{List}

@@ -201,7 +201,7 @@ pub fn read(line: &[u8], bytes: &mut [u8]) -> Question {
     }
 }
 
-// Document 01, "Refusal numbers".
+// F9: the numbers of the refusals.
 fn refusal(n: u64) -> Refusal {
     match n {
         1 => Refusal::Short,

@@ -1,4 +1,4 @@
--- Document 01's example of a listing, B, C, K, J joined: computed of the definition.
+-- F8.9: an example of a listing, B, C, K and J of F10 joined, computed from the definition.
 use Prim.Native.Nat.{ℕ}
 use mathlib.Core.Path.{_≡_, refl}
 use mathlib.Core.List.{List, [], _∷_}

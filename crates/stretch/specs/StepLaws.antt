@@ -11,7 +11,7 @@ use Rattle.numbers.specs.declared.Place.the-variants.{At}
 use Rattle.layouts.specs.Tables.{tableT, tableR}
 use Rattle.layouts.specs.Bodies.{readBody}
 use Rattle.framing.specs.Stretch.{typeIn, tagIn, answerOf, tailIn, end, stop, frameAt}
-use Rattle.framing.specs.Cuts.{between, Stands}
+use Rattle.framing.specs.Cuts.{between, WholeAt}
 use Rattle.framing.specs.CutLaws.{answer-is, frame-same, length-whole}
 use Rattle.stretch.specs.Views.{viewBody, BodyOf, Leaves, ListedAs, viewStep, Asked}
 use Rattle.requests.specs.Views.{viewT}
@@ -27,7 +27,7 @@ use Rattle.stretch.specs.declared.Body.the-variants as B
 use Rattle.stretch.specs.declared.Listed.{Listed}
 use Rattle.stretch.specs.declared.Step.the-variants as S
 
-pub at-frame : {s : List ℕ} {p ty tag e : ℕ} (l : Listed) → Bytes s → Stands s p ty tag e → ListedAs (between p e s) ty tag p e l → Asked s p (S.Frame l)
+pub at-frame : {s : List ℕ} {p ty tag e : ℕ} (l : Listed) → Bytes s → WholeAt s p ty tag e → ListedAs (between p e s) ty tag p e l → Asked s p (S.Frame l)
 unfolding viewStep
 at-frame {s} {p} {ty} {tag} {e} l b w k =
     let f : List ℕ = between p e s in

@@ -1,4 +1,4 @@
--- Demand 3, "written frames read back", of walks that were written from tables: as Twalk and Rwalk of document 01's table.
+-- Demand 3 of walks that were written from tables: they read back, as the Twalk and the Rwalk of F3.2.
 use Prim.Native.Nat.{ℕ, suc, _+_, _*_, _^_, _≤_, _<_}
 use native.Mathlib.Omega.{arith}
 use mathlib.Core.Path.{_≡_, refl, sym, ap, ap₂, _∙_}

@@ -19,11 +19,11 @@ bytesIn (bad k) = []
 
 -- ---- lent bytes. The rest of an `ok` is not used here, and is []
 
--- what a span shows; 9 where it is "outside the lent bytes: start plus length above their number"
+-- what a span shows; 9 where it lies outside the lent bytes (F5.4)
 unfoldable pub showSpan : List ℕ → ℕ → ℕ → Result (List ℕ)
 showSpan lent x y = cond (leb (x + y) (length lent)) (ok (take y (drop x lent)) []) (bad R.SpanOutside)
 
--- "each string 9, 7, 5, 6"
+-- a string that is to be written: 9, 7, 5, 6 (F5.5)
 unfoldable pub showString : List ℕ → ℕ → ℕ → Result (List ℕ)
 showString lent x y = after (showSpan lent x y) (λ bs r. cond (leb y 65535) (okText bs r) (bad R.StringTooLong))
 

@@ -1,4 +1,4 @@
--- Document 01, "A string (s) is n[2] and n bytes of well-formed UTF-8 with no zero byte."
+-- Strings (F1.3): n[2] and n bytes of text.
 use Prim.Native.Nat.{ℕ, _<_}
 use mathlib.Core.Path.{_≡_}
 use mathlib.Core.Bool.{true, cond}
@@ -9,11 +9,11 @@ use Rattle.numbers.specs.Reading.{Result, ok, bad, after, raw, readNum}
 use Rattle.numbers.specs.declared.Refusal.the-variants as R
 use Rattle.utf8.specs.Utf8.{utf8, noZero}
 
--- the check of a string's bytes: UTF-8 over the whole string first (5), then the zero byte (6)
+-- the check of a text: UTF-8 over all of it first (5), then the zero byte (6) (F2.5)
 abbrev pub okText : List ℕ → List ℕ → Result (List ℕ)
 okText bs r = cond (utf8 bs) (cond (noZero bs) (ok bs r) (bad R.ZeroByte)) (bad R.NotUtf8)
 
--- "For a string: count, bytes, UTF-8, zero byte."
+-- count, bytes, UTF-8, zero byte (F4.9)
 unfoldable pub readString : List ℕ → Result (List ℕ)
 readString xs = after (readNum 2 xs) (λ n r. after (raw n r) okText)
 

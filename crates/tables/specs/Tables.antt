@@ -1,4 +1,4 @@
--- Document 01, "Writing one frame": "Names may also come as a lent table of spans, and the qids of an Rwalk as a lent table of qids, each 13 bytes on the wire; there 8 comes before any element."
+-- Walks written from lent tables: a Twalk from spans of names (F5.14), an Rwalk from qids (F5.15).
 use Prim.Native.Nat.{ℕ}
 use mathlib.Core.Path.{_≡_}
 use mathlib.Core.List.{List, [], _∷_, map}
@@ -15,7 +15,7 @@ pub record TableWritten (ty tag : ℕ) (m : Result (List Item)) (o o' : List ℕ
   pub bytes : o' ≡ frameOut ty tag m o
   pub next : q ≡ framePast ty tag m o
 
--- "8 comes before any element"
+-- the count comes before any element
 abbrev pub fromTable : ℕ → Result (List Item) → Result (List Item)
 fromTable n m = after (okCount n) (λ _ _. m)
 
@@ -27,7 +27,7 @@ nameFields t = map (λ row. str) t
 abbrev pub nameValues : List (List ℕ) → List Value
 nameValues t = map (λ row. span (getD row 0 0) (getD row 1 0)) t
 
--- Twalk: "4 4, vector of s"; "A vector is count[2] and its elements."
+-- the fields of a Twalk (F3.2), its vector as a count and so many strings (F1.5)
 abbrev pub walkFields : List (List ℕ) → Layout
 walkFields t = num 4 ∷ num 4 ∷ num 2 ∷ nameFields t
 
@@ -37,12 +37,12 @@ walkValues fid newfid count t = val fid ∷ val newfid ∷ val count ∷ nameVal
 pub record TwalkWritten (tag fid newfid : ℕ) (lent : List ℕ) (t : List (List ℕ)) (o o' : List ℕ) (q : Place) : Type 0 where
   pub is : TableWritten 110 tag (fromTable (length t) (shows (walkFields t) lent (walkValues fid newfid (length t) t))) o o' q
 
--- ---- qids: "ty[1] version[4] path[8]"
+-- ---- qids (F1.6)
 
 unfoldable pub qidItems : List Qid → List Item
 qidItems [] = []
 qidItems (x ∷ xs) = number 1 (x .ty) ∷ number 4 (x .version) ∷ number 8 (x .path) ∷ qidItems xs
 
--- Rwalk: "vector of q"
+-- an Rwalk is a vector of qids (F3.2)
 pub record RwalkWritten (tag : ℕ) (t : List Qid) (o o' : List ℕ) (q : Place) : Type 0 where
   pub is : TableWritten 111 tag (fromTable (length t) (ok (number 2 (length t) ∷ qidItems t) [])) o o' q

@@ -72,9 +72,9 @@ abbrev high : List Range → ℕ
 high [] = 0
 high (lo to hi ∷ row) = hi
 
-abbrev behind : List Range → List Range
-behind [] = []
-behind (r ∷ row) = row
+abbrev others : List Range → List Range
+others [] = []
+others (r ∷ row) = row
 
 -- every row begins above h
 abbrev above : ℕ → List (List Range) → Bool
@@ -106,7 +106,7 @@ none-above h b bs l ((lo to hi ∷ row) ∷ rs) e =
 
 -- an octet in the first range of row n
 begun : (b : ℕ) (bs : List ℕ) (rs : List (List Range)) → rising rs ≡ true → (n : ℕ) → n < length rs → low (getD rs n []) ≤ b → b ≤ high (getD rs n [])
-    → charIn rs (b ∷ bs) ≡ cond (fits (behind (getD rs n [])) bs) (suc (length (behind (getD rs n [])))) 0
+    → charIn rs (b ∷ bs) ≡ cond (fits (others (getD rs n [])) bs) (suc (length (others (getD rs n [])))) 0
 begun b bs [] e n l p q = absurd (omega arith)
 begun b bs ([] ∷ rs) e n l p q = absurd (let y : _≡_ {A = ℕ} 0 1 = cc in omega arith)
 begun b bs ((lo to hi ∷ row) ∷ rs) e zero l p q =
@@ -132,7 +132,7 @@ missed b h k bs p q ((lo to hi ∷ row) ∷ xs) ys e f =
 
 module _ {s : List ℕ} {i : ℕ} where
   pub in-row : {k : ℕ} (n : ℕ) → i < length s → n < length rows → low (getD rows n []) ≤ getD s i 0 → getD s i 0 ≤ high (getD rows n [])
-      → Rest (behind (getD rows n [])) s i k → CharAt s i k
+      → Rest (others (getD rows n [])) s i k → CharAt s i k
   unfolding char
   in-row n h l p q r = record { is = r .is ∙ rw (drop-cons s i 0 h, add-one) (sym (begun (getD s i 0) (drop (suc i) s) rows refl n l p q)) }
 

@@ -1,4 +1,4 @@
--- UTF-8 as RFC 3629, section 4, "Syntax of UTF-8 Byte Sequences", has it: the rows of its grammar, as data.
+-- UTF-8 (F2.1): the rows of the grammar in RFC 3629, section 4, as data.
 use Prim.Native.Nat.{ℕ, zero, suc}
 use mathlib.Core.Path.{_≡_}
 use mathlib.Core.Bool.{Bool, true, false, cond, _&&_}
@@ -7,7 +7,7 @@ use lib.ListN.{length, drop}
 use lib.Dec.{leb, eqb}
 
 infixl 70 _to_
--- "%x00-7F": the octets from the first to the second
+-- the octets from the first to the second, as the RFC's %x00-7F
 pub data Range : Type 0 where
   _to_ : ℕ → ℕ → Range
 
@@ -61,7 +61,7 @@ chars zero (b ∷ bs) = elim (char (b ∷ bs)) [ zero ↦ false | suc k ↦ char
 unfoldable pub utf8 : List ℕ → Bool
 utf8 bs = chars 0 bs
 
--- "with no zero byte"
+-- no zero byte (F2.4)
 unfoldable pub noZero : List ℕ → Bool
 noZero [] = true
 noZero (b ∷ bs) = cond (eqb b 0) false (noZero bs)

@@ -123,9 +123,9 @@ pub fn text(draws: &mut Draws) -> Vec<u8> {
         1 if !text.is_empty() => damaged(text, draws),
         2 => text,
         _ => {
-            let (lead, behind) = draws.one_of(&LEADS);
+            let (lead, after) = draws.one_of(&LEADS);
             text.push(lead);
-            text.extend((0..behind).map(|_| draws.one_of(&TRAILS)));
+            text.extend((0..after).map(|_| draws.one_of(&TRAILS)));
             text
         }
     }

@@ -39,8 +39,8 @@ pub fn raw(direction: Direction, bytes: &[u8]) -> Outcome {
 fn taken(bytes: &[u8]) -> Raw<'_> {
     let mut rest = bytes;
     let mut number = |width: usize| {
-        let (front, behind) = rest.split_at(width.min(rest.len()));
-        rest = behind;
+        let (front, after) = rest.split_at(width.min(rest.len()));
+        rest = after;
         let mut wide = [0; 8];
         wide[..front.len()].copy_from_slice(front);
         u64::from_le_bytes(wide)
@@ -132,11 +132,11 @@ fn text(bytes: &[u8]) -> Result<(), u8> {
 
 fn names(mut part: &[u8], count: u16) -> Result<(), u8> {
     for _ in 0..count {
-        let (len, behind) = part.split_first_chunk().ok_or(14)?;
+        let (len, after) = part.split_first_chunk().ok_or(14)?;
         let len = usize::from(u16::from_le_bytes(*len));
-        let (name, behind) = behind.split_at_checked(len).ok_or(14)?;
+        let (name, after) = after.split_at_checked(len).ok_or(14)?;
         text(name)?;
-        part = behind;
+        part = after;
     }
     match part.is_empty() {
         true => Ok(()),

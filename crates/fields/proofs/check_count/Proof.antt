@@ -1,3 +1,4 @@
+-- The place is refused already, the count is above the limit, or it is not.
 use native.Mathlib.Omega.{arith}
 use borrow.Author.Needs.{needs}
 use Rattle.fields.specs.FieldLaws.{count-over, count-held}

@@ -1,3 +1,4 @@
+-- All eight are plain if every test says so.
 use borrow.Author.Needs.{needs}
 use native.Mathlib.Omega.{arith}
 use Rattle.fields.proofs.Names.{one-plain, more-plain}

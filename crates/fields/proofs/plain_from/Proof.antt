@@ -1,3 +1,4 @@
+-- Eight bytes, the last eight, or one of a shorter text; or none.
 use borrow.Author.Needs.{needs}
 use native.Mathlib.Omega.{arith}
 use Rattle.fields.proofs.Names.{one-plain, no-run, some-run}

@@ -1,3 +1,4 @@
+-- The number that was read; a count of two bytes passes its check.
 use Prim.Native.Nat.{_<_}
 use native.Mathlib.Omega.{arith}
 use borrow.Author.Needs.{needs}

@@ -1,3 +1,4 @@
+-- The count is cut off, it is above the limit, its bytes are cut off, or all are held.
 use native.Mathlib.Omega.{arith}
 use borrow.Author.Needs.{needs}
 use Rattle.numbers.specs.PlaceLaws.{inside}

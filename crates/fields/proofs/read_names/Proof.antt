@@ -1,3 +1,4 @@
+-- The count is cut off, a name is refused, or the part ends where the scan does.
 use native.Mathlib.Omega.{arith}
 use borrow.Author.Needs.{needs}
 use Rattle.numbers.specs.Numbers.{bytes-all}

@@ -1,3 +1,4 @@
+-- Past the end there are as many strings as at the end.
 use native.Mathlib.Omega.{arith}
 use borrow.Author.Needs.{needs}
 use Rattle.fields.proofs.Ways.{many-from}

@@ -1,3 +1,4 @@
+-- A header that can't be read, a body that is refused, or a reply.
 use borrow.Author.Needs.{needs}
 use mathlib.Core.Path.{sym}
 use lib.Seq.{length-take-le}

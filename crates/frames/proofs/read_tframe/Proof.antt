@@ -1,3 +1,4 @@
+-- A header that can't be read, or a tag beside the body.
 use borrow.Author.Needs.{needs}
 use mathlib.Core.Path.{sym}
 use lib.Seq.{length-take-le}

@@ -1,3 +1,4 @@
+-- The refusal that a header holds.
 use borrow.Author.Needs.{needs}
 use Rattle.frames.specs.FrameLaws.{why-not, why-so}
 use Rattle.frames.proofs.why.Statement.{statement}

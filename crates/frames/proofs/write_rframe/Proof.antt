@@ -1,3 +1,4 @@
+-- The body after the header's seven bytes, then the header.
 use borrow.Author.Needs.{needs}
 use Rattle.framing.specs.WritingLaws.{frame-as}
 use Rattle.frames.proofs.write_rframe.Statement.{statement}

@@ -1,3 +1,4 @@
+-- A refusal is 16; a message is a body after the header's seven bytes, then the header.
 use borrow.Author.Needs.{needs}
 use Rattle.framing.specs.WritingLaws.{frame-as}
 use Rattle.frames.specs.RequestLaws.{request-written, request-refused}

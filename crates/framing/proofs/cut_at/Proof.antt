@@ -1,3 +1,4 @@
+-- A law of CutLaws for each way out, in the order of F6.2.
 use borrow.Author.Needs.{needs}
 use native.Mathlib.Omega.{arith}
 use Rattle.numbers.specs.PlaceLaws.{inside}

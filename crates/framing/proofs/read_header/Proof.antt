@@ -1,3 +1,4 @@
+-- The size is cut off, it is below four, or what follows it says.
 use native.Mathlib.Omega.{arith}
 use mathlib.Core.Path.{sym}
 use lib.Seq.{length-take-le}

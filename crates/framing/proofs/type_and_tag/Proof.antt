@@ -1,3 +1,4 @@
+-- The frame's bytes hold both, or they end before.
 use borrow.Author.Needs.{needs}
 use Rattle.framing.specs.Headers.{TypeTag}
 use Rattle.framing.specs.HeaderLaws.{tagged, untagged}

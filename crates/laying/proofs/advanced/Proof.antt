@@ -1,3 +1,4 @@
+-- Refused already, past the limit, or so many bytes on.
 use native.Mathlib.Omega.{arith}
 use borrow.Author.Needs.{needs}
 use Rattle.laying.proofs.Lays.{on-refused, on-over, on-within}

@@ -1,3 +1,4 @@
+-- The part is refused, or its elements are scanned in place.
 use borrow.Author.Needs.{needs}
 use native.Mathlib.Omega.{arith}
 use mathlib.Core.Path.{sym}

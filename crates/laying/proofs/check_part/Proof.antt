@@ -1,3 +1,4 @@
+-- A count of two bytes refuses nothing, so the span says.
 use native.Mathlib.Omega.{arith}
 use borrow.Author.Needs.{needs}
 use Rattle.laying.proofs.Lays.{part-check}

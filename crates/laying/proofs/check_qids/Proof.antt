@@ -1,3 +1,4 @@
+-- The part is refused, or its length is 13 for each qid, or it is not.
 use borrow.Author.Needs.{needs}
 use Rattle.laying.proofs.Lays.{quids-outside, quids-fine, quids-malformed}
 use Rattle.laying.proofs.check_qids.Statement.{statement}

@@ -1,3 +1,4 @@
+-- Only 1 becomes 14.
 use mathlib.Core.Path.{sym, _∙_}
 use borrow.Author.Tests.{eq-eqb, ne-eqb}
 use Rattle.laying.proofs.cut_off.Statement.{statement}

@@ -1,3 +1,4 @@
+-- The elements end where the part does, elsewhere, or one of them is refused.
 use borrow.Author.Needs.{needs}
 use Rattle.laying.proofs.Lays.{fills-at, fills-not, fills-refused}
 use Rattle.laying.proofs.filled.Statement.{statement}

@@ -1,3 +1,4 @@
+-- In one pass count and bytes are put; in the other they are checked and measured.
 use Rattle.numbers.specs.Numbers.{bytes-all}
 use borrow.Author.Needs.{needs}
 use Rattle.fields.specs.Layouts.{dat}

@@ -1,3 +1,4 @@
+-- In one pass the number is put; in the other its width is measured.
 use borrow.Author.Needs.{needs}
 use Rattle.laying.proofs.Lays.{number-measured, number-put, num-in-pass}
 use Rattle.laying.proofs.lay_num.Statement.{statement}

@@ -1,3 +1,4 @@
+-- The count, then the bytes.
 use borrow.Author.Needs.{needs}
 use Rattle.laying.proofs.Lays.{counted-put}
 use Rattle.laying.proofs.put_counted.Statement.{statement}

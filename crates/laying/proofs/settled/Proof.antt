@@ -1,3 +1,4 @@
+-- Refused already, too long, no room, or neither.
 use borrow.Author.Needs.{needs}
 use Rattle.laying.proofs.Lays.{settles-refused, settles-over, settles-full, settles-fits}
 use Rattle.laying.proofs.settled.Statement.{statement}

@@ -1,3 +1,4 @@
+-- In each direction: 0 for a message, else the number of the refusal.
 use Rattle.listing.specs.AnswerLaws.{number-of-request, number-of-no-request, number-of-reply, number-of-no-reply}
 use borrow.Author.Needs.{needs}
 use Rattle.listing.proofs.answer_of.Statement.{statement}

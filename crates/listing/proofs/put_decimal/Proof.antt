@@ -1,3 +1,4 @@
+-- The figures that were made, put as text.
 use native.Mathlib.Omega.{arith}
 use Rattle.listing.specs.TextLaws.{decimal-put}
 use borrow.Author.Needs.{needs}

@@ -1,3 +1,4 @@
+-- The figures, then what stands after them.
 use Rattle.listing.specs.TextLaws.{field-put}
 use borrow.Author.Needs.{needs}
 use Rattle.listing.proofs.put_field.Statement.{statement}

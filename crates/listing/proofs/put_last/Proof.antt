@@ -1,3 +1,4 @@
+-- A word, then two figures with what separates them.
 use Rattle.listing.specs.TextLaws.{last-put}
 use borrow.Author.Needs.{needs}
 use Rattle.listing.proofs.put_last.Statement.{statement}

@@ -1,3 +1,4 @@
+-- Six fields, each put where the one before it ends.
 use Rattle.listing.specs.TextLaws.{line-put, all-length}
 use borrow.Author.Needs.{needs}
 use Rattle.listing.proofs.put_line.Statement.{statement}

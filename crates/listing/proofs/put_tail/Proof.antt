@@ -1,3 +1,4 @@
+-- The tail of a frame that is accepted, or the sign of one that is not.
 use Rattle.listing.specs.TextLaws.{tail-told, tail-none}
 use borrow.Author.Needs.{needs}
 use Rattle.listing.proofs.put_tail.Statement.{statement}

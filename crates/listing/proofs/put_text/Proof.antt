@@ -1,3 +1,4 @@
+-- A text is the bytes of a span that shows all of it.
 use Rattle.listing.specs.TextLaws.{text-put}
 use borrow.Author.Needs.{needs}
 use Rattle.listing.proofs.put_text.Statement.{statement}

@@ -1,3 +1,4 @@
+-- The input is too long, or its listing is put.
 use Rattle.listing.specs.ListLaws.{too-long, all-listed}
 use borrow.Author.Needs.{needs}
 use Rattle.listing.proofs.report.Statement.{statement}

@@ -1,3 +1,4 @@
+-- The place after the fields says which case it is.
 use borrow.Author.Needs.{needs}
 use Rattle.replies.specs.Views.{viewR}
 use Rattle.replies.proofs.finish.Statement.{statement}

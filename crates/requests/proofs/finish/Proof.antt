@@ -1,3 +1,4 @@
+-- The place after the fields says which case it is.
 use borrow.Author.Needs.{needs}
 use Rattle.requests.specs.Views.{viewT}
 use Rattle.requests.proofs.finish.Statement.{statement}

@@ -1,3 +1,4 @@
+-- A whole frame, the end, or a refusal, as the cut says.
 use borrow.Author.Needs.{needs}
 use native.Mathlib.Omega.{arith}
 use Rattle.numbers.specs.Numbers.{bytes-all}

@@ -1,3 +1,4 @@
+-- An even type is read as a request, any other as a reply.
 use borrow.Author.Needs.{needs}
 use Rattle.stretch.specs.StepLaws.{request-body, reply-body}
 use Rattle.stretch.proofs.read_body.Statement.{statement}

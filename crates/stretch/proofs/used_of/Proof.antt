@@ -1,3 +1,4 @@
+-- In each direction: the bytes used, or the size where the body is refused.
 use borrow.Author.Needs.{needs}
 use Rattle.stretch.specs.StepLaws.{leaves-request, leaves-no-request, leaves-reply, leaves-no-reply}
 use Rattle.stretch.proofs.used_of.Statement.{statement}

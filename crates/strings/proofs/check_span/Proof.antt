@@ -1,3 +1,4 @@
+-- The place is refused already, the span lies within, or it does not.
 use borrow.Author.Needs.{needs}
 use Rattle.strings.proofs.Ways.{span-in, span-out}
 use Rattle.strings.proofs.check_span.Statement.{statement}

@@ -1,3 +1,4 @@
+-- The span lies outside, it is too long, or its text says.
 use native.Mathlib.Omega.{arith}
 use borrow.Author.Needs.{needs}
 use Rattle.strings.specs.SpanLaws.{span-lies}

@@ -1,3 +1,4 @@
+-- What the array got is what the output gets.
 use native.Mathlib.Omega.{arith}
 use borrow.Author.Needs.{needs}
 use Rattle.strings.proofs.Ways.{copy-by-way}

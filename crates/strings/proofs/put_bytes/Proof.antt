@@ -1,3 +1,4 @@
+-- The check refuses, there is no room, or the bytes are put.
 use native.Mathlib.Omega.{arith}
 use borrow.Author.Needs.{needs}
 use Rattle.numbers.specs.PlaceLaws.{inside}

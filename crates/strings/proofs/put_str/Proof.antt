@@ -1,3 +1,4 @@
+-- The check refuses, there is no room for count and bytes, or both are put.
 use native.Mathlib.Omega.{arith}
 use borrow.Author.Needs.{needs}
 use Rattle.strings.proofs.Ways.{string-small, string-refused, string-full, string-done}

@@ -1,3 +1,4 @@
+-- The count, the bytes, then the text: a law of Ways for each way out.
 use native.Mathlib.Omega.{arith}
 use borrow.Author.Needs.{needs}
 use Rattle.numbers.specs.PlaceLaws.{inside}

@@ -1,3 +1,4 @@
+-- The span lies within the lent bytes, or nothing is shown.
 use native.Mathlib.Omega.{arith}
 use borrow.Author.Needs.{needs}
 use Rattle.numbers.specs.PlaceLaws.{inside}

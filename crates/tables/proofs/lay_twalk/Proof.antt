@@ -1,3 +1,4 @@
+-- Three numbers, then the names.
 use borrow.Author.Needs.{needs}
 use Rattle.tables.specs.TableLaws.{walk-laid}
 use Rattle.tables.proofs.lay_twalk.Statement.{statement}

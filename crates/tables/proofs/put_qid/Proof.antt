@@ -1,3 +1,4 @@
+-- Three numbers, one after another.
 use borrow.Author.Needs.{needs}
 use Rattle.tables.specs.QidLaws.{qid-put}
 use Rattle.tables.proofs.put_qid.Statement.{statement}

@@ -1,3 +1,4 @@
+-- The frame is refused and nothing is put; or its header is put, then the count.
 use borrow.Author.Needs.{needs}
 use native.Mathlib.Omega.{arith}
 use mathlib.Core.Path.{sym, _∙_}

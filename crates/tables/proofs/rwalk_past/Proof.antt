@@ -1,3 +1,4 @@
+-- Too many qids, no room, or the frame's length.
 use borrow.Author.Needs.{needs}
 use native.Mathlib.Omega.{arith}
 use Rattle.tables.specs.QidLaws.{past-long, past-head, past-full, past-room}

@@ -1,3 +1,4 @@
+-- Too many names; or checked, settled, put, and the header put before them.
 use borrow.Author.Needs.{needs}
 use native.Mathlib.Omega.{arith}
 use mathlib.Core.Path.{refl}

@@ -1,3 +1,4 @@
+-- ED and F4 end before the surrogates and the last character; the others with any octet.
 use borrow.Author.Tests.{ne-eqb}
 use Rattle.utf8.proofs.greatest_second.Statement.{statement}
 use Rattle.utf8.proofs.greatest_second.Tie as tie

@@ -1,3 +1,4 @@
+-- From 1 to 127 it is plain, by one comparison.
 use mathlib.Core.Path.{refl}
 use native.Mathlib.Omega.{arith}
 use borrow.Author.Tests.{lt-leb, le-leb}

@@ -1,3 +1,4 @@
+-- With no byte above 127 it is UTF-8; else it is looked at character by character.
 use mathlib.Core.Path.{sym}
 use native.Mathlib.Omega.{arith}
 use Rattle.utf8.specs.Utf8Laws.{ascii-text}

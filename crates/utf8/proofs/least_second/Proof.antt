@@ -1,3 +1,4 @@
+-- E0 and F0 begin where a shorter form would do; the others with any octet.
 use borrow.Author.Tests.{ne-eqb}
 use Rattle.utf8.proofs.least_second.Statement.{statement}
 use Rattle.utf8.proofs.least_second.Tie as tie

@@ -1,3 +1,4 @@
+-- The byte is held and in its range, or it is not.
 use native.Mathlib.Omega.{arith}
 use borrow.Author.Needs.{needs}
 use Rattle.utf8.proofs.Rows.{past-end, too-low, high-enough}

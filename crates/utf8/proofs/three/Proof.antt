@@ -1,3 +1,4 @@
+-- The second and the third octet are in their ranges, or one is not.
 use native.Mathlib.Omega.{arith}
 use mathlib.Core.Path.{refl}
 use borrow.Author.Needs.{needs}

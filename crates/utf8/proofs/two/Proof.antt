@@ -1,3 +1,4 @@
+-- The second octet is in its range, or it is not.
 use borrow.Author.Needs.{needs}
 use Rattle.utf8.proofs.Rows.{hit, miss}
 use Rattle.utf8.proofs.two.Statement.{statement}

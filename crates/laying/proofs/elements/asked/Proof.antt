@@ -1,3 +1,4 @@
+-- The part is refused; else the number is below the count, or it is not.
 use borrow.Author.Needs.{needs}
 use native.Mathlib.Omega.{arith}
 use Rattle.laying.specs.ElementLaws.{asked-outside, asked-below, asked-past}

@@ -1,3 +1,4 @@
+-- Once all checks are passed, the name stands after those before it.
 use borrow.Author.Needs.{needs}
 use native.Mathlib.Omega.{arith}
 use mathlib.Core.Path.{sym}

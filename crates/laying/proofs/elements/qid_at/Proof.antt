@@ -1,3 +1,4 @@
+-- Once all checks are passed, the qid stands after 13 bytes for each before it.
 use borrow.Author.Needs.{needs}
 use native.Mathlib.Omega.{arith}
 use Rattle.laying.specs.Elements.{viewElement}

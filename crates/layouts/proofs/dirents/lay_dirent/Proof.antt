@@ -1,3 +1,4 @@
+-- Each field by what lays it, one after another.
 use Rattle.laying.specs.LayingLaws.{lay-num, lay, lay-qid, laid-none, laid-length}
 use Rattle.layouts.proofs.dirents.lay_dirent.Statement.{statement}
 use Rattle.layouts.proofs.dirents.lay_dirent.Tie as tie

@@ -1,3 +1,4 @@
+-- Each field by what its reader ensures, one after another.
 use Rattle.fields.specs.FieldLaws.{number-field, string-field, field, qid-fields, done}
 use Rattle.layouts.proofs.dirents.read_dirent.Statement.{statement}
 use Rattle.layouts.proofs.dirents.read_dirent.Tie as tie

@@ -1,3 +1,4 @@
+-- Checked and measured, settled, then put: one law over the layout.
 use borrow.Author.Needs.{needs}
 use Rattle.numbers.specs.Numbers.{bytes-all}
 use Rattle.laying.specs.WritingLaws.{written}

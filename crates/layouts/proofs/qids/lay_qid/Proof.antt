@@ -1,3 +1,4 @@
+-- Each field by what lays it, one after another.
 use Rattle.laying.specs.LayingLaws.{lay-num, lay, laid-none, laid-length}
 use Rattle.layouts.proofs.qids.lay_qid.Statement.{statement}
 use Rattle.layouts.proofs.qids.lay_qid.Tie as tie

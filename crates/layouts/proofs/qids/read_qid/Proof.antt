@@ -1,3 +1,4 @@
+-- Each field by what its reader ensures, one after another.
 use Rattle.fields.specs.FieldLaws.{number-field, field, done}
 use Rattle.layouts.proofs.qids.read_qid.Statement.{statement}
 use Rattle.layouts.proofs.qids.read_qid.Tie as tie
