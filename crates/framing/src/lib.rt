@@ -4,6 +4,7 @@
 use numbers::Place;
 use numbers::Refusal;
 ghost use mathlib.Core.Path.{_≡_};
+ghost use Prim.Native.Nat.{min};
 ghost use Rattle.framing.specs.Writing.{HeadPut};
 ghost use Rattle.framing.specs.Headers.{TypeTag, HeadIs};
 ghost use Rattle.framing.specs.Cuts.{CutAt};
@@ -12,6 +13,13 @@ ghost use Rattle.framing.specs.Cuts.{CutAt};
 pub enum Head {
     Held(usize, u8, u16),
     Refused(Refusal),
+}
+
+// How many bytes of those that are held are the frame's own.
+fn own(size: u32, held: usize) -> usize
+    ensures { λ r. ⌜ r ≡ min size held ⌝ }
+{
+    numbers::min(size as usize, held)
 }
 
 // After the size: the type and the tag, of the frame's own bytes.
@@ -39,7 +47,7 @@ pub fn read_header(s: &[u8]) -> Head
             if size.value < 4 {
                 return Head::Refused(Refusal::SizeBelowFour);
             }
-            let limit = numbers::min(size.value as usize, s.len());
+            let limit = own(size.value, s.len());
             type_and_tag(&s[..limit])
         }
         Place::Refused(k) => Head::Refused(k),

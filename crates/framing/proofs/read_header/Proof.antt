@@ -16,22 +16,19 @@ unfolding HeadIs
 returns c =
     let d = c .before .before in size-below (d .before .before .read-u32 .ensures) (d .enum-told .given .1) (c .if1 .taken)
 
-cast-min : tie.Need-cast-min
-cast-min c = search needs
-
 slice-aggregate-type-and-tag : tie.Need-slice-aggregate-type-and-tag
 slice-aggregate-type-and-tag c =
-    let s = c .before .before .before .before .before .before .before .before .before .args .s .now in
-    sym (length-take-le (c .before .min .result) s (omega (arith, c .before .min .ensures)))
+    let s = c .before .before .before .before .before .before .before .before .args .s .now in
+    sym (length-take-le (c .before .own .result) s (omega (arith, c .before .own .ensures)))
 
 enum-known-a : tie.Need-enum-known-a
 enum-known-a c = search needs
 
 returns-2 : tie.Need-returns-2
 returns-2 c =
-    let e = c .before .before .before .before in
+    let e = c .before .before .before in
     let d = e .before .before in
-    head-on (d .before .before .read-u32 .ensures) (d .enum-told .given .1) (e .if1 .left) (c .before .before .min .ensures) _ (c .type-and-tag .ensures)
+    head-on (d .before .before .read-u32 .ensures) (d .enum-told .given .1) (e .if1 .left) (c .before .before .own .ensures) _ (c .type-and-tag .ensures)
 
 returns-3 : tie.Need-returns-3
 unfolding HeadIs
@@ -44,7 +41,6 @@ read-header-spec =
     (λ _ _. tt)
     enum-told
     returns
-    cast-min
     (λ _ _. tt)
     slice-aggregate-type-and-tag
     (λ _ _. tt)
