@@ -16,7 +16,7 @@ use metadata::attributes::Txattrcreate;
 use metadata::attributes::Txattrwalk;
 use strings::Span;
 ghost use mathlib.Core.Path.{_≡_};
-ghost use Rattle.layouts.specs.Tables.{layoutT, layoutR};
+ghost use Rattle.layouts.specs.Tables.{layoutTstatfs, layoutRstatfs, layoutTgetattr, layoutRgetattr, layoutTsetattr, layoutTxattrwalk, layoutRxattrwalk, layoutTxattrcreate};
 ghost use Rattle.metadata.specs.Records.{tstatfs, rstatfs, tgetattr, rgetattr, tsetattr, txattrwalk, rxattrwalk, txattrcreate};
 ghost use Rattle.flat.specs.Flat.{flat, fieldValues};
 
@@ -30,7 +30,7 @@ pub fn flat_tstatfs(m: Tstatfs) -> [u64; 10]
 }
 
 pub fn tstatfs_of(v: [u64; 10]) -> Tstatfs
-    ensures { λ r. ⌜ tstatfs r ≡ fieldValues (layoutT 8) v ⌝ }
+    ensures { λ r. ⌜ tstatfs r ≡ fieldValues layoutTstatfs v ⌝ }
 {
     let fid = Fid((v[0] % U32) as u32);
     Tstatfs { fid }
@@ -53,7 +53,7 @@ pub fn flat_rstatfs(m: Rstatfs) -> [u64; 22]
 }
 
 pub fn rstatfs_of(v: [u64; 22]) -> Rstatfs
-    ensures { λ r. ⌜ rstatfs r ≡ fieldValues (layoutR 9) v ⌝ }
+    ensures { λ r. ⌜ rstatfs r ≡ fieldValues layoutRstatfs v ⌝ }
 {
     Rstatfs {
         ty: (v[0] % U32) as u32,
@@ -79,7 +79,7 @@ pub fn flat_tgetattr(m: Tgetattr) -> [u64; 10]
 }
 
 pub fn tgetattr_of(v: [u64; 10]) -> Tgetattr
-    ensures { λ r. ⌜ tgetattr r ≡ fieldValues (layoutT 24) v ⌝ }
+    ensures { λ r. ⌜ tgetattr r ≡ fieldValues layoutTgetattr v ⌝ }
 {
     let fid = Fid((v[0] % U32) as u32);
     Tgetattr {
@@ -120,7 +120,7 @@ pub fn flat_rgetattr(m: Rgetattr) -> [u64; 22]
 }
 
 pub fn rgetattr_of(v: [u64; 22]) -> Rgetattr
-    ensures { λ r. ⌜ rgetattr r ≡ fieldValues (layoutR 25) v ⌝ }
+    ensures { λ r. ⌜ rgetattr r ≡ fieldValues layoutRgetattr v ⌝ }
 {
     let qid = Qid {
         ty: (v[1] % U8) as u8,
@@ -172,7 +172,7 @@ pub fn flat_tsetattr(m: Tsetattr) -> [u64; 10]
 }
 
 pub fn tsetattr_of(v: [u64; 10]) -> Tsetattr
-    ensures { λ r. ⌜ tsetattr r ≡ fieldValues (layoutT 26) v ⌝ }
+    ensures { λ r. ⌜ tsetattr r ≡ fieldValues layoutTsetattr v ⌝ }
 {
     let fid = Fid((v[0] % U32) as u32);
     let gid = Gid((v[4] % U32) as u32);
@@ -205,7 +205,7 @@ pub fn flat_txattrwalk(m: Txattrwalk) -> [u64; 10]
 }
 
 pub fn txattrwalk_of(v: [u64; 10]) -> Txattrwalk
-    ensures { λ r. ⌜ txattrwalk r ≡ fieldValues (layoutT 30) v ⌝ }
+    ensures { λ r. ⌜ txattrwalk r ≡ fieldValues layoutTxattrwalk v ⌝ }
 {
     let fid = Fid((v[0] % U32) as u32);
     let newfid = Fid((v[1] % U32) as u32);
@@ -225,7 +225,7 @@ pub fn flat_rxattrwalk(m: Rxattrwalk) -> [u64; 22]
 }
 
 pub fn rxattrwalk_of(v: [u64; 22]) -> Rxattrwalk
-    ensures { λ r. ⌜ rxattrwalk r ≡ fieldValues (layoutR 31) v ⌝ }
+    ensures { λ r. ⌜ rxattrwalk r ≡ fieldValues layoutRxattrwalk v ⌝ }
 {
     Rxattrwalk { size: v[0] }
 }
@@ -250,7 +250,7 @@ pub fn flat_txattrcreate(m: Txattrcreate) -> [u64; 10]
 }
 
 pub fn txattrcreate_of(v: [u64; 10]) -> Txattrcreate
-    ensures { λ r. ⌜ txattrcreate r ≡ fieldValues (layoutT 32) v ⌝ }
+    ensures { λ r. ⌜ txattrcreate r ≡ fieldValues layoutTxattrcreate v ⌝ }
 {
     let fid = Fid((v[0] % U32) as u32);
     let name = Span {

@@ -22,7 +22,7 @@ use messages::directories::Tsymlink;
 use messages::directories::Tunlinkat;
 use strings::Span;
 ghost use mathlib.Core.Path.{_≡_};
-ghost use Rattle.layouts.specs.Tables.{layoutT, layoutR};
+ghost use Rattle.layouts.specs.Tables.{layoutTsymlink, layoutRsymlink, layoutTmknod, layoutRmknod, layoutTrename, layoutTreadlink, layoutRreadlink, layoutTreaddir, layoutRreaddir, layoutTlink, layoutTmkdir, layoutRmkdir, layoutTrenameat, layoutTunlinkat};
 ghost use Rattle.messages.specs.Records.{tsymlink, rsymlink, tmknod, rmknod, trename, treadlink, rreadlink, treaddir, rreaddir, tlink, tmkdir, rmkdir, trenameat, tunlinkat};
 ghost use Rattle.flat.specs.Flat.{flat, fieldValues};
 
@@ -48,7 +48,7 @@ pub fn flat_tsymlink(m: Tsymlink) -> [u64; 10]
 }
 
 pub fn tsymlink_of(v: [u64; 10]) -> Tsymlink
-    ensures { λ r. ⌜ tsymlink r ≡ fieldValues (layoutT 16) v ⌝ }
+    ensures { λ r. ⌜ tsymlink r ≡ fieldValues layoutTsymlink v ⌝ }
 {
     let fid = Fid((v[0] % U32) as u32);
     let name = Span {
@@ -80,7 +80,7 @@ pub fn flat_rsymlink(m: Rsymlink) -> [u64; 22]
 }
 
 pub fn rsymlink_of(v: [u64; 22]) -> Rsymlink
-    ensures { λ r. ⌜ rsymlink r ≡ fieldValues (layoutR 17) v ⌝ }
+    ensures { λ r. ⌜ rsymlink r ≡ fieldValues layoutRsymlink v ⌝ }
 {
     let qid = Qid {
         ty: (v[0] % U8) as u8,
@@ -111,7 +111,7 @@ pub fn flat_tmknod(m: Tmknod) -> [u64; 10]
 }
 
 pub fn tmknod_of(v: [u64; 10]) -> Tmknod
-    ensures { λ r. ⌜ tmknod r ≡ fieldValues (layoutT 18) v ⌝ }
+    ensures { λ r. ⌜ tmknod r ≡ fieldValues layoutTmknod v ⌝ }
 {
     let dfid = Fid((v[0] % U32) as u32);
     let name = Span {
@@ -141,7 +141,7 @@ pub fn flat_rmknod(m: Rmknod) -> [u64; 22]
 }
 
 pub fn rmknod_of(v: [u64; 22]) -> Rmknod
-    ensures { λ r. ⌜ rmknod r ≡ fieldValues (layoutR 19) v ⌝ }
+    ensures { λ r. ⌜ rmknod r ≡ fieldValues layoutRmknod v ⌝ }
 {
     let qid = Qid {
         ty: (v[0] % U8) as u8,
@@ -166,7 +166,7 @@ pub fn flat_trename(m: Trename) -> [u64; 10]
 }
 
 pub fn trename_of(v: [u64; 10]) -> Trename
-    ensures { λ r. ⌜ trename r ≡ fieldValues (layoutT 20) v ⌝ }
+    ensures { λ r. ⌜ trename r ≡ fieldValues layoutTrename v ⌝ }
 {
     let fid = Fid((v[0] % U32) as u32);
     let dfid = Fid((v[1] % U32) as u32);
@@ -187,7 +187,7 @@ pub fn flat_treadlink(m: Treadlink) -> [u64; 10]
 }
 
 pub fn treadlink_of(v: [u64; 10]) -> Treadlink
-    ensures { λ r. ⌜ treadlink r ≡ fieldValues (layoutT 22) v ⌝ }
+    ensures { λ r. ⌜ treadlink r ≡ fieldValues layoutTreadlink v ⌝ }
 {
     let fid = Fid((v[0] % U32) as u32);
     Treadlink { fid }
@@ -204,7 +204,7 @@ pub fn flat_rreadlink(m: Rreadlink) -> [u64; 22]
 }
 
 pub fn rreadlink_of(v: [u64; 22]) -> Rreadlink
-    ensures { λ r. ⌜ rreadlink r ≡ fieldValues (layoutR 23) v ⌝ }
+    ensures { λ r. ⌜ rreadlink r ≡ fieldValues layoutRreadlink v ⌝ }
 {
     let target = Span {
         start: v[0] as usize,
@@ -225,7 +225,7 @@ pub fn flat_treaddir(m: Treaddir) -> [u64; 10]
 }
 
 pub fn treaddir_of(v: [u64; 10]) -> Treaddir
-    ensures { λ r. ⌜ treaddir r ≡ fieldValues (layoutT 40) v ⌝ }
+    ensures { λ r. ⌜ treaddir r ≡ fieldValues layoutTreaddir v ⌝ }
 {
     let fid = Fid((v[0] % U32) as u32);
     Treaddir {
@@ -246,7 +246,7 @@ pub fn flat_rreaddir(m: Rreaddir) -> [u64; 22]
 }
 
 pub fn rreaddir_of(v: [u64; 22]) -> Rreaddir
-    ensures { λ r. ⌜ rreaddir r ≡ fieldValues (layoutR 41) v ⌝ }
+    ensures { λ r. ⌜ rreaddir r ≡ fieldValues layoutRreaddir v ⌝ }
 {
     let data = Span {
         start: v[0] as usize,
@@ -270,7 +270,7 @@ pub fn flat_tlink(m: Tlink) -> [u64; 10]
 }
 
 pub fn tlink_of(v: [u64; 10]) -> Tlink
-    ensures { λ r. ⌜ tlink r ≡ fieldValues (layoutT 70) v ⌝ }
+    ensures { λ r. ⌜ tlink r ≡ fieldValues layoutTlink v ⌝ }
 {
     let dfid = Fid((v[0] % U32) as u32);
     let fid = Fid((v[1] % U32) as u32);
@@ -302,7 +302,7 @@ pub fn flat_tmkdir(m: Tmkdir) -> [u64; 10]
 }
 
 pub fn tmkdir_of(v: [u64; 10]) -> Tmkdir
-    ensures { λ r. ⌜ tmkdir r ≡ fieldValues (layoutT 72) v ⌝ }
+    ensures { λ r. ⌜ tmkdir r ≡ fieldValues layoutTmkdir v ⌝ }
 {
     let dfid = Fid((v[0] % U32) as u32);
     let name = Span {
@@ -330,7 +330,7 @@ pub fn flat_rmkdir(m: Rmkdir) -> [u64; 22]
 }
 
 pub fn rmkdir_of(v: [u64; 22]) -> Rmkdir
-    ensures { λ r. ⌜ rmkdir r ≡ fieldValues (layoutR 73) v ⌝ }
+    ensures { λ r. ⌜ rmkdir r ≡ fieldValues layoutRmkdir v ⌝ }
 {
     let qid = Qid {
         ty: (v[0] % U8) as u8,
@@ -362,7 +362,7 @@ pub fn flat_trenameat(m: Trenameat) -> [u64; 10]
 }
 
 pub fn trenameat_of(v: [u64; 10]) -> Trenameat
-    ensures { λ r. ⌜ trenameat r ≡ fieldValues (layoutT 74) v ⌝ }
+    ensures { λ r. ⌜ trenameat r ≡ fieldValues layoutTrenameat v ⌝ }
 {
     let olddirfid = Fid((v[0] % U32) as u32);
     let oldname = Span {
@@ -396,7 +396,7 @@ pub fn flat_tunlinkat(m: Tunlinkat) -> [u64; 10]
 }
 
 pub fn tunlinkat_of(v: [u64; 10]) -> Tunlinkat
-    ensures { λ r. ⌜ tunlinkat r ≡ fieldValues (layoutT 76) v ⌝ }
+    ensures { λ r. ⌜ tunlinkat r ≡ fieldValues layoutTunlinkat v ⌝ }
 {
     let dirfd = Fid((v[0] % U32) as u32);
     let name = Span {

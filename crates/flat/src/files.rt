@@ -18,7 +18,7 @@ use messages::files::Tlcreate;
 use messages::files::Tlopen;
 use strings::Span;
 ghost use mathlib.Core.Path.{_≡_};
-ghost use Rattle.layouts.specs.Tables.{layoutT, layoutR};
+ghost use Rattle.layouts.specs.Tables.{layoutTlopen, layoutRlopen, layoutTlcreate, layoutRlcreate, layoutTread, layoutRread, layoutTwrite, layoutRwrite, layoutTfsync, layoutTremove};
 ghost use Rattle.common.specs.Records.{tread, rread, twrite, rwrite, tremove};
 ghost use Rattle.messages.specs.Records.{tlopen, rlopen, tlcreate, rlcreate, tfsync};
 ghost use Rattle.flat.specs.Flat.{flat, fieldValues};
@@ -34,7 +34,7 @@ pub fn flat_tlopen(m: Tlopen) -> [u64; 10]
 }
 
 pub fn tlopen_of(v: [u64; 10]) -> Tlopen
-    ensures { λ r. ⌜ tlopen r ≡ fieldValues (layoutT 12) v ⌝ }
+    ensures { λ r. ⌜ tlopen r ≡ fieldValues layoutTlopen v ⌝ }
 {
     let fid = Fid((v[0] % U32) as u32);
     Tlopen {
@@ -56,7 +56,7 @@ pub fn flat_rlopen(m: Rlopen) -> [u64; 22]
 }
 
 pub fn rlopen_of(v: [u64; 22]) -> Rlopen
-    ensures { λ r. ⌜ rlopen r ≡ fieldValues (layoutR 13) v ⌝ }
+    ensures { λ r. ⌜ rlopen r ≡ fieldValues layoutRlopen v ⌝ }
 {
     let qid = Qid {
         ty: (v[0] % U8) as u8,
@@ -90,7 +90,7 @@ pub fn flat_tlcreate(m: Tlcreate) -> [u64; 10]
 }
 
 pub fn tlcreate_of(v: [u64; 10]) -> Tlcreate
-    ensures { λ r. ⌜ tlcreate r ≡ fieldValues (layoutT 14) v ⌝ }
+    ensures { λ r. ⌜ tlcreate r ≡ fieldValues layoutTlcreate v ⌝ }
 {
     let fid = Fid((v[0] % U32) as u32);
     let name = Span {
@@ -120,7 +120,7 @@ pub fn flat_rlcreate(m: Rlcreate) -> [u64; 22]
 }
 
 pub fn rlcreate_of(v: [u64; 22]) -> Rlcreate
-    ensures { λ r. ⌜ rlcreate r ≡ fieldValues (layoutR 15) v ⌝ }
+    ensures { λ r. ⌜ rlcreate r ≡ fieldValues layoutRlcreate v ⌝ }
 {
     let qid = Qid {
         ty: (v[0] % U8) as u8,
@@ -145,7 +145,7 @@ pub fn flat_tread(m: Tread) -> [u64; 10]
 }
 
 pub fn tread_of(v: [u64; 10]) -> Tread
-    ensures { λ r. ⌜ tread r ≡ fieldValues (layoutT 116) v ⌝ }
+    ensures { λ r. ⌜ tread r ≡ fieldValues layoutTread v ⌝ }
 {
     let fid = Fid((v[0] % U32) as u32);
     Tread {
@@ -166,7 +166,7 @@ pub fn flat_rread(m: Rread) -> [u64; 22]
 }
 
 pub fn rread_of(v: [u64; 22]) -> Rread
-    ensures { λ r. ⌜ rread r ≡ fieldValues (layoutR 117) v ⌝ }
+    ensures { λ r. ⌜ rread r ≡ fieldValues layoutRread v ⌝ }
 {
     let data = Span {
         start: v[0] as usize,
@@ -189,7 +189,7 @@ pub fn flat_twrite(m: Twrite) -> [u64; 10]
 }
 
 pub fn twrite_of(v: [u64; 10]) -> Twrite
-    ensures { λ r. ⌜ twrite r ≡ fieldValues (layoutT 118) v ⌝ }
+    ensures { λ r. ⌜ twrite r ≡ fieldValues layoutTwrite v ⌝ }
 {
     let fid = Fid((v[0] % U32) as u32);
     let data = Span {
@@ -212,7 +212,7 @@ pub fn flat_rwrite(m: Rwrite) -> [u64; 22]
 }
 
 pub fn rwrite_of(v: [u64; 22]) -> Rwrite
-    ensures { λ r. ⌜ rwrite r ≡ fieldValues (layoutR 119) v ⌝ }
+    ensures { λ r. ⌜ rwrite r ≡ fieldValues layoutRwrite v ⌝ }
 {
     Rwrite {
         count: (v[0] % U32) as u32,
@@ -230,7 +230,7 @@ pub fn flat_tfsync(m: Tfsync) -> [u64; 10]
 }
 
 pub fn tfsync_of(v: [u64; 10]) -> Tfsync
-    ensures { λ r. ⌜ tfsync r ≡ fieldValues (layoutT 50) v ⌝ }
+    ensures { λ r. ⌜ tfsync r ≡ fieldValues layoutTfsync v ⌝ }
 {
     let fid = Fid((v[0] % U32) as u32);
     Tfsync {
@@ -249,7 +249,7 @@ pub fn flat_tremove(m: Tremove) -> [u64; 10]
 }
 
 pub fn tremove_of(v: [u64; 10]) -> Tremove
-    ensures { λ r. ⌜ tremove r ≡ fieldValues (layoutT 122) v ⌝ }
+    ensures { λ r. ⌜ tremove r ≡ fieldValues layoutTremove v ⌝ }
 {
     let fid = Fid((v[0] % U32) as u32);
     Tremove { fid }

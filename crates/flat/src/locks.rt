@@ -10,7 +10,7 @@ use metadata::locks::Tgetlock;
 use metadata::locks::Tlock;
 use strings::Span;
 ghost use mathlib.Core.Path.{_≡_};
-ghost use Rattle.layouts.specs.Tables.{layoutT, layoutR};
+ghost use Rattle.layouts.specs.Tables.{layoutTlock, layoutRlock, layoutTgetlock, layoutRgetlock};
 ghost use Rattle.metadata.specs.Records.{tlock, rlock, tgetlock, rgetlock};
 ghost use Rattle.flat.specs.Flat.{flat, fieldValues};
 
@@ -34,7 +34,7 @@ pub fn flat_tlock(m: Tlock) -> [u64; 10]
 }
 
 pub fn tlock_of(v: [u64; 10]) -> Tlock
-    ensures { λ r. ⌜ tlock r ≡ fieldValues (layoutT 52) v ⌝ }
+    ensures { λ r. ⌜ tlock r ≡ fieldValues layoutTlock v ⌝ }
 {
     let fid = Fid((v[0] % U32) as u32);
     let client_id = Span {
@@ -61,7 +61,7 @@ pub fn flat_rlock(m: Rlock) -> [u64; 22]
 }
 
 pub fn rlock_of(v: [u64; 22]) -> Rlock
-    ensures { λ r. ⌜ rlock r ≡ fieldValues (layoutR 53) v ⌝ }
+    ensures { λ r. ⌜ rlock r ≡ fieldValues layoutRlock v ⌝ }
 {
     Rlock {
         status: (v[0] % U8) as u8,
@@ -88,7 +88,7 @@ pub fn flat_tgetlock(m: Tgetlock) -> [u64; 10]
 }
 
 pub fn tgetlock_of(v: [u64; 10]) -> Tgetlock
-    ensures { λ r. ⌜ tgetlock r ≡ fieldValues (layoutT 54) v ⌝ }
+    ensures { λ r. ⌜ tgetlock r ≡ fieldValues layoutTgetlock v ⌝ }
 {
     let fid = Fid((v[0] % U32) as u32);
     let client_id = Span {
@@ -120,7 +120,7 @@ pub fn flat_rgetlock(m: Rgetlock) -> [u64; 22]
 }
 
 pub fn rgetlock_of(v: [u64; 22]) -> Rgetlock
-    ensures { λ r. ⌜ rgetlock r ≡ fieldValues (layoutR 55) v ⌝ }
+    ensures { λ r. ⌜ rgetlock r ≡ fieldValues layoutRgetlock v ⌝ }
 {
     let client_id = Span {
         start: v[4] as usize,

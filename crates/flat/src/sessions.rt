@@ -18,7 +18,7 @@ use messages::sessions::Tattach;
 use messages::sessions::Tauth;
 use strings::Span;
 ghost use mathlib.Core.Path.{_≡_};
-ghost use Rattle.layouts.specs.Tables.{layoutT, layoutR};
+ghost use Rattle.layouts.specs.Tables.{layoutTversion, layoutRversion, layoutTauth, layoutRauth, layoutTattach, layoutRattach, layoutTflush, layoutTclunk, layoutRlerror};
 ghost use Rattle.common.specs.Records.{tversion, rversion, tflush, tclunk};
 ghost use Rattle.messages.specs.Records.{tauth, rauth, tattach, rattach, rlerror};
 ghost use Rattle.flat.specs.Flat.{flat, fieldValues};
@@ -35,7 +35,7 @@ pub fn flat_tversion(m: Tversion) -> [u64; 10]
 }
 
 pub fn tversion_of(v: [u64; 10]) -> Tversion
-    ensures { λ r. ⌜ tversion r ≡ fieldValues (layoutT 100) v ⌝ }
+    ensures { λ r. ⌜ tversion r ≡ fieldValues layoutTversion v ⌝ }
 {
     let version = Span {
         start: v[1] as usize,
@@ -59,7 +59,7 @@ pub fn flat_rversion(m: Rversion) -> [u64; 22]
 }
 
 pub fn rversion_of(v: [u64; 22]) -> Rversion
-    ensures { λ r. ⌜ rversion r ≡ fieldValues (layoutR 101) v ⌝ }
+    ensures { λ r. ⌜ rversion r ≡ fieldValues layoutRversion v ⌝ }
 {
     let version = Span {
         start: v[1] as usize,
@@ -92,7 +92,7 @@ pub fn flat_tauth(m: Tauth) -> [u64; 10]
 }
 
 pub fn tauth_of(v: [u64; 10]) -> Tauth
-    ensures { λ r. ⌜ tauth r ≡ fieldValues (layoutT 102) v ⌝ }
+    ensures { λ r. ⌜ tauth r ≡ fieldValues layoutTauth v ⌝ }
 {
     let afid = Fid((v[0] % U32) as u32);
     let uname = Span {
@@ -123,7 +123,7 @@ pub fn flat_rauth(m: Rauth) -> [u64; 22]
 }
 
 pub fn rauth_of(v: [u64; 22]) -> Rauth
-    ensures { λ r. ⌜ rauth r ≡ fieldValues (layoutR 103) v ⌝ }
+    ensures { λ r. ⌜ rauth r ≡ fieldValues layoutRauth v ⌝ }
 {
     let aqid = Qid {
         ty: (v[0] % U8) as u8,
@@ -155,7 +155,7 @@ pub fn flat_tattach(m: Tattach) -> [u64; 10]
 }
 
 pub fn tattach_of(v: [u64; 10]) -> Tattach
-    ensures { λ r. ⌜ tattach r ≡ fieldValues (layoutT 104) v ⌝ }
+    ensures { λ r. ⌜ tattach r ≡ fieldValues layoutTattach v ⌝ }
 {
     let fid = Fid((v[0] % U32) as u32);
     let afid = Fid((v[1] % U32) as u32);
@@ -188,7 +188,7 @@ pub fn flat_rattach(m: Rattach) -> [u64; 22]
 }
 
 pub fn rattach_of(v: [u64; 22]) -> Rattach
-    ensures { λ r. ⌜ rattach r ≡ fieldValues (layoutR 105) v ⌝ }
+    ensures { λ r. ⌜ rattach r ≡ fieldValues layoutRattach v ⌝ }
 {
     let qid = Qid {
         ty: (v[0] % U8) as u8,
@@ -208,7 +208,7 @@ pub fn flat_tflush(m: Tflush) -> [u64; 10]
 }
 
 pub fn tflush_of(v: [u64; 10]) -> Tflush
-    ensures { λ r. ⌜ tflush r ≡ fieldValues (layoutT 108) v ⌝ }
+    ensures { λ r. ⌜ tflush r ≡ fieldValues layoutTflush v ⌝ }
 {
     let oldtag = Tag((v[0] % U16) as u16);
     Tflush { oldtag }
@@ -224,7 +224,7 @@ pub fn flat_tclunk(m: Tclunk) -> [u64; 10]
 }
 
 pub fn tclunk_of(v: [u64; 10]) -> Tclunk
-    ensures { λ r. ⌜ tclunk r ≡ fieldValues (layoutT 120) v ⌝ }
+    ensures { λ r. ⌜ tclunk r ≡ fieldValues layoutTclunk v ⌝ }
 {
     let fid = Fid((v[0] % U32) as u32);
     Tclunk { fid }
@@ -239,7 +239,7 @@ pub fn flat_rlerror(m: Rlerror) -> [u64; 22]
 }
 
 pub fn rlerror_of(v: [u64; 22]) -> Rlerror
-    ensures { λ r. ⌜ rlerror r ≡ fieldValues (layoutR 7) v ⌝ }
+    ensures { λ r. ⌜ rlerror r ≡ fieldValues layoutRlerror v ⌝ }
 {
     Rlerror {
         ecode: (v[0] % U32) as u32,

@@ -9,7 +9,7 @@ use fields::Part;
 use layouts::ids::Fid;
 use strings::Span;
 ghost use mathlib.Core.Path.{_≡_};
-ghost use Rattle.layouts.specs.Tables.{layoutT, layoutR};
+ghost use Rattle.layouts.specs.Tables.{layoutTwalk, layoutRwalk};
 ghost use Rattle.common.specs.Records.{twalk, rwalk};
 ghost use Rattle.flat.specs.Flat.{flat, fieldValues};
 
@@ -35,7 +35,7 @@ pub fn flat_twalk(m: Twalk) -> [u64; 10]
 }
 
 pub fn twalk_of(v: [u64; 10]) -> Twalk
-    ensures { λ r. ⌜ twalk r ≡ fieldValues (layoutT 110) v ⌝ }
+    ensures { λ r. ⌜ twalk r ≡ fieldValues layoutTwalk v ⌝ }
 {
     let fid = Fid((v[0] % U32) as u32);
     let newfid = Fid((v[1] % U32) as u32);
@@ -67,7 +67,7 @@ pub fn flat_rwalk(m: Rwalk) -> [u64; 22]
 }
 
 pub fn rwalk_of(v: [u64; 22]) -> Rwalk
-    ensures { λ r. ⌜ rwalk r ≡ fieldValues (layoutR 111) v ⌝ }
+    ensures { λ r. ⌜ rwalk r ≡ fieldValues layoutRwalk v ⌝ }
 {
     let elements = Span {
         start: v[1] as usize,

@@ -64,7 +64,7 @@ pub fn write_twalk(
         return Place::Refused(Refusal::TableTooLong);
     }
     let count = names.len() as u16;
-    let p = Place::At(7);
+    let p = Place::At(framing::BODY);
     let end = lay_twalk(out, p, fid, newfid, count, lent, names, laying::CHECK);
     let start = laying::begun(p, end, out.len());
     let past = lay_twalk(out, start, fid, newfid, count, lent, names, laying::PUT);
@@ -106,7 +106,7 @@ fn rwalk_head(out: &mut [u8], tag: Tag, count: usize) -> usize
         return 0;
     }
     framing::put_header(out, Place::At(size), 111, tag.0);
-    numbers::put_u16(out, Place::At(7), count as u16);
+    numbers::put_u16(out, Place::At(framing::BODY), count as u16);
     count
 }
 

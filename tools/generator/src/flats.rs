@@ -164,7 +164,7 @@ fn narrowed(i: usize, width: u8) -> String {
 
 fn put_together(m: &Message) -> String {
     let (record, small, room, layout) = (m.record(), m.small(), m.direction.room(), m.layout());
-    let mut text = format!("pub fn {small}_of(v: [u64; {room}]) -> {record}\n    ensures {{ λ r. ⌜ {small} r ≡ fieldValues ({layout}) v ⌝ }}\n{{\n");
+    let mut text = format!("pub fn {small}_of(v: [u64; {room}]) -> {record}\n    ensures {{ λ r. ⌜ {small} r ≡ fieldValues {layout} v ⌝ }}\n{{\n");
     let mut i = 0;
     let mut fields = vec![];
     for f in &m.fields {

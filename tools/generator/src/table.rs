@@ -135,9 +135,9 @@ impl Message {
         self.record().to_lowercase()
     }
 
-    /// The layout's name in the definitions, as `layoutT 100`.
+    /// The layout's name in the definitions, as `layoutTversion`.
     pub fn layout(&self) -> String {
-        format!("layout{} {}", self.direction.letter(), self.number)
+        format!("layout{}", self.record())
     }
 
     /// The module that the record stands in, as `common::sessions`.
