@@ -11,7 +11,6 @@ use numbers::Place;
 use numbers::Refusal;
 ghost use mathlib.Core.Path.{_≡_};
 ghost use mathlib.Core.List.{[]};
-ghost use Rattle.numbers.specs.declared.Place.the-variants.{At};
 ghost use Rattle.layouts.specs.Tables.{lookup, tableR};
 ghost use Rattle.flat.specs.Flat.{flat, FlatRead, FlatWritten};
 
@@ -24,13 +23,12 @@ fn no_values(next: Place, values: &mut [u64; 22]) -> Place
     next
 }
 
-// A frame's body read flat: its values, 0 from a refused field on, go to where the caller has room for them; the place after its
+// A body read flat at a place: its values, 0 from a refused field on, go to where the caller has room for them; the place after its
 // fields is answered, or the refusal. The type decides the body, as in `replies::read_rmessage`; but its record goes flat at once, and
 // through no enum that would have to be told apart again.
-pub fn read_flat(s: &[u8], ty: u8, values: &mut [u64; 22]) -> Place
-    ensures { λ r. ⌜ FlatRead 22 (lookup tableR ty) (now (s .entry)) (At 7) (now (values .exit)) r ⌝ }
+pub fn read_flat(s: &[u8], ty: u8, p: Place, values: &mut [u64; 22]) -> Place
+    ensures { λ r. ⌜ FlatRead 22 (lookup tableR ty) (now (s .entry)) p (now (values .exit)) r ⌝ }
 {
-    let p = Place::At(7);
     match ty {
         7 => {
             let r = messages::sessions::read_rlerror(s, p);

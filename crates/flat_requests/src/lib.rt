@@ -10,17 +10,15 @@ use flat::walking;
 use numbers::Place;
 use numbers::Refusal;
 ghost use mathlib.Core.Path.{_≡_};
-ghost use Rattle.numbers.specs.declared.Place.the-variants.{At};
 ghost use Rattle.layouts.specs.Tables.{lookup, tableT};
 ghost use Rattle.flat.specs.Flat.{FlatRead, FlatWritten};
 
-// A frame's body read flat: its values, 0 from a refused field on, go to where the caller has room for them; the place after its
+// A body read flat at a place: its values, 0 from a refused field on, go to where the caller has room for them; the place after its
 // fields is answered, or the refusal. The type decides the body, as in `requests::read_tmessage`; but its record goes flat at once, and
 // through no enum that would have to be told apart again.
-pub fn read_flat(s: &[u8], ty: u8, values: &mut [u64; 10]) -> Place
-    ensures { λ r. ⌜ FlatRead 10 (lookup tableT ty) (now (s .entry)) (At 7) (now (values .exit)) r ⌝ }
+pub fn read_flat(s: &[u8], ty: u8, p: Place, values: &mut [u64; 10]) -> Place
+    ensures { λ r. ⌜ FlatRead 10 (lookup tableT ty) (now (s .entry)) p (now (values .exit)) r ⌝ }
 {
-    let p = Place::At(7);
     match ty {
         8 => {
             let r = metadata::attributes::read_tstatfs(s, p);

@@ -238,8 +238,7 @@ fn bodies_head(table: &Table, direction: Direction, count: usize, has_empty: boo
 {families}use numbers::Place;
 use numbers::Refusal;
 ghost use mathlib.Core.Path.{{_≡_}};
-{list}ghost use Rattle.numbers.specs.declared.Place.the-variants.{{At}};
-ghost use Rattle.layouts.specs.Tables.{{lookup, table{d}}};
+{list}ghost use Rattle.layouts.specs.Tables.{{lookup, table{d}}};
 ghost use Rattle.flat.specs.Flat.{{{flat}FlatRead, FlatWritten}};
 "
     )
@@ -276,13 +275,12 @@ fn read_flat(direction: Direction, rows: &[&Message], has_empty: bool) -> String
     };
     format!(
         "
-// A frame's body read flat: its values, 0 from a refused field on, go to where the caller has room for them; the place after its
+// A body read flat at a place: its values, 0 from a refused field on, go to where the caller has room for them; the place after its
 // fields is answered, or the refusal. The type decides the body, as in `{enums}::read_{small}message`; but its record goes flat at once, and
 // through no enum that would have to be told apart again.
-pub fn read_flat(s: &[u8], ty: u8, values: &mut [u64; {room}]) -> Place
-    ensures {{ λ r. ⌜ FlatRead {room} (lookup table{d} ty) (now (s .entry)) (At 7) (now (values .exit)) r ⌝ }}
+pub fn read_flat(s: &[u8], ty: u8, p: Place, values: &mut [u64; {room}]) -> Place
+    ensures {{ λ r. ⌜ FlatRead {room} (lookup table{d} ty) (now (s .entry)) p (now (values .exit)) r ⌝ }}
 {{
-    let p = Place::At(7);
     match ty {{
 {arms}        _ => {rest}
     }}
