@@ -115,12 +115,9 @@ impl Direction {
         }
     }
 
-    /// How many values any body of the direction has.
-    pub fn room(self) -> usize {
-        match self {
-            Direction::T => 10,
-            Direction::R => 22,
-        }
+    /// The constant of crates/flat that says how many values hold any body of the direction.
+    pub fn width(self) -> String {
+        format!("WIDTH_{}", self.letter())
     }
 }
 
