@@ -6,7 +6,7 @@ use numbers::Place;
 use strings::Span;
 ghost use Rattle.fields.specs.Fields.{Fields};
 ghost use Rattle.laying.specs.Laying.{Laid, Written};
-ghost use Rattle.layouts.specs.Tables.{layoutT, layoutR};
+ghost use Rattle.layouts.specs.Tables.{layoutTread, layoutRread, layoutTwrite, layoutRwrite, layoutTremove};
 ghost use Rattle.common.specs.Records.{tread, rread, twrite, rwrite, tremove};
 
 pub struct Tread {
@@ -21,7 +21,7 @@ pub struct ReadTread {
 }
 
 pub fn read_tread(s: &[u8], p: Place) -> ReadTread
-    ensures { λ r. ⌜ Fields (layoutT 116) (now (s .entry)) p (tread (r .value)) (r .next) ⌝ }
+    ensures { λ r. ⌜ Fields layoutTread (now (s .entry)) p (tread (r .value)) (r .next) ⌝ }
 {
     let r1 = numbers::read_u32(s, p);
     let p1 = r1.next;
@@ -39,7 +39,7 @@ pub fn read_tread(s: &[u8], p: Place) -> ReadTread
 }
 
 fn lay_tread(out: &mut [u8], p: Place, lent: &[u8], m: Tread, put: bool) -> Place
-    ensures { λ r. ⌜ Laid (layoutT 116) (now (lent .entry)) (tread m) put (now (out .entry)) p (now (out .exit)) r ⌝ }
+    ensures { λ r. ⌜ Laid layoutTread (now (lent .entry)) (tread m) put (now (out .entry)) p (now (out .exit)) r ⌝ }
 {
     let fid = m.fid;
     let p1 = laying::lay_u32(out, p, fid.0, put);
@@ -48,7 +48,7 @@ fn lay_tread(out: &mut [u8], p: Place, lent: &[u8], m: Tread, put: bool) -> Plac
 }
 
 pub fn write_tread(out: &mut [u8], p: Place, lent: &[u8], m: Tread) -> Place
-    ensures { λ r. ⌜ Written (layoutT 116) (now (lent .entry)) (tread m) (now (out .entry)) p (now (out .exit)) r ⌝ }
+    ensures { λ r. ⌜ Written layoutTread (now (lent .entry)) (tread m) (now (out .entry)) p (now (out .exit)) r ⌝ }
 {
     let end = lay_tread(out, p, lent, m, laying::CHECK);
     let start = laying::begun(p, end, out.len());
@@ -65,7 +65,7 @@ pub struct ReadRread {
 }
 
 pub fn read_rread(s: &[u8], p: Place) -> ReadRread
-    ensures { λ r. ⌜ Fields (layoutR 117) (now (s .entry)) p (rread (r .value)) (r .next) ⌝ }
+    ensures { λ r. ⌜ Fields layoutRread (now (s .entry)) p (rread (r .value)) (r .next) ⌝ }
 {
     let r1 = fields::read_data(s, p);
     let p1 = r1.next;
@@ -75,14 +75,14 @@ pub fn read_rread(s: &[u8], p: Place) -> ReadRread
 }
 
 fn lay_rread(out: &mut [u8], p: Place, lent: &[u8], m: Rread, put: bool) -> Place
-    ensures { λ r. ⌜ Laid (layoutR 117) (now (lent .entry)) (rread m) put (now (out .entry)) p (now (out .exit)) r ⌝ }
+    ensures { λ r. ⌜ Laid layoutRread (now (lent .entry)) (rread m) put (now (out .entry)) p (now (out .exit)) r ⌝ }
 {
     let data = m.data;
     laying::lay_data(out, p, lent, data, put)
 }
 
 pub fn write_rread(out: &mut [u8], p: Place, lent: &[u8], m: Rread) -> Place
-    ensures { λ r. ⌜ Written (layoutR 117) (now (lent .entry)) (rread m) (now (out .entry)) p (now (out .exit)) r ⌝ }
+    ensures { λ r. ⌜ Written layoutRread (now (lent .entry)) (rread m) (now (out .entry)) p (now (out .exit)) r ⌝ }
 {
     let end = lay_rread(out, p, lent, m, laying::CHECK);
     let start = laying::begun(p, end, out.len());
@@ -101,7 +101,7 @@ pub struct ReadTwrite {
 }
 
 pub fn read_twrite(s: &[u8], p: Place) -> ReadTwrite
-    ensures { λ r. ⌜ Fields (layoutT 118) (now (s .entry)) p (twrite (r .value)) (r .next) ⌝ }
+    ensures { λ r. ⌜ Fields layoutTwrite (now (s .entry)) p (twrite (r .value)) (r .next) ⌝ }
 {
     let r1 = numbers::read_u32(s, p);
     let p1 = r1.next;
@@ -120,7 +120,7 @@ pub fn read_twrite(s: &[u8], p: Place) -> ReadTwrite
 }
 
 fn lay_twrite(out: &mut [u8], p: Place, lent: &[u8], m: Twrite, put: bool) -> Place
-    ensures { λ r. ⌜ Laid (layoutT 118) (now (lent .entry)) (twrite m) put (now (out .entry)) p (now (out .exit)) r ⌝ }
+    ensures { λ r. ⌜ Laid layoutTwrite (now (lent .entry)) (twrite m) put (now (out .entry)) p (now (out .exit)) r ⌝ }
 {
     let fid = m.fid;
     let p1 = laying::lay_u32(out, p, fid.0, put);
@@ -130,7 +130,7 @@ fn lay_twrite(out: &mut [u8], p: Place, lent: &[u8], m: Twrite, put: bool) -> Pl
 }
 
 pub fn write_twrite(out: &mut [u8], p: Place, lent: &[u8], m: Twrite) -> Place
-    ensures { λ r. ⌜ Written (layoutT 118) (now (lent .entry)) (twrite m) (now (out .entry)) p (now (out .exit)) r ⌝ }
+    ensures { λ r. ⌜ Written layoutTwrite (now (lent .entry)) (twrite m) (now (out .entry)) p (now (out .exit)) r ⌝ }
 {
     let end = lay_twrite(out, p, lent, m, laying::CHECK);
     let start = laying::begun(p, end, out.len());
@@ -147,7 +147,7 @@ pub struct ReadRwrite {
 }
 
 pub fn read_rwrite(s: &[u8], p: Place) -> ReadRwrite
-    ensures { λ r. ⌜ Fields (layoutR 119) (now (s .entry)) p (rwrite (r .value)) (r .next) ⌝ }
+    ensures { λ r. ⌜ Fields layoutRwrite (now (s .entry)) p (rwrite (r .value)) (r .next) ⌝ }
 {
     let r1 = numbers::read_u32(s, p);
     let p1 = r1.next;
@@ -156,13 +156,13 @@ pub fn read_rwrite(s: &[u8], p: Place) -> ReadRwrite
 }
 
 fn lay_rwrite(out: &mut [u8], p: Place, lent: &[u8], m: Rwrite, put: bool) -> Place
-    ensures { λ r. ⌜ Laid (layoutR 119) (now (lent .entry)) (rwrite m) put (now (out .entry)) p (now (out .exit)) r ⌝ }
+    ensures { λ r. ⌜ Laid layoutRwrite (now (lent .entry)) (rwrite m) put (now (out .entry)) p (now (out .exit)) r ⌝ }
 {
     laying::lay_u32(out, p, m.count, put)
 }
 
 pub fn write_rwrite(out: &mut [u8], p: Place, lent: &[u8], m: Rwrite) -> Place
-    ensures { λ r. ⌜ Written (layoutR 119) (now (lent .entry)) (rwrite m) (now (out .entry)) p (now (out .exit)) r ⌝ }
+    ensures { λ r. ⌜ Written layoutRwrite (now (lent .entry)) (rwrite m) (now (out .entry)) p (now (out .exit)) r ⌝ }
 {
     let end = lay_rwrite(out, p, lent, m, laying::CHECK);
     let start = laying::begun(p, end, out.len());
@@ -179,7 +179,7 @@ pub struct ReadTremove {
 }
 
 pub fn read_tremove(s: &[u8], p: Place) -> ReadTremove
-    ensures { λ r. ⌜ Fields (layoutT 122) (now (s .entry)) p (tremove (r .value)) (r .next) ⌝ }
+    ensures { λ r. ⌜ Fields layoutTremove (now (s .entry)) p (tremove (r .value)) (r .next) ⌝ }
 {
     let r1 = numbers::read_u32(s, p);
     let p1 = r1.next;
@@ -189,14 +189,14 @@ pub fn read_tremove(s: &[u8], p: Place) -> ReadTremove
 }
 
 fn lay_tremove(out: &mut [u8], p: Place, lent: &[u8], m: Tremove, put: bool) -> Place
-    ensures { λ r. ⌜ Laid (layoutT 122) (now (lent .entry)) (tremove m) put (now (out .entry)) p (now (out .exit)) r ⌝ }
+    ensures { λ r. ⌜ Laid layoutTremove (now (lent .entry)) (tremove m) put (now (out .entry)) p (now (out .exit)) r ⌝ }
 {
     let fid = m.fid;
     laying::lay_u32(out, p, fid.0, put)
 }
 
 pub fn write_tremove(out: &mut [u8], p: Place, lent: &[u8], m: Tremove) -> Place
-    ensures { λ r. ⌜ Written (layoutT 122) (now (lent .entry)) (tremove m) (now (out .entry)) p (now (out .exit)) r ⌝ }
+    ensures { λ r. ⌜ Written layoutTremove (now (lent .entry)) (tremove m) (now (out .entry)) p (now (out .exit)) r ⌝ }
 {
     let end = lay_tremove(out, p, lent, m, laying::CHECK);
     let start = laying::begun(p, end, out.len());

@@ -7,7 +7,7 @@ use numbers::Place;
 use strings::Span;
 ghost use Rattle.fields.specs.Fields.{Fields};
 ghost use Rattle.laying.specs.Laying.{Laid, Written};
-ghost use Rattle.layouts.specs.Tables.{layoutT, layoutR};
+ghost use Rattle.layouts.specs.Tables.{layoutTversion, layoutRversion, layoutTflush, layoutTclunk};
 ghost use Rattle.common.specs.Records.{tversion, rversion, tflush, tclunk};
 
 pub struct Tversion {
@@ -21,7 +21,7 @@ pub struct ReadTversion {
 }
 
 pub fn read_tversion(s: &[u8], p: Place) -> ReadTversion
-    ensures { λ r. ⌜ Fields (layoutT 100) (now (s .entry)) p (tversion (r .value)) (r .next) ⌝ }
+    ensures { λ r. ⌜ Fields layoutTversion (now (s .entry)) p (tversion (r .value)) (r .next) ⌝ }
 {
     let r1 = numbers::read_u32(s, p);
     let p1 = r1.next;
@@ -36,7 +36,7 @@ pub fn read_tversion(s: &[u8], p: Place) -> ReadTversion
 }
 
 fn lay_tversion(out: &mut [u8], p: Place, lent: &[u8], m: Tversion, put: bool) -> Place
-    ensures { λ r. ⌜ Laid (layoutT 100) (now (lent .entry)) (tversion m) put (now (out .entry)) p (now (out .exit)) r ⌝ }
+    ensures { λ r. ⌜ Laid layoutTversion (now (lent .entry)) (tversion m) put (now (out .entry)) p (now (out .exit)) r ⌝ }
 {
     let p1 = laying::lay_u32(out, p, m.msize, put);
     let version = m.version;
@@ -44,7 +44,7 @@ fn lay_tversion(out: &mut [u8], p: Place, lent: &[u8], m: Tversion, put: bool) -
 }
 
 pub fn write_tversion(out: &mut [u8], p: Place, lent: &[u8], m: Tversion) -> Place
-    ensures { λ r. ⌜ Written (layoutT 100) (now (lent .entry)) (tversion m) (now (out .entry)) p (now (out .exit)) r ⌝ }
+    ensures { λ r. ⌜ Written layoutTversion (now (lent .entry)) (tversion m) (now (out .entry)) p (now (out .exit)) r ⌝ }
 {
     let end = lay_tversion(out, p, lent, m, laying::CHECK);
     let start = laying::begun(p, end, out.len());
@@ -62,7 +62,7 @@ pub struct ReadRversion {
 }
 
 pub fn read_rversion(s: &[u8], p: Place) -> ReadRversion
-    ensures { λ r. ⌜ Fields (layoutR 101) (now (s .entry)) p (rversion (r .value)) (r .next) ⌝ }
+    ensures { λ r. ⌜ Fields layoutRversion (now (s .entry)) p (rversion (r .value)) (r .next) ⌝ }
 {
     let r1 = numbers::read_u32(s, p);
     let p1 = r1.next;
@@ -77,7 +77,7 @@ pub fn read_rversion(s: &[u8], p: Place) -> ReadRversion
 }
 
 fn lay_rversion(out: &mut [u8], p: Place, lent: &[u8], m: Rversion, put: bool) -> Place
-    ensures { λ r. ⌜ Laid (layoutR 101) (now (lent .entry)) (rversion m) put (now (out .entry)) p (now (out .exit)) r ⌝ }
+    ensures { λ r. ⌜ Laid layoutRversion (now (lent .entry)) (rversion m) put (now (out .entry)) p (now (out .exit)) r ⌝ }
 {
     let p1 = laying::lay_u32(out, p, m.msize, put);
     let version = m.version;
@@ -85,7 +85,7 @@ fn lay_rversion(out: &mut [u8], p: Place, lent: &[u8], m: Rversion, put: bool) -
 }
 
 pub fn write_rversion(out: &mut [u8], p: Place, lent: &[u8], m: Rversion) -> Place
-    ensures { λ r. ⌜ Written (layoutR 101) (now (lent .entry)) (rversion m) (now (out .entry)) p (now (out .exit)) r ⌝ }
+    ensures { λ r. ⌜ Written layoutRversion (now (lent .entry)) (rversion m) (now (out .entry)) p (now (out .exit)) r ⌝ }
 {
     let end = lay_rversion(out, p, lent, m, laying::CHECK);
     let start = laying::begun(p, end, out.len());
@@ -102,7 +102,7 @@ pub struct ReadTflush {
 }
 
 pub fn read_tflush(s: &[u8], p: Place) -> ReadTflush
-    ensures { λ r. ⌜ Fields (layoutT 108) (now (s .entry)) p (tflush (r .value)) (r .next) ⌝ }
+    ensures { λ r. ⌜ Fields layoutTflush (now (s .entry)) p (tflush (r .value)) (r .next) ⌝ }
 {
     let r1 = numbers::read_u16(s, p);
     let p1 = r1.next;
@@ -112,14 +112,14 @@ pub fn read_tflush(s: &[u8], p: Place) -> ReadTflush
 }
 
 fn lay_tflush(out: &mut [u8], p: Place, lent: &[u8], m: Tflush, put: bool) -> Place
-    ensures { λ r. ⌜ Laid (layoutT 108) (now (lent .entry)) (tflush m) put (now (out .entry)) p (now (out .exit)) r ⌝ }
+    ensures { λ r. ⌜ Laid layoutTflush (now (lent .entry)) (tflush m) put (now (out .entry)) p (now (out .exit)) r ⌝ }
 {
     let oldtag = m.oldtag;
     laying::lay_u16(out, p, oldtag.0, put)
 }
 
 pub fn write_tflush(out: &mut [u8], p: Place, lent: &[u8], m: Tflush) -> Place
-    ensures { λ r. ⌜ Written (layoutT 108) (now (lent .entry)) (tflush m) (now (out .entry)) p (now (out .exit)) r ⌝ }
+    ensures { λ r. ⌜ Written layoutTflush (now (lent .entry)) (tflush m) (now (out .entry)) p (now (out .exit)) r ⌝ }
 {
     let end = lay_tflush(out, p, lent, m, laying::CHECK);
     let start = laying::begun(p, end, out.len());
@@ -136,7 +136,7 @@ pub struct ReadTclunk {
 }
 
 pub fn read_tclunk(s: &[u8], p: Place) -> ReadTclunk
-    ensures { λ r. ⌜ Fields (layoutT 120) (now (s .entry)) p (tclunk (r .value)) (r .next) ⌝ }
+    ensures { λ r. ⌜ Fields layoutTclunk (now (s .entry)) p (tclunk (r .value)) (r .next) ⌝ }
 {
     let r1 = numbers::read_u32(s, p);
     let p1 = r1.next;
@@ -146,14 +146,14 @@ pub fn read_tclunk(s: &[u8], p: Place) -> ReadTclunk
 }
 
 fn lay_tclunk(out: &mut [u8], p: Place, lent: &[u8], m: Tclunk, put: bool) -> Place
-    ensures { λ r. ⌜ Laid (layoutT 120) (now (lent .entry)) (tclunk m) put (now (out .entry)) p (now (out .exit)) r ⌝ }
+    ensures { λ r. ⌜ Laid layoutTclunk (now (lent .entry)) (tclunk m) put (now (out .entry)) p (now (out .exit)) r ⌝ }
 {
     let fid = m.fid;
     laying::lay_u32(out, p, fid.0, put)
 }
 
 pub fn write_tclunk(out: &mut [u8], p: Place, lent: &[u8], m: Tclunk) -> Place
-    ensures { λ r. ⌜ Written (layoutT 120) (now (lent .entry)) (tclunk m) (now (out .entry)) p (now (out .exit)) r ⌝ }
+    ensures { λ r. ⌜ Written layoutTclunk (now (lent .entry)) (tclunk m) (now (out .entry)) p (now (out .exit)) r ⌝ }
 {
     let end = lay_tclunk(out, p, lent, m, laying::CHECK);
     let start = laying::begun(p, end, out.len());

@@ -6,7 +6,7 @@ use layouts::ids::Fid;
 use numbers::Place;
 ghost use Rattle.fields.specs.Fields.{Fields};
 ghost use Rattle.laying.specs.Laying.{Laid, Written};
-ghost use Rattle.layouts.specs.Tables.{layoutT, layoutR};
+ghost use Rattle.layouts.specs.Tables.{layoutTwalk, layoutRwalk};
 ghost use Rattle.common.specs.Records.{twalk, rwalk};
 
 pub struct Twalk {
@@ -21,7 +21,7 @@ pub struct ReadTwalk {
 }
 
 pub fn read_twalk(s: &[u8], p: Place) -> ReadTwalk
-    ensures { λ r. ⌜ Fields (layoutT 110) (now (s .entry)) p (twalk (r .value)) (r .next) ⌝ }
+    ensures { λ r. ⌜ Fields layoutTwalk (now (s .entry)) p (twalk (r .value)) (r .next) ⌝ }
 {
     let r1 = numbers::read_u32(s, p);
     let p1 = r1.next;
@@ -41,7 +41,7 @@ pub fn read_twalk(s: &[u8], p: Place) -> ReadTwalk
 }
 
 fn lay_twalk(out: &mut [u8], p: Place, lent: &[u8], m: Twalk, put: bool) -> Place
-    ensures { λ r. ⌜ Laid (layoutT 110) (now (lent .entry)) (twalk m) put (now (out .entry)) p (now (out .exit)) r ⌝ }
+    ensures { λ r. ⌜ Laid layoutTwalk (now (lent .entry)) (twalk m) put (now (out .entry)) p (now (out .exit)) r ⌝ }
 {
     let fid = m.fid;
     let p1 = laying::lay_u32(out, p, fid.0, put);
@@ -52,7 +52,7 @@ fn lay_twalk(out: &mut [u8], p: Place, lent: &[u8], m: Twalk, put: bool) -> Plac
 }
 
 pub fn write_twalk(out: &mut [u8], p: Place, lent: &[u8], m: Twalk) -> Place
-    ensures { λ r. ⌜ Written (layoutT 110) (now (lent .entry)) (twalk m) (now (out .entry)) p (now (out .exit)) r ⌝ }
+    ensures { λ r. ⌜ Written layoutTwalk (now (lent .entry)) (twalk m) (now (out .entry)) p (now (out .exit)) r ⌝ }
 {
     let end = lay_twalk(out, p, lent, m, laying::CHECK);
     let start = laying::begun(p, end, out.len());
@@ -69,7 +69,7 @@ pub struct ReadRwalk {
 }
 
 pub fn read_rwalk(s: &[u8], p: Place) -> ReadRwalk
-    ensures { λ r. ⌜ Fields (layoutR 111) (now (s .entry)) p (rwalk (r .value)) (r .next) ⌝ }
+    ensures { λ r. ⌜ Fields layoutRwalk (now (s .entry)) p (rwalk (r .value)) (r .next) ⌝ }
 {
     let r1 = fields::read_qids(s, p);
     let p1 = r1.next;
@@ -79,14 +79,14 @@ pub fn read_rwalk(s: &[u8], p: Place) -> ReadRwalk
 }
 
 fn lay_rwalk(out: &mut [u8], p: Place, lent: &[u8], m: Rwalk, put: bool) -> Place
-    ensures { λ r. ⌜ Laid (layoutR 111) (now (lent .entry)) (rwalk m) put (now (out .entry)) p (now (out .exit)) r ⌝ }
+    ensures { λ r. ⌜ Laid layoutRwalk (now (lent .entry)) (rwalk m) put (now (out .entry)) p (now (out .exit)) r ⌝ }
 {
     let wqids = m.wqids;
     laying::lay_qids(out, p, lent, wqids, put)
 }
 
 pub fn write_rwalk(out: &mut [u8], p: Place, lent: &[u8], m: Rwalk) -> Place
-    ensures { λ r. ⌜ Written (layoutR 111) (now (lent .entry)) (rwalk m) (now (out .entry)) p (now (out .exit)) r ⌝ }
+    ensures { λ r. ⌜ Written layoutRwalk (now (lent .entry)) (rwalk m) (now (out .entry)) p (now (out .exit)) r ⌝ }
 {
     let end = lay_rwalk(out, p, lent, m, laying::CHECK);
     let start = laying::begun(p, end, out.len());

@@ -86,7 +86,13 @@ pub record FlatWritten (l : Option Layout) (lent ns o : List ℕ) (p : Place) (o
   pub bytes : o' ≡ outIn l lent ns o p
   pub next : q ≡ endIn l lent ns o p
 
--- ---- how many numbers there are
+-- ---- how many numbers there are, for any request and for any reply
+
+abbrev pub widthT : ℕ
+widthT = 10
+
+abbrev pub widthR : ℕ
+widthR = 22
 
 abbrev pub numbersIn : Layout → ℕ
 numbersIn [] = 0

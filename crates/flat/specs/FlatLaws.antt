@@ -16,10 +16,10 @@ use Rattle.fields.specs.Fields.{Fields}
 use Rattle.laying.specs.Laying.{Written}
 use Rattle.layouts.specs.Tables.{Row, lookup, tableT, tableR}
 use Rattle.layouts.specs.BodyLaws.{Nots, no-row}
-use Rattle.flat.specs.Flat.{flat, low, fieldValues, FlatRead, FlatWritten, widest}
+use Rattle.flat.specs.Flat.{flat, low, fieldValues, FlatRead, FlatWritten, widthT, widthR, widest}
 
--- 10 values hold any request and 22 any reply, and no fewer would
-pub enough : (widest tableT ≡ 10) × (widest tableR ≡ 22)
+-- so many values hold any request and any reply, and no fewer would
+pub enough : (widest tableT ≡ widthT) × (widest tableR ≡ widthR)
 enough = (refl, refl)
 
 -- of a number of eight bytes the lowest w are its rest by 256 ^ w

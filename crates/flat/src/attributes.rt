@@ -3,6 +3,8 @@
 
 use crate::U8;
 use crate::U32;
+use crate::WIDTH_R;
+use crate::WIDTH_T;
 use layouts::ids::Fid;
 use layouts::ids::Gid;
 use layouts::qids::Qid;
@@ -16,30 +18,30 @@ use metadata::attributes::Txattrcreate;
 use metadata::attributes::Txattrwalk;
 use strings::Span;
 ghost use mathlib.Core.Path.{_≡_};
-ghost use Rattle.layouts.specs.Tables.{layoutT, layoutR};
+ghost use Rattle.layouts.specs.Tables.{layoutTstatfs, layoutRstatfs, layoutTgetattr, layoutRgetattr, layoutTsetattr, layoutTxattrwalk, layoutRxattrwalk, layoutTxattrcreate};
 ghost use Rattle.metadata.specs.Records.{tstatfs, rstatfs, tgetattr, rgetattr, tsetattr, txattrwalk, rxattrwalk, txattrcreate};
-ghost use Rattle.flat.specs.Flat.{flat, fieldValues};
+ghost use Rattle.flat.specs.Flat.{flat, fieldValues, widthT, widthR};
 
-pub fn flat_tstatfs(m: Tstatfs) -> [u64; 10]
-    ensures { λ r. ⌜ r ≡ flat 10 (tstatfs m) ⌝ }
+pub fn flat_tstatfs(m: Tstatfs) -> [u64; WIDTH_T]
+    ensures { λ r. ⌜ r ≡ flat widthT (tstatfs m) ⌝ }
 {
     let fid = m.fid;
-    let mut v = [0u64; 10];
+    let mut v = [0u64; WIDTH_T];
     v[0] = fid.0 as u64;
     v
 }
 
-pub fn tstatfs_of(v: [u64; 10]) -> Tstatfs
-    ensures { λ r. ⌜ tstatfs r ≡ fieldValues (layoutT 8) v ⌝ }
+pub fn tstatfs_of(v: [u64; WIDTH_T]) -> Tstatfs
+    ensures { λ r. ⌜ tstatfs r ≡ fieldValues layoutTstatfs v ⌝ }
 {
     let fid = Fid((v[0] % U32) as u32);
     Tstatfs { fid }
 }
 
-pub fn flat_rstatfs(m: Rstatfs) -> [u64; 22]
-    ensures { λ r. ⌜ r ≡ flat 22 (rstatfs m) ⌝ }
+pub fn flat_rstatfs(m: Rstatfs) -> [u64; WIDTH_R]
+    ensures { λ r. ⌜ r ≡ flat widthR (rstatfs m) ⌝ }
 {
-    let mut v = [0u64; 22];
+    let mut v = [0u64; WIDTH_R];
     v[0] = m.ty as u64;
     v[1] = m.bsize as u64;
     v[2] = m.blocks;
@@ -52,8 +54,8 @@ pub fn flat_rstatfs(m: Rstatfs) -> [u64; 22]
     v
 }
 
-pub fn rstatfs_of(v: [u64; 22]) -> Rstatfs
-    ensures { λ r. ⌜ rstatfs r ≡ fieldValues (layoutR 9) v ⌝ }
+pub fn rstatfs_of(v: [u64; WIDTH_R]) -> Rstatfs
+    ensures { λ r. ⌜ rstatfs r ≡ fieldValues layoutRstatfs v ⌝ }
 {
     Rstatfs {
         ty: (v[0] % U32) as u32,
@@ -68,18 +70,18 @@ pub fn rstatfs_of(v: [u64; 22]) -> Rstatfs
     }
 }
 
-pub fn flat_tgetattr(m: Tgetattr) -> [u64; 10]
-    ensures { λ r. ⌜ r ≡ flat 10 (tgetattr m) ⌝ }
+pub fn flat_tgetattr(m: Tgetattr) -> [u64; WIDTH_T]
+    ensures { λ r. ⌜ r ≡ flat widthT (tgetattr m) ⌝ }
 {
     let fid = m.fid;
-    let mut v = [0u64; 10];
+    let mut v = [0u64; WIDTH_T];
     v[0] = fid.0 as u64;
     v[1] = m.request_mask;
     v
 }
 
-pub fn tgetattr_of(v: [u64; 10]) -> Tgetattr
-    ensures { λ r. ⌜ tgetattr r ≡ fieldValues (layoutT 24) v ⌝ }
+pub fn tgetattr_of(v: [u64; WIDTH_T]) -> Tgetattr
+    ensures { λ r. ⌜ tgetattr r ≡ fieldValues layoutTgetattr v ⌝ }
 {
     let fid = Fid((v[0] % U32) as u32);
     Tgetattr {
@@ -88,8 +90,8 @@ pub fn tgetattr_of(v: [u64; 10]) -> Tgetattr
     }
 }
 
-pub fn flat_rgetattr(m: Rgetattr) -> [u64; 22]
-    ensures { λ r. ⌜ r ≡ flat 22 (rgetattr m) ⌝ }
+pub fn flat_rgetattr(m: Rgetattr) -> [u64; WIDTH_R]
+    ensures { λ r. ⌜ r ≡ flat widthR (rgetattr m) ⌝ }
 {
     let qid = m.qid;
     let gid = m.gid;
@@ -119,8 +121,8 @@ pub fn flat_rgetattr(m: Rgetattr) -> [u64; 22]
     ]
 }
 
-pub fn rgetattr_of(v: [u64; 22]) -> Rgetattr
-    ensures { λ r. ⌜ rgetattr r ≡ fieldValues (layoutR 25) v ⌝ }
+pub fn rgetattr_of(v: [u64; WIDTH_R]) -> Rgetattr
+    ensures { λ r. ⌜ rgetattr r ≡ fieldValues layoutRgetattr v ⌝ }
 {
     let qid = Qid {
         ty: (v[1] % U8) as u8,
@@ -152,8 +154,8 @@ pub fn rgetattr_of(v: [u64; 22]) -> Rgetattr
     }
 }
 
-pub fn flat_tsetattr(m: Tsetattr) -> [u64; 10]
-    ensures { λ r. ⌜ r ≡ flat 10 (tsetattr m) ⌝ }
+pub fn flat_tsetattr(m: Tsetattr) -> [u64; WIDTH_T]
+    ensures { λ r. ⌜ r ≡ flat widthT (tsetattr m) ⌝ }
 {
     let fid = m.fid;
     let gid = m.gid;
@@ -171,8 +173,8 @@ pub fn flat_tsetattr(m: Tsetattr) -> [u64; 10]
     ]
 }
 
-pub fn tsetattr_of(v: [u64; 10]) -> Tsetattr
-    ensures { λ r. ⌜ tsetattr r ≡ fieldValues (layoutT 26) v ⌝ }
+pub fn tsetattr_of(v: [u64; WIDTH_T]) -> Tsetattr
+    ensures { λ r. ⌜ tsetattr r ≡ fieldValues layoutTsetattr v ⌝ }
 {
     let fid = Fid((v[0] % U32) as u32);
     let gid = Gid((v[4] % U32) as u32);
@@ -190,13 +192,13 @@ pub fn tsetattr_of(v: [u64; 10]) -> Tsetattr
     }
 }
 
-pub fn flat_txattrwalk(m: Txattrwalk) -> [u64; 10]
-    ensures { λ r. ⌜ r ≡ flat 10 (txattrwalk m) ⌝ }
+pub fn flat_txattrwalk(m: Txattrwalk) -> [u64; WIDTH_T]
+    ensures { λ r. ⌜ r ≡ flat widthT (txattrwalk m) ⌝ }
 {
     let fid = m.fid;
     let newfid = m.newfid;
     let name = m.name;
-    let mut v = [0u64; 10];
+    let mut v = [0u64; WIDTH_T];
     v[0] = fid.0 as u64;
     v[1] = newfid.0 as u64;
     v[2] = name.start as u64;
@@ -204,8 +206,8 @@ pub fn flat_txattrwalk(m: Txattrwalk) -> [u64; 10]
     v
 }
 
-pub fn txattrwalk_of(v: [u64; 10]) -> Txattrwalk
-    ensures { λ r. ⌜ txattrwalk r ≡ fieldValues (layoutT 30) v ⌝ }
+pub fn txattrwalk_of(v: [u64; WIDTH_T]) -> Txattrwalk
+    ensures { λ r. ⌜ txattrwalk r ≡ fieldValues layoutTxattrwalk v ⌝ }
 {
     let fid = Fid((v[0] % U32) as u32);
     let newfid = Fid((v[1] % U32) as u32);
@@ -216,22 +218,22 @@ pub fn txattrwalk_of(v: [u64; 10]) -> Txattrwalk
     Txattrwalk { fid, newfid, name }
 }
 
-pub fn flat_rxattrwalk(m: Rxattrwalk) -> [u64; 22]
-    ensures { λ r. ⌜ r ≡ flat 22 (rxattrwalk m) ⌝ }
+pub fn flat_rxattrwalk(m: Rxattrwalk) -> [u64; WIDTH_R]
+    ensures { λ r. ⌜ r ≡ flat widthR (rxattrwalk m) ⌝ }
 {
-    let mut v = [0u64; 22];
+    let mut v = [0u64; WIDTH_R];
     v[0] = m.size;
     v
 }
 
-pub fn rxattrwalk_of(v: [u64; 22]) -> Rxattrwalk
-    ensures { λ r. ⌜ rxattrwalk r ≡ fieldValues (layoutR 31) v ⌝ }
+pub fn rxattrwalk_of(v: [u64; WIDTH_R]) -> Rxattrwalk
+    ensures { λ r. ⌜ rxattrwalk r ≡ fieldValues layoutRxattrwalk v ⌝ }
 {
     Rxattrwalk { size: v[0] }
 }
 
-pub fn flat_txattrcreate(m: Txattrcreate) -> [u64; 10]
-    ensures { λ r. ⌜ r ≡ flat 10 (txattrcreate m) ⌝ }
+pub fn flat_txattrcreate(m: Txattrcreate) -> [u64; WIDTH_T]
+    ensures { λ r. ⌜ r ≡ flat widthT (txattrcreate m) ⌝ }
 {
     let fid = m.fid;
     let name = m.name;
@@ -249,8 +251,8 @@ pub fn flat_txattrcreate(m: Txattrcreate) -> [u64; 10]
     ]
 }
 
-pub fn txattrcreate_of(v: [u64; 10]) -> Txattrcreate
-    ensures { λ r. ⌜ txattrcreate r ≡ fieldValues (layoutT 32) v ⌝ }
+pub fn txattrcreate_of(v: [u64; WIDTH_T]) -> Txattrcreate
+    ensures { λ r. ⌜ txattrcreate r ≡ fieldValues layoutTxattrcreate v ⌝ }
 {
     let fid = Fid((v[0] % U32) as u32);
     let name = Span {

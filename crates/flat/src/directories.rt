@@ -3,6 +3,8 @@
 
 use crate::U8;
 use crate::U32;
+use crate::WIDTH_R;
+use crate::WIDTH_T;
 use layouts::ids::Fid;
 use layouts::ids::Gid;
 use layouts::qids::Qid;
@@ -22,12 +24,12 @@ use messages::directories::Tsymlink;
 use messages::directories::Tunlinkat;
 use strings::Span;
 ghost use mathlib.Core.Path.{_≡_};
-ghost use Rattle.layouts.specs.Tables.{layoutT, layoutR};
+ghost use Rattle.layouts.specs.Tables.{layoutTsymlink, layoutRsymlink, layoutTmknod, layoutRmknod, layoutTrename, layoutTreadlink, layoutRreadlink, layoutTreaddir, layoutRreaddir, layoutTlink, layoutTmkdir, layoutRmkdir, layoutTrenameat, layoutTunlinkat};
 ghost use Rattle.messages.specs.Records.{tsymlink, rsymlink, tmknod, rmknod, trename, treadlink, rreadlink, treaddir, rreaddir, tlink, tmkdir, rmkdir, trenameat, tunlinkat};
-ghost use Rattle.flat.specs.Flat.{flat, fieldValues};
+ghost use Rattle.flat.specs.Flat.{flat, fieldValues, widthT, widthR};
 
-pub fn flat_tsymlink(m: Tsymlink) -> [u64; 10]
-    ensures { λ r. ⌜ r ≡ flat 10 (tsymlink m) ⌝ }
+pub fn flat_tsymlink(m: Tsymlink) -> [u64; WIDTH_T]
+    ensures { λ r. ⌜ r ≡ flat widthT (tsymlink m) ⌝ }
 {
     let fid = m.fid;
     let name = m.name;
@@ -47,8 +49,8 @@ pub fn flat_tsymlink(m: Tsymlink) -> [u64; 10]
     ]
 }
 
-pub fn tsymlink_of(v: [u64; 10]) -> Tsymlink
-    ensures { λ r. ⌜ tsymlink r ≡ fieldValues (layoutT 16) v ⌝ }
+pub fn tsymlink_of(v: [u64; WIDTH_T]) -> Tsymlink
+    ensures { λ r. ⌜ tsymlink r ≡ fieldValues layoutTsymlink v ⌝ }
 {
     let fid = Fid((v[0] % U32) as u32);
     let name = Span {
@@ -68,19 +70,19 @@ pub fn tsymlink_of(v: [u64; 10]) -> Tsymlink
     }
 }
 
-pub fn flat_rsymlink(m: Rsymlink) -> [u64; 22]
-    ensures { λ r. ⌜ r ≡ flat 22 (rsymlink m) ⌝ }
+pub fn flat_rsymlink(m: Rsymlink) -> [u64; WIDTH_R]
+    ensures { λ r. ⌜ r ≡ flat widthR (rsymlink m) ⌝ }
 {
     let qid = m.qid;
-    let mut v = [0u64; 22];
+    let mut v = [0u64; WIDTH_R];
     v[0] = qid.ty as u64;
     v[1] = qid.version as u64;
     v[2] = qid.path;
     v
 }
 
-pub fn rsymlink_of(v: [u64; 22]) -> Rsymlink
-    ensures { λ r. ⌜ rsymlink r ≡ fieldValues (layoutR 17) v ⌝ }
+pub fn rsymlink_of(v: [u64; WIDTH_R]) -> Rsymlink
+    ensures { λ r. ⌜ rsymlink r ≡ fieldValues layoutRsymlink v ⌝ }
 {
     let qid = Qid {
         ty: (v[0] % U8) as u8,
@@ -90,8 +92,8 @@ pub fn rsymlink_of(v: [u64; 22]) -> Rsymlink
     Rsymlink { qid }
 }
 
-pub fn flat_tmknod(m: Tmknod) -> [u64; 10]
-    ensures { λ r. ⌜ r ≡ flat 10 (tmknod m) ⌝ }
+pub fn flat_tmknod(m: Tmknod) -> [u64; WIDTH_T]
+    ensures { λ r. ⌜ r ≡ flat widthT (tmknod m) ⌝ }
 {
     let dfid = m.dfid;
     let name = m.name;
@@ -110,8 +112,8 @@ pub fn flat_tmknod(m: Tmknod) -> [u64; 10]
     ]
 }
 
-pub fn tmknod_of(v: [u64; 10]) -> Tmknod
-    ensures { λ r. ⌜ tmknod r ≡ fieldValues (layoutT 18) v ⌝ }
+pub fn tmknod_of(v: [u64; WIDTH_T]) -> Tmknod
+    ensures { λ r. ⌜ tmknod r ≡ fieldValues layoutTmknod v ⌝ }
 {
     let dfid = Fid((v[0] % U32) as u32);
     let name = Span {
@@ -129,19 +131,19 @@ pub fn tmknod_of(v: [u64; 10]) -> Tmknod
     }
 }
 
-pub fn flat_rmknod(m: Rmknod) -> [u64; 22]
-    ensures { λ r. ⌜ r ≡ flat 22 (rmknod m) ⌝ }
+pub fn flat_rmknod(m: Rmknod) -> [u64; WIDTH_R]
+    ensures { λ r. ⌜ r ≡ flat widthR (rmknod m) ⌝ }
 {
     let qid = m.qid;
-    let mut v = [0u64; 22];
+    let mut v = [0u64; WIDTH_R];
     v[0] = qid.ty as u64;
     v[1] = qid.version as u64;
     v[2] = qid.path;
     v
 }
 
-pub fn rmknod_of(v: [u64; 22]) -> Rmknod
-    ensures { λ r. ⌜ rmknod r ≡ fieldValues (layoutR 19) v ⌝ }
+pub fn rmknod_of(v: [u64; WIDTH_R]) -> Rmknod
+    ensures { λ r. ⌜ rmknod r ≡ fieldValues layoutRmknod v ⌝ }
 {
     let qid = Qid {
         ty: (v[0] % U8) as u8,
@@ -151,13 +153,13 @@ pub fn rmknod_of(v: [u64; 22]) -> Rmknod
     Rmknod { qid }
 }
 
-pub fn flat_trename(m: Trename) -> [u64; 10]
-    ensures { λ r. ⌜ r ≡ flat 10 (trename m) ⌝ }
+pub fn flat_trename(m: Trename) -> [u64; WIDTH_T]
+    ensures { λ r. ⌜ r ≡ flat widthT (trename m) ⌝ }
 {
     let fid = m.fid;
     let dfid = m.dfid;
     let name = m.name;
-    let mut v = [0u64; 10];
+    let mut v = [0u64; WIDTH_T];
     v[0] = fid.0 as u64;
     v[1] = dfid.0 as u64;
     v[2] = name.start as u64;
@@ -165,8 +167,8 @@ pub fn flat_trename(m: Trename) -> [u64; 10]
     v
 }
 
-pub fn trename_of(v: [u64; 10]) -> Trename
-    ensures { λ r. ⌜ trename r ≡ fieldValues (layoutT 20) v ⌝ }
+pub fn trename_of(v: [u64; WIDTH_T]) -> Trename
+    ensures { λ r. ⌜ trename r ≡ fieldValues layoutTrename v ⌝ }
 {
     let fid = Fid((v[0] % U32) as u32);
     let dfid = Fid((v[1] % U32) as u32);
@@ -177,34 +179,34 @@ pub fn trename_of(v: [u64; 10]) -> Trename
     Trename { fid, dfid, name }
 }
 
-pub fn flat_treadlink(m: Treadlink) -> [u64; 10]
-    ensures { λ r. ⌜ r ≡ flat 10 (treadlink m) ⌝ }
+pub fn flat_treadlink(m: Treadlink) -> [u64; WIDTH_T]
+    ensures { λ r. ⌜ r ≡ flat widthT (treadlink m) ⌝ }
 {
     let fid = m.fid;
-    let mut v = [0u64; 10];
+    let mut v = [0u64; WIDTH_T];
     v[0] = fid.0 as u64;
     v
 }
 
-pub fn treadlink_of(v: [u64; 10]) -> Treadlink
-    ensures { λ r. ⌜ treadlink r ≡ fieldValues (layoutT 22) v ⌝ }
+pub fn treadlink_of(v: [u64; WIDTH_T]) -> Treadlink
+    ensures { λ r. ⌜ treadlink r ≡ fieldValues layoutTreadlink v ⌝ }
 {
     let fid = Fid((v[0] % U32) as u32);
     Treadlink { fid }
 }
 
-pub fn flat_rreadlink(m: Rreadlink) -> [u64; 22]
-    ensures { λ r. ⌜ r ≡ flat 22 (rreadlink m) ⌝ }
+pub fn flat_rreadlink(m: Rreadlink) -> [u64; WIDTH_R]
+    ensures { λ r. ⌜ r ≡ flat widthR (rreadlink m) ⌝ }
 {
     let target = m.target;
-    let mut v = [0u64; 22];
+    let mut v = [0u64; WIDTH_R];
     v[0] = target.start as u64;
     v[1] = target.len as u64;
     v
 }
 
-pub fn rreadlink_of(v: [u64; 22]) -> Rreadlink
-    ensures { λ r. ⌜ rreadlink r ≡ fieldValues (layoutR 23) v ⌝ }
+pub fn rreadlink_of(v: [u64; WIDTH_R]) -> Rreadlink
+    ensures { λ r. ⌜ rreadlink r ≡ fieldValues layoutRreadlink v ⌝ }
 {
     let target = Span {
         start: v[0] as usize,
@@ -213,19 +215,19 @@ pub fn rreadlink_of(v: [u64; 22]) -> Rreadlink
     Rreadlink { target }
 }
 
-pub fn flat_treaddir(m: Treaddir) -> [u64; 10]
-    ensures { λ r. ⌜ r ≡ flat 10 (treaddir m) ⌝ }
+pub fn flat_treaddir(m: Treaddir) -> [u64; WIDTH_T]
+    ensures { λ r. ⌜ r ≡ flat widthT (treaddir m) ⌝ }
 {
     let fid = m.fid;
-    let mut v = [0u64; 10];
+    let mut v = [0u64; WIDTH_T];
     v[0] = fid.0 as u64;
     v[1] = m.offset;
     v[2] = m.count as u64;
     v
 }
 
-pub fn treaddir_of(v: [u64; 10]) -> Treaddir
-    ensures { λ r. ⌜ treaddir r ≡ fieldValues (layoutT 40) v ⌝ }
+pub fn treaddir_of(v: [u64; WIDTH_T]) -> Treaddir
+    ensures { λ r. ⌜ treaddir r ≡ fieldValues layoutTreaddir v ⌝ }
 {
     let fid = Fid((v[0] % U32) as u32);
     Treaddir {
@@ -235,18 +237,18 @@ pub fn treaddir_of(v: [u64; 10]) -> Treaddir
     }
 }
 
-pub fn flat_rreaddir(m: Rreaddir) -> [u64; 22]
-    ensures { λ r. ⌜ r ≡ flat 22 (rreaddir m) ⌝ }
+pub fn flat_rreaddir(m: Rreaddir) -> [u64; WIDTH_R]
+    ensures { λ r. ⌜ r ≡ flat widthR (rreaddir m) ⌝ }
 {
     let data = m.data;
-    let mut v = [0u64; 22];
+    let mut v = [0u64; WIDTH_R];
     v[0] = data.start as u64;
     v[1] = data.len as u64;
     v
 }
 
-pub fn rreaddir_of(v: [u64; 22]) -> Rreaddir
-    ensures { λ r. ⌜ rreaddir r ≡ fieldValues (layoutR 41) v ⌝ }
+pub fn rreaddir_of(v: [u64; WIDTH_R]) -> Rreaddir
+    ensures { λ r. ⌜ rreaddir r ≡ fieldValues layoutRreaddir v ⌝ }
 {
     let data = Span {
         start: v[0] as usize,
@@ -255,13 +257,13 @@ pub fn rreaddir_of(v: [u64; 22]) -> Rreaddir
     Rreaddir { data }
 }
 
-pub fn flat_tlink(m: Tlink) -> [u64; 10]
-    ensures { λ r. ⌜ r ≡ flat 10 (tlink m) ⌝ }
+pub fn flat_tlink(m: Tlink) -> [u64; WIDTH_T]
+    ensures { λ r. ⌜ r ≡ flat widthT (tlink m) ⌝ }
 {
     let dfid = m.dfid;
     let fid = m.fid;
     let name = m.name;
-    let mut v = [0u64; 10];
+    let mut v = [0u64; WIDTH_T];
     v[0] = dfid.0 as u64;
     v[1] = fid.0 as u64;
     v[2] = name.start as u64;
@@ -269,8 +271,8 @@ pub fn flat_tlink(m: Tlink) -> [u64; 10]
     v
 }
 
-pub fn tlink_of(v: [u64; 10]) -> Tlink
-    ensures { λ r. ⌜ tlink r ≡ fieldValues (layoutT 70) v ⌝ }
+pub fn tlink_of(v: [u64; WIDTH_T]) -> Tlink
+    ensures { λ r. ⌜ tlink r ≡ fieldValues layoutTlink v ⌝ }
 {
     let dfid = Fid((v[0] % U32) as u32);
     let fid = Fid((v[1] % U32) as u32);
@@ -281,8 +283,8 @@ pub fn tlink_of(v: [u64; 10]) -> Tlink
     Tlink { dfid, fid, name }
 }
 
-pub fn flat_tmkdir(m: Tmkdir) -> [u64; 10]
-    ensures { λ r. ⌜ r ≡ flat 10 (tmkdir m) ⌝ }
+pub fn flat_tmkdir(m: Tmkdir) -> [u64; WIDTH_T]
+    ensures { λ r. ⌜ r ≡ flat widthT (tmkdir m) ⌝ }
 {
     let dfid = m.dfid;
     let name = m.name;
@@ -301,8 +303,8 @@ pub fn flat_tmkdir(m: Tmkdir) -> [u64; 10]
     ]
 }
 
-pub fn tmkdir_of(v: [u64; 10]) -> Tmkdir
-    ensures { λ r. ⌜ tmkdir r ≡ fieldValues (layoutT 72) v ⌝ }
+pub fn tmkdir_of(v: [u64; WIDTH_T]) -> Tmkdir
+    ensures { λ r. ⌜ tmkdir r ≡ fieldValues layoutTmkdir v ⌝ }
 {
     let dfid = Fid((v[0] % U32) as u32);
     let name = Span {
@@ -318,19 +320,19 @@ pub fn tmkdir_of(v: [u64; 10]) -> Tmkdir
     }
 }
 
-pub fn flat_rmkdir(m: Rmkdir) -> [u64; 22]
-    ensures { λ r. ⌜ r ≡ flat 22 (rmkdir m) ⌝ }
+pub fn flat_rmkdir(m: Rmkdir) -> [u64; WIDTH_R]
+    ensures { λ r. ⌜ r ≡ flat widthR (rmkdir m) ⌝ }
 {
     let qid = m.qid;
-    let mut v = [0u64; 22];
+    let mut v = [0u64; WIDTH_R];
     v[0] = qid.ty as u64;
     v[1] = qid.version as u64;
     v[2] = qid.path;
     v
 }
 
-pub fn rmkdir_of(v: [u64; 22]) -> Rmkdir
-    ensures { λ r. ⌜ rmkdir r ≡ fieldValues (layoutR 73) v ⌝ }
+pub fn rmkdir_of(v: [u64; WIDTH_R]) -> Rmkdir
+    ensures { λ r. ⌜ rmkdir r ≡ fieldValues layoutRmkdir v ⌝ }
 {
     let qid = Qid {
         ty: (v[0] % U8) as u8,
@@ -340,8 +342,8 @@ pub fn rmkdir_of(v: [u64; 22]) -> Rmkdir
     Rmkdir { qid }
 }
 
-pub fn flat_trenameat(m: Trenameat) -> [u64; 10]
-    ensures { λ r. ⌜ r ≡ flat 10 (trenameat m) ⌝ }
+pub fn flat_trenameat(m: Trenameat) -> [u64; WIDTH_T]
+    ensures { λ r. ⌜ r ≡ flat widthT (trenameat m) ⌝ }
 {
     let olddirfid = m.olddirfid;
     let oldname = m.oldname;
@@ -361,8 +363,8 @@ pub fn flat_trenameat(m: Trenameat) -> [u64; 10]
     ]
 }
 
-pub fn trenameat_of(v: [u64; 10]) -> Trenameat
-    ensures { λ r. ⌜ trenameat r ≡ fieldValues (layoutT 74) v ⌝ }
+pub fn trenameat_of(v: [u64; WIDTH_T]) -> Trenameat
+    ensures { λ r. ⌜ trenameat r ≡ fieldValues layoutTrenameat v ⌝ }
 {
     let olddirfid = Fid((v[0] % U32) as u32);
     let oldname = Span {
@@ -382,12 +384,12 @@ pub fn trenameat_of(v: [u64; 10]) -> Trenameat
     }
 }
 
-pub fn flat_tunlinkat(m: Tunlinkat) -> [u64; 10]
-    ensures { λ r. ⌜ r ≡ flat 10 (tunlinkat m) ⌝ }
+pub fn flat_tunlinkat(m: Tunlinkat) -> [u64; WIDTH_T]
+    ensures { λ r. ⌜ r ≡ flat widthT (tunlinkat m) ⌝ }
 {
     let dirfd = m.dirfd;
     let name = m.name;
-    let mut v = [0u64; 10];
+    let mut v = [0u64; WIDTH_T];
     v[0] = dirfd.0 as u64;
     v[1] = name.start as u64;
     v[2] = name.len as u64;
@@ -395,8 +397,8 @@ pub fn flat_tunlinkat(m: Tunlinkat) -> [u64; 10]
     v
 }
 
-pub fn tunlinkat_of(v: [u64; 10]) -> Tunlinkat
-    ensures { λ r. ⌜ tunlinkat r ≡ fieldValues (layoutT 76) v ⌝ }
+pub fn tunlinkat_of(v: [u64; WIDTH_T]) -> Tunlinkat
+    ensures { λ r. ⌜ tunlinkat r ≡ fieldValues layoutTunlinkat v ⌝ }
 {
     let dirfd = Fid((v[0] % U32) as u32);
     let name = Span {

@@ -3,6 +3,8 @@
 
 use crate::U8;
 use crate::U32;
+use crate::WIDTH_R;
+use crate::WIDTH_T;
 use common::files::Rread;
 use common::files::Rwrite;
 use common::files::Tread;
@@ -18,23 +20,23 @@ use messages::files::Tlcreate;
 use messages::files::Tlopen;
 use strings::Span;
 ghost use mathlib.Core.Path.{_≡_};
-ghost use Rattle.layouts.specs.Tables.{layoutT, layoutR};
+ghost use Rattle.layouts.specs.Tables.{layoutTlopen, layoutRlopen, layoutTlcreate, layoutRlcreate, layoutTread, layoutRread, layoutTwrite, layoutRwrite, layoutTfsync, layoutTremove};
 ghost use Rattle.common.specs.Records.{tread, rread, twrite, rwrite, tremove};
 ghost use Rattle.messages.specs.Records.{tlopen, rlopen, tlcreate, rlcreate, tfsync};
-ghost use Rattle.flat.specs.Flat.{flat, fieldValues};
+ghost use Rattle.flat.specs.Flat.{flat, fieldValues, widthT, widthR};
 
-pub fn flat_tlopen(m: Tlopen) -> [u64; 10]
-    ensures { λ r. ⌜ r ≡ flat 10 (tlopen m) ⌝ }
+pub fn flat_tlopen(m: Tlopen) -> [u64; WIDTH_T]
+    ensures { λ r. ⌜ r ≡ flat widthT (tlopen m) ⌝ }
 {
     let fid = m.fid;
-    let mut v = [0u64; 10];
+    let mut v = [0u64; WIDTH_T];
     v[0] = fid.0 as u64;
     v[1] = m.flags as u64;
     v
 }
 
-pub fn tlopen_of(v: [u64; 10]) -> Tlopen
-    ensures { λ r. ⌜ tlopen r ≡ fieldValues (layoutT 12) v ⌝ }
+pub fn tlopen_of(v: [u64; WIDTH_T]) -> Tlopen
+    ensures { λ r. ⌜ tlopen r ≡ fieldValues layoutTlopen v ⌝ }
 {
     let fid = Fid((v[0] % U32) as u32);
     Tlopen {
@@ -43,11 +45,11 @@ pub fn tlopen_of(v: [u64; 10]) -> Tlopen
     }
 }
 
-pub fn flat_rlopen(m: Rlopen) -> [u64; 22]
-    ensures { λ r. ⌜ r ≡ flat 22 (rlopen m) ⌝ }
+pub fn flat_rlopen(m: Rlopen) -> [u64; WIDTH_R]
+    ensures { λ r. ⌜ r ≡ flat widthR (rlopen m) ⌝ }
 {
     let qid = m.qid;
-    let mut v = [0u64; 22];
+    let mut v = [0u64; WIDTH_R];
     v[0] = qid.ty as u64;
     v[1] = qid.version as u64;
     v[2] = qid.path;
@@ -55,8 +57,8 @@ pub fn flat_rlopen(m: Rlopen) -> [u64; 22]
     v
 }
 
-pub fn rlopen_of(v: [u64; 22]) -> Rlopen
-    ensures { λ r. ⌜ rlopen r ≡ fieldValues (layoutR 13) v ⌝ }
+pub fn rlopen_of(v: [u64; WIDTH_R]) -> Rlopen
+    ensures { λ r. ⌜ rlopen r ≡ fieldValues layoutRlopen v ⌝ }
 {
     let qid = Qid {
         ty: (v[0] % U8) as u8,
@@ -69,8 +71,8 @@ pub fn rlopen_of(v: [u64; 22]) -> Rlopen
     }
 }
 
-pub fn flat_tlcreate(m: Tlcreate) -> [u64; 10]
-    ensures { λ r. ⌜ r ≡ flat 10 (tlcreate m) ⌝ }
+pub fn flat_tlcreate(m: Tlcreate) -> [u64; WIDTH_T]
+    ensures { λ r. ⌜ r ≡ flat widthT (tlcreate m) ⌝ }
 {
     let fid = m.fid;
     let name = m.name;
@@ -89,8 +91,8 @@ pub fn flat_tlcreate(m: Tlcreate) -> [u64; 10]
     ]
 }
 
-pub fn tlcreate_of(v: [u64; 10]) -> Tlcreate
-    ensures { λ r. ⌜ tlcreate r ≡ fieldValues (layoutT 14) v ⌝ }
+pub fn tlcreate_of(v: [u64; WIDTH_T]) -> Tlcreate
+    ensures { λ r. ⌜ tlcreate r ≡ fieldValues layoutTlcreate v ⌝ }
 {
     let fid = Fid((v[0] % U32) as u32);
     let name = Span {
@@ -107,11 +109,11 @@ pub fn tlcreate_of(v: [u64; 10]) -> Tlcreate
     }
 }
 
-pub fn flat_rlcreate(m: Rlcreate) -> [u64; 22]
-    ensures { λ r. ⌜ r ≡ flat 22 (rlcreate m) ⌝ }
+pub fn flat_rlcreate(m: Rlcreate) -> [u64; WIDTH_R]
+    ensures { λ r. ⌜ r ≡ flat widthR (rlcreate m) ⌝ }
 {
     let qid = m.qid;
-    let mut v = [0u64; 22];
+    let mut v = [0u64; WIDTH_R];
     v[0] = qid.ty as u64;
     v[1] = qid.version as u64;
     v[2] = qid.path;
@@ -119,8 +121,8 @@ pub fn flat_rlcreate(m: Rlcreate) -> [u64; 22]
     v
 }
 
-pub fn rlcreate_of(v: [u64; 22]) -> Rlcreate
-    ensures { λ r. ⌜ rlcreate r ≡ fieldValues (layoutR 15) v ⌝ }
+pub fn rlcreate_of(v: [u64; WIDTH_R]) -> Rlcreate
+    ensures { λ r. ⌜ rlcreate r ≡ fieldValues layoutRlcreate v ⌝ }
 {
     let qid = Qid {
         ty: (v[0] % U8) as u8,
@@ -133,19 +135,19 @@ pub fn rlcreate_of(v: [u64; 22]) -> Rlcreate
     }
 }
 
-pub fn flat_tread(m: Tread) -> [u64; 10]
-    ensures { λ r. ⌜ r ≡ flat 10 (tread m) ⌝ }
+pub fn flat_tread(m: Tread) -> [u64; WIDTH_T]
+    ensures { λ r. ⌜ r ≡ flat widthT (tread m) ⌝ }
 {
     let fid = m.fid;
-    let mut v = [0u64; 10];
+    let mut v = [0u64; WIDTH_T];
     v[0] = fid.0 as u64;
     v[1] = m.offset;
     v[2] = m.count as u64;
     v
 }
 
-pub fn tread_of(v: [u64; 10]) -> Tread
-    ensures { λ r. ⌜ tread r ≡ fieldValues (layoutT 116) v ⌝ }
+pub fn tread_of(v: [u64; WIDTH_T]) -> Tread
+    ensures { λ r. ⌜ tread r ≡ fieldValues layoutTread v ⌝ }
 {
     let fid = Fid((v[0] % U32) as u32);
     Tread {
@@ -155,18 +157,18 @@ pub fn tread_of(v: [u64; 10]) -> Tread
     }
 }
 
-pub fn flat_rread(m: Rread) -> [u64; 22]
-    ensures { λ r. ⌜ r ≡ flat 22 (rread m) ⌝ }
+pub fn flat_rread(m: Rread) -> [u64; WIDTH_R]
+    ensures { λ r. ⌜ r ≡ flat widthR (rread m) ⌝ }
 {
     let data = m.data;
-    let mut v = [0u64; 22];
+    let mut v = [0u64; WIDTH_R];
     v[0] = data.start as u64;
     v[1] = data.len as u64;
     v
 }
 
-pub fn rread_of(v: [u64; 22]) -> Rread
-    ensures { λ r. ⌜ rread r ≡ fieldValues (layoutR 117) v ⌝ }
+pub fn rread_of(v: [u64; WIDTH_R]) -> Rread
+    ensures { λ r. ⌜ rread r ≡ fieldValues layoutRread v ⌝ }
 {
     let data = Span {
         start: v[0] as usize,
@@ -175,12 +177,12 @@ pub fn rread_of(v: [u64; 22]) -> Rread
     Rread { data }
 }
 
-pub fn flat_twrite(m: Twrite) -> [u64; 10]
-    ensures { λ r. ⌜ r ≡ flat 10 (twrite m) ⌝ }
+pub fn flat_twrite(m: Twrite) -> [u64; WIDTH_T]
+    ensures { λ r. ⌜ r ≡ flat widthT (twrite m) ⌝ }
 {
     let fid = m.fid;
     let data = m.data;
-    let mut v = [0u64; 10];
+    let mut v = [0u64; WIDTH_T];
     v[0] = fid.0 as u64;
     v[1] = m.offset;
     v[2] = data.start as u64;
@@ -188,8 +190,8 @@ pub fn flat_twrite(m: Twrite) -> [u64; 10]
     v
 }
 
-pub fn twrite_of(v: [u64; 10]) -> Twrite
-    ensures { λ r. ⌜ twrite r ≡ fieldValues (layoutT 118) v ⌝ }
+pub fn twrite_of(v: [u64; WIDTH_T]) -> Twrite
+    ensures { λ r. ⌜ twrite r ≡ fieldValues layoutTwrite v ⌝ }
 {
     let fid = Fid((v[0] % U32) as u32);
     let data = Span {
@@ -203,34 +205,34 @@ pub fn twrite_of(v: [u64; 10]) -> Twrite
     }
 }
 
-pub fn flat_rwrite(m: Rwrite) -> [u64; 22]
-    ensures { λ r. ⌜ r ≡ flat 22 (rwrite m) ⌝ }
+pub fn flat_rwrite(m: Rwrite) -> [u64; WIDTH_R]
+    ensures { λ r. ⌜ r ≡ flat widthR (rwrite m) ⌝ }
 {
-    let mut v = [0u64; 22];
+    let mut v = [0u64; WIDTH_R];
     v[0] = m.count as u64;
     v
 }
 
-pub fn rwrite_of(v: [u64; 22]) -> Rwrite
-    ensures { λ r. ⌜ rwrite r ≡ fieldValues (layoutR 119) v ⌝ }
+pub fn rwrite_of(v: [u64; WIDTH_R]) -> Rwrite
+    ensures { λ r. ⌜ rwrite r ≡ fieldValues layoutRwrite v ⌝ }
 {
     Rwrite {
         count: (v[0] % U32) as u32,
     }
 }
 
-pub fn flat_tfsync(m: Tfsync) -> [u64; 10]
-    ensures { λ r. ⌜ r ≡ flat 10 (tfsync m) ⌝ }
+pub fn flat_tfsync(m: Tfsync) -> [u64; WIDTH_T]
+    ensures { λ r. ⌜ r ≡ flat widthT (tfsync m) ⌝ }
 {
     let fid = m.fid;
-    let mut v = [0u64; 10];
+    let mut v = [0u64; WIDTH_T];
     v[0] = fid.0 as u64;
     v[1] = m.datasync as u64;
     v
 }
 
-pub fn tfsync_of(v: [u64; 10]) -> Tfsync
-    ensures { λ r. ⌜ tfsync r ≡ fieldValues (layoutT 50) v ⌝ }
+pub fn tfsync_of(v: [u64; WIDTH_T]) -> Tfsync
+    ensures { λ r. ⌜ tfsync r ≡ fieldValues layoutTfsync v ⌝ }
 {
     let fid = Fid((v[0] % U32) as u32);
     Tfsync {
@@ -239,17 +241,17 @@ pub fn tfsync_of(v: [u64; 10]) -> Tfsync
     }
 }
 
-pub fn flat_tremove(m: Tremove) -> [u64; 10]
-    ensures { λ r. ⌜ r ≡ flat 10 (tremove m) ⌝ }
+pub fn flat_tremove(m: Tremove) -> [u64; WIDTH_T]
+    ensures { λ r. ⌜ r ≡ flat widthT (tremove m) ⌝ }
 {
     let fid = m.fid;
-    let mut v = [0u64; 10];
+    let mut v = [0u64; WIDTH_T];
     v[0] = fid.0 as u64;
     v
 }
 
-pub fn tremove_of(v: [u64; 10]) -> Tremove
-    ensures { λ r. ⌜ tremove r ≡ fieldValues (layoutT 122) v ⌝ }
+pub fn tremove_of(v: [u64; WIDTH_T]) -> Tremove
+    ensures { λ r. ⌜ tremove r ≡ fieldValues layoutTremove v ⌝ }
 {
     let fid = Fid((v[0] % U32) as u32);
     Tremove { fid }

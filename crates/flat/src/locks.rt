@@ -3,6 +3,8 @@
 
 use crate::U8;
 use crate::U32;
+use crate::WIDTH_R;
+use crate::WIDTH_T;
 use layouts::ids::Fid;
 use metadata::locks::Rgetlock;
 use metadata::locks::Rlock;
@@ -10,12 +12,12 @@ use metadata::locks::Tgetlock;
 use metadata::locks::Tlock;
 use strings::Span;
 ghost use mathlib.Core.Path.{_≡_};
-ghost use Rattle.layouts.specs.Tables.{layoutT, layoutR};
+ghost use Rattle.layouts.specs.Tables.{layoutTlock, layoutRlock, layoutTgetlock, layoutRgetlock};
 ghost use Rattle.metadata.specs.Records.{tlock, rlock, tgetlock, rgetlock};
-ghost use Rattle.flat.specs.Flat.{flat, fieldValues};
+ghost use Rattle.flat.specs.Flat.{flat, fieldValues, widthT, widthR};
 
-pub fn flat_tlock(m: Tlock) -> [u64; 10]
-    ensures { λ r. ⌜ r ≡ flat 10 (tlock m) ⌝ }
+pub fn flat_tlock(m: Tlock) -> [u64; WIDTH_T]
+    ensures { λ r. ⌜ r ≡ flat widthT (tlock m) ⌝ }
 {
     let fid = m.fid;
     let client_id = m.client_id;
@@ -33,8 +35,8 @@ pub fn flat_tlock(m: Tlock) -> [u64; 10]
     ]
 }
 
-pub fn tlock_of(v: [u64; 10]) -> Tlock
-    ensures { λ r. ⌜ tlock r ≡ fieldValues (layoutT 52) v ⌝ }
+pub fn tlock_of(v: [u64; WIDTH_T]) -> Tlock
+    ensures { λ r. ⌜ tlock r ≡ fieldValues layoutTlock v ⌝ }
 {
     let fid = Fid((v[0] % U32) as u32);
     let client_id = Span {
@@ -52,24 +54,24 @@ pub fn tlock_of(v: [u64; 10]) -> Tlock
     }
 }
 
-pub fn flat_rlock(m: Rlock) -> [u64; 22]
-    ensures { λ r. ⌜ r ≡ flat 22 (rlock m) ⌝ }
+pub fn flat_rlock(m: Rlock) -> [u64; WIDTH_R]
+    ensures { λ r. ⌜ r ≡ flat widthR (rlock m) ⌝ }
 {
-    let mut v = [0u64; 22];
+    let mut v = [0u64; WIDTH_R];
     v[0] = m.status as u64;
     v
 }
 
-pub fn rlock_of(v: [u64; 22]) -> Rlock
-    ensures { λ r. ⌜ rlock r ≡ fieldValues (layoutR 53) v ⌝ }
+pub fn rlock_of(v: [u64; WIDTH_R]) -> Rlock
+    ensures { λ r. ⌜ rlock r ≡ fieldValues layoutRlock v ⌝ }
 {
     Rlock {
         status: (v[0] % U8) as u8,
     }
 }
 
-pub fn flat_tgetlock(m: Tgetlock) -> [u64; 10]
-    ensures { λ r. ⌜ r ≡ flat 10 (tgetlock m) ⌝ }
+pub fn flat_tgetlock(m: Tgetlock) -> [u64; WIDTH_T]
+    ensures { λ r. ⌜ r ≡ flat widthT (tgetlock m) ⌝ }
 {
     let fid = m.fid;
     let client_id = m.client_id;
@@ -87,8 +89,8 @@ pub fn flat_tgetlock(m: Tgetlock) -> [u64; 10]
     ]
 }
 
-pub fn tgetlock_of(v: [u64; 10]) -> Tgetlock
-    ensures { λ r. ⌜ tgetlock r ≡ fieldValues (layoutT 54) v ⌝ }
+pub fn tgetlock_of(v: [u64; WIDTH_T]) -> Tgetlock
+    ensures { λ r. ⌜ tgetlock r ≡ fieldValues layoutTgetlock v ⌝ }
 {
     let fid = Fid((v[0] % U32) as u32);
     let client_id = Span {
@@ -105,11 +107,11 @@ pub fn tgetlock_of(v: [u64; 10]) -> Tgetlock
     }
 }
 
-pub fn flat_rgetlock(m: Rgetlock) -> [u64; 22]
-    ensures { λ r. ⌜ r ≡ flat 22 (rgetlock m) ⌝ }
+pub fn flat_rgetlock(m: Rgetlock) -> [u64; WIDTH_R]
+    ensures { λ r. ⌜ r ≡ flat widthR (rgetlock m) ⌝ }
 {
     let client_id = m.client_id;
-    let mut v = [0u64; 22];
+    let mut v = [0u64; WIDTH_R];
     v[0] = m.type_ as u64;
     v[1] = m.start;
     v[2] = m.length;
@@ -119,8 +121,8 @@ pub fn flat_rgetlock(m: Rgetlock) -> [u64; 22]
     v
 }
 
-pub fn rgetlock_of(v: [u64; 22]) -> Rgetlock
-    ensures { λ r. ⌜ rgetlock r ≡ fieldValues (layoutR 55) v ⌝ }
+pub fn rgetlock_of(v: [u64; WIDTH_R]) -> Rgetlock
+    ensures { λ r. ⌜ rgetlock r ≡ fieldValues layoutRgetlock v ⌝ }
 {
     let client_id = Span {
         start: v[4] as usize,

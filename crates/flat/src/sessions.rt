@@ -4,6 +4,8 @@
 use crate::U8;
 use crate::U16;
 use crate::U32;
+use crate::WIDTH_R;
+use crate::WIDTH_T;
 use common::sessions::Rversion;
 use common::sessions::Tclunk;
 use common::sessions::Tflush;
@@ -18,24 +20,24 @@ use messages::sessions::Tattach;
 use messages::sessions::Tauth;
 use strings::Span;
 ghost use mathlib.Core.Path.{_≡_};
-ghost use Rattle.layouts.specs.Tables.{layoutT, layoutR};
+ghost use Rattle.layouts.specs.Tables.{layoutTversion, layoutRversion, layoutTauth, layoutRauth, layoutTattach, layoutRattach, layoutTflush, layoutTclunk, layoutRlerror};
 ghost use Rattle.common.specs.Records.{tversion, rversion, tflush, tclunk};
 ghost use Rattle.messages.specs.Records.{tauth, rauth, tattach, rattach, rlerror};
-ghost use Rattle.flat.specs.Flat.{flat, fieldValues};
+ghost use Rattle.flat.specs.Flat.{flat, fieldValues, widthT, widthR};
 
-pub fn flat_tversion(m: Tversion) -> [u64; 10]
-    ensures { λ r. ⌜ r ≡ flat 10 (tversion m) ⌝ }
+pub fn flat_tversion(m: Tversion) -> [u64; WIDTH_T]
+    ensures { λ r. ⌜ r ≡ flat widthT (tversion m) ⌝ }
 {
     let version = m.version;
-    let mut v = [0u64; 10];
+    let mut v = [0u64; WIDTH_T];
     v[0] = m.msize as u64;
     v[1] = version.start as u64;
     v[2] = version.len as u64;
     v
 }
 
-pub fn tversion_of(v: [u64; 10]) -> Tversion
-    ensures { λ r. ⌜ tversion r ≡ fieldValues (layoutT 100) v ⌝ }
+pub fn tversion_of(v: [u64; WIDTH_T]) -> Tversion
+    ensures { λ r. ⌜ tversion r ≡ fieldValues layoutTversion v ⌝ }
 {
     let version = Span {
         start: v[1] as usize,
@@ -47,19 +49,19 @@ pub fn tversion_of(v: [u64; 10]) -> Tversion
     }
 }
 
-pub fn flat_rversion(m: Rversion) -> [u64; 22]
-    ensures { λ r. ⌜ r ≡ flat 22 (rversion m) ⌝ }
+pub fn flat_rversion(m: Rversion) -> [u64; WIDTH_R]
+    ensures { λ r. ⌜ r ≡ flat widthR (rversion m) ⌝ }
 {
     let version = m.version;
-    let mut v = [0u64; 22];
+    let mut v = [0u64; WIDTH_R];
     v[0] = m.msize as u64;
     v[1] = version.start as u64;
     v[2] = version.len as u64;
     v
 }
 
-pub fn rversion_of(v: [u64; 22]) -> Rversion
-    ensures { λ r. ⌜ rversion r ≡ fieldValues (layoutR 101) v ⌝ }
+pub fn rversion_of(v: [u64; WIDTH_R]) -> Rversion
+    ensures { λ r. ⌜ rversion r ≡ fieldValues layoutRversion v ⌝ }
 {
     let version = Span {
         start: v[1] as usize,
@@ -71,8 +73,8 @@ pub fn rversion_of(v: [u64; 22]) -> Rversion
     }
 }
 
-pub fn flat_tauth(m: Tauth) -> [u64; 10]
-    ensures { λ r. ⌜ r ≡ flat 10 (tauth m) ⌝ }
+pub fn flat_tauth(m: Tauth) -> [u64; WIDTH_T]
+    ensures { λ r. ⌜ r ≡ flat widthT (tauth m) ⌝ }
 {
     let afid = m.afid;
     let uname = m.uname;
@@ -91,8 +93,8 @@ pub fn flat_tauth(m: Tauth) -> [u64; 10]
     ]
 }
 
-pub fn tauth_of(v: [u64; 10]) -> Tauth
-    ensures { λ r. ⌜ tauth r ≡ fieldValues (layoutT 102) v ⌝ }
+pub fn tauth_of(v: [u64; WIDTH_T]) -> Tauth
+    ensures { λ r. ⌜ tauth r ≡ fieldValues layoutTauth v ⌝ }
 {
     let afid = Fid((v[0] % U32) as u32);
     let uname = Span {
@@ -111,19 +113,19 @@ pub fn tauth_of(v: [u64; 10]) -> Tauth
     }
 }
 
-pub fn flat_rauth(m: Rauth) -> [u64; 22]
-    ensures { λ r. ⌜ r ≡ flat 22 (rauth m) ⌝ }
+pub fn flat_rauth(m: Rauth) -> [u64; WIDTH_R]
+    ensures { λ r. ⌜ r ≡ flat widthR (rauth m) ⌝ }
 {
     let aqid = m.aqid;
-    let mut v = [0u64; 22];
+    let mut v = [0u64; WIDTH_R];
     v[0] = aqid.ty as u64;
     v[1] = aqid.version as u64;
     v[2] = aqid.path;
     v
 }
 
-pub fn rauth_of(v: [u64; 22]) -> Rauth
-    ensures { λ r. ⌜ rauth r ≡ fieldValues (layoutR 103) v ⌝ }
+pub fn rauth_of(v: [u64; WIDTH_R]) -> Rauth
+    ensures { λ r. ⌜ rauth r ≡ fieldValues layoutRauth v ⌝ }
 {
     let aqid = Qid {
         ty: (v[0] % U8) as u8,
@@ -133,8 +135,8 @@ pub fn rauth_of(v: [u64; 22]) -> Rauth
     Rauth { aqid }
 }
 
-pub fn flat_tattach(m: Tattach) -> [u64; 10]
-    ensures { λ r. ⌜ r ≡ flat 10 (tattach m) ⌝ }
+pub fn flat_tattach(m: Tattach) -> [u64; WIDTH_T]
+    ensures { λ r. ⌜ r ≡ flat widthT (tattach m) ⌝ }
 {
     let fid = m.fid;
     let afid = m.afid;
@@ -154,8 +156,8 @@ pub fn flat_tattach(m: Tattach) -> [u64; 10]
     ]
 }
 
-pub fn tattach_of(v: [u64; 10]) -> Tattach
-    ensures { λ r. ⌜ tattach r ≡ fieldValues (layoutT 104) v ⌝ }
+pub fn tattach_of(v: [u64; WIDTH_T]) -> Tattach
+    ensures { λ r. ⌜ tattach r ≡ fieldValues layoutTattach v ⌝ }
 {
     let fid = Fid((v[0] % U32) as u32);
     let afid = Fid((v[1] % U32) as u32);
@@ -176,19 +178,19 @@ pub fn tattach_of(v: [u64; 10]) -> Tattach
     }
 }
 
-pub fn flat_rattach(m: Rattach) -> [u64; 22]
-    ensures { λ r. ⌜ r ≡ flat 22 (rattach m) ⌝ }
+pub fn flat_rattach(m: Rattach) -> [u64; WIDTH_R]
+    ensures { λ r. ⌜ r ≡ flat widthR (rattach m) ⌝ }
 {
     let qid = m.qid;
-    let mut v = [0u64; 22];
+    let mut v = [0u64; WIDTH_R];
     v[0] = qid.ty as u64;
     v[1] = qid.version as u64;
     v[2] = qid.path;
     v
 }
 
-pub fn rattach_of(v: [u64; 22]) -> Rattach
-    ensures { λ r. ⌜ rattach r ≡ fieldValues (layoutR 105) v ⌝ }
+pub fn rattach_of(v: [u64; WIDTH_R]) -> Rattach
+    ensures { λ r. ⌜ rattach r ≡ fieldValues layoutRattach v ⌝ }
 {
     let qid = Qid {
         ty: (v[0] % U8) as u8,
@@ -198,48 +200,48 @@ pub fn rattach_of(v: [u64; 22]) -> Rattach
     Rattach { qid }
 }
 
-pub fn flat_tflush(m: Tflush) -> [u64; 10]
-    ensures { λ r. ⌜ r ≡ flat 10 (tflush m) ⌝ }
+pub fn flat_tflush(m: Tflush) -> [u64; WIDTH_T]
+    ensures { λ r. ⌜ r ≡ flat widthT (tflush m) ⌝ }
 {
     let oldtag = m.oldtag;
-    let mut v = [0u64; 10];
+    let mut v = [0u64; WIDTH_T];
     v[0] = oldtag.0 as u64;
     v
 }
 
-pub fn tflush_of(v: [u64; 10]) -> Tflush
-    ensures { λ r. ⌜ tflush r ≡ fieldValues (layoutT 108) v ⌝ }
+pub fn tflush_of(v: [u64; WIDTH_T]) -> Tflush
+    ensures { λ r. ⌜ tflush r ≡ fieldValues layoutTflush v ⌝ }
 {
     let oldtag = Tag((v[0] % U16) as u16);
     Tflush { oldtag }
 }
 
-pub fn flat_tclunk(m: Tclunk) -> [u64; 10]
-    ensures { λ r. ⌜ r ≡ flat 10 (tclunk m) ⌝ }
+pub fn flat_tclunk(m: Tclunk) -> [u64; WIDTH_T]
+    ensures { λ r. ⌜ r ≡ flat widthT (tclunk m) ⌝ }
 {
     let fid = m.fid;
-    let mut v = [0u64; 10];
+    let mut v = [0u64; WIDTH_T];
     v[0] = fid.0 as u64;
     v
 }
 
-pub fn tclunk_of(v: [u64; 10]) -> Tclunk
-    ensures { λ r. ⌜ tclunk r ≡ fieldValues (layoutT 120) v ⌝ }
+pub fn tclunk_of(v: [u64; WIDTH_T]) -> Tclunk
+    ensures { λ r. ⌜ tclunk r ≡ fieldValues layoutTclunk v ⌝ }
 {
     let fid = Fid((v[0] % U32) as u32);
     Tclunk { fid }
 }
 
-pub fn flat_rlerror(m: Rlerror) -> [u64; 22]
-    ensures { λ r. ⌜ r ≡ flat 22 (rlerror m) ⌝ }
+pub fn flat_rlerror(m: Rlerror) -> [u64; WIDTH_R]
+    ensures { λ r. ⌜ r ≡ flat widthR (rlerror m) ⌝ }
 {
-    let mut v = [0u64; 22];
+    let mut v = [0u64; WIDTH_R];
     v[0] = m.ecode as u64;
     v
 }
 
-pub fn rlerror_of(v: [u64; 22]) -> Rlerror
-    ensures { λ r. ⌜ rlerror r ≡ fieldValues (layoutR 7) v ⌝ }
+pub fn rlerror_of(v: [u64; WIDTH_R]) -> Rlerror
+    ensures { λ r. ⌜ rlerror r ≡ fieldValues layoutRlerror v ⌝ }
 {
     Rlerror {
         ecode: (v[0] % U32) as u32,

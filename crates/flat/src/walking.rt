@@ -3,18 +3,20 @@
 
 use crate::U16;
 use crate::U32;
+use crate::WIDTH_R;
+use crate::WIDTH_T;
 use common::walking::Rwalk;
 use common::walking::Twalk;
 use fields::Part;
 use layouts::ids::Fid;
 use strings::Span;
 ghost use mathlib.Core.Path.{_≡_};
-ghost use Rattle.layouts.specs.Tables.{layoutT, layoutR};
+ghost use Rattle.layouts.specs.Tables.{layoutTwalk, layoutRwalk};
 ghost use Rattle.common.specs.Records.{twalk, rwalk};
-ghost use Rattle.flat.specs.Flat.{flat, fieldValues};
+ghost use Rattle.flat.specs.Flat.{flat, fieldValues, widthT, widthR};
 
-pub fn flat_twalk(m: Twalk) -> [u64; 10]
-    ensures { λ r. ⌜ r ≡ flat 10 (twalk m) ⌝ }
+pub fn flat_twalk(m: Twalk) -> [u64; WIDTH_T]
+    ensures { λ r. ⌜ r ≡ flat widthT (twalk m) ⌝ }
 {
     let fid = m.fid;
     let newfid = m.newfid;
@@ -34,8 +36,8 @@ pub fn flat_twalk(m: Twalk) -> [u64; 10]
     ]
 }
 
-pub fn twalk_of(v: [u64; 10]) -> Twalk
-    ensures { λ r. ⌜ twalk r ≡ fieldValues (layoutT 110) v ⌝ }
+pub fn twalk_of(v: [u64; WIDTH_T]) -> Twalk
+    ensures { λ r. ⌜ twalk r ≡ fieldValues layoutTwalk v ⌝ }
 {
     let fid = Fid((v[0] % U32) as u32);
     let newfid = Fid((v[1] % U32) as u32);
@@ -54,20 +56,20 @@ pub fn twalk_of(v: [u64; 10]) -> Twalk
     }
 }
 
-pub fn flat_rwalk(m: Rwalk) -> [u64; 22]
-    ensures { λ r. ⌜ r ≡ flat 22 (rwalk m) ⌝ }
+pub fn flat_rwalk(m: Rwalk) -> [u64; WIDTH_R]
+    ensures { λ r. ⌜ r ≡ flat widthR (rwalk m) ⌝ }
 {
     let wqids = m.wqids;
     let elements = wqids.elements;
-    let mut v = [0u64; 22];
+    let mut v = [0u64; WIDTH_R];
     v[0] = wqids.count as u64;
     v[1] = elements.start as u64;
     v[2] = elements.len as u64;
     v
 }
 
-pub fn rwalk_of(v: [u64; 22]) -> Rwalk
-    ensures { λ r. ⌜ rwalk r ≡ fieldValues (layoutR 111) v ⌝ }
+pub fn rwalk_of(v: [u64; WIDTH_R]) -> Rwalk
+    ensures { λ r. ⌜ rwalk r ≡ fieldValues layoutRwalk v ⌝ }
 {
     let elements = Span {
         start: v[1] as usize,

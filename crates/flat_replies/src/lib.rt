@@ -1,6 +1,7 @@
 // Written by tools/messages from its table of messages.
 // The 29 replies, read flat and written from flat values, by their type number.
 
+use flat::WIDTH_R;
 use flat::attributes;
 use flat::directories;
 use flat::files;
@@ -11,26 +12,24 @@ use numbers::Place;
 use numbers::Refusal;
 ghost use mathlib.Core.Path.{_≡_};
 ghost use mathlib.Core.List.{[]};
-ghost use Rattle.numbers.specs.declared.Place.the-variants.{At};
 ghost use Rattle.layouts.specs.Tables.{lookup, tableR};
-ghost use Rattle.flat.specs.Flat.{flat, FlatRead, FlatWritten};
+ghost use Rattle.flat.specs.Flat.{flat, FlatRead, FlatWritten, widthR};
 
 // The values of a body that has none.
-fn no_values(next: Place, values: &mut [u64; 22]) -> Place
+fn no_values(next: Place, values: &mut [u64; WIDTH_R]) -> Place
     ensures { λ r. ⌜ r ≡ next ⌝ }
-    ensures { λ r. ⌜ now (values .exit) ≡ flat 22 [] ⌝ }
+    ensures { λ r. ⌜ now (values .exit) ≡ flat widthR [] ⌝ }
 {
-    *values = [0u64; 22];
+    *values = [0u64; WIDTH_R];
     next
 }
 
-// A frame's body read flat: its values, 0 from a refused field on, go to where the caller has room for them; the place after its
+// A body read flat at a place: its values, 0 from a refused field on, go to where the caller has room for them; the place after its
 // fields is answered, or the refusal. The type decides the body, as in `replies::read_rmessage`; but its record goes flat at once, and
 // through no enum that would have to be told apart again.
-pub fn read_flat(s: &[u8], ty: u8, values: &mut [u64; 22]) -> Place
-    ensures { λ r. ⌜ FlatRead 22 (lookup tableR ty) (now (s .entry)) (At 7) (now (values .exit)) r ⌝ }
+pub fn read_flat(s: &[u8], ty: u8, p: Place, values: &mut [u64; WIDTH_R]) -> Place
+    ensures { λ r. ⌜ FlatRead widthR (lookup tableR ty) (now (s .entry)) p (now (values .exit)) r ⌝ }
 {
-    let p = Place::At(7);
     match ty {
         7 => {
             let r = messages::sessions::read_rlerror(s, p);
@@ -181,7 +180,7 @@ pub fn read_flat(s: &[u8], ty: u8, values: &mut [u64; 22]) -> Place
 
 // A body written at a place from the values of its record, which lie flat: its fields' refusals in order, then 10, then 11; 3 where the
 // type is not known. A refusal leaves the output as it was.
-pub fn write_flat(out: &mut [u8], p: Place, lent: &[u8], ty: u8, values: &[u64; 22]) -> Place
+pub fn write_flat(out: &mut [u8], p: Place, lent: &[u8], ty: u8, values: &[u64; WIDTH_R]) -> Place
     ensures { λ r. ⌜ FlatWritten (lookup tableR ty) (now (lent .entry)) (now (values .entry)) (now (out .entry)) p (now (out .exit)) r ⌝ }
 {
     let v = *values;

@@ -1,6 +1,7 @@
 // Written by tools/messages from its table of messages.
 // The 28 requests, read flat and written from flat values, by their type number.
 
+use flat::WIDTH_T;
 use flat::attributes;
 use flat::directories;
 use flat::files;
@@ -10,17 +11,15 @@ use flat::walking;
 use numbers::Place;
 use numbers::Refusal;
 ghost use mathlib.Core.Path.{_≡_};
-ghost use Rattle.numbers.specs.declared.Place.the-variants.{At};
 ghost use Rattle.layouts.specs.Tables.{lookup, tableT};
-ghost use Rattle.flat.specs.Flat.{FlatRead, FlatWritten};
+ghost use Rattle.flat.specs.Flat.{FlatRead, FlatWritten, widthT};
 
-// A frame's body read flat: its values, 0 from a refused field on, go to where the caller has room for them; the place after its
+// A body read flat at a place: its values, 0 from a refused field on, go to where the caller has room for them; the place after its
 // fields is answered, or the refusal. The type decides the body, as in `requests::read_tmessage`; but its record goes flat at once, and
 // through no enum that would have to be told apart again.
-pub fn read_flat(s: &[u8], ty: u8, values: &mut [u64; 10]) -> Place
-    ensures { λ r. ⌜ FlatRead 10 (lookup tableT ty) (now (s .entry)) (At 7) (now (values .exit)) r ⌝ }
+pub fn read_flat(s: &[u8], ty: u8, p: Place, values: &mut [u64; WIDTH_T]) -> Place
+    ensures { λ r. ⌜ FlatRead widthT (lookup tableT ty) (now (s .entry)) p (now (values .exit)) r ⌝ }
 {
-    let p = Place::At(7);
     match ty {
         8 => {
             let r = metadata::attributes::read_tstatfs(s, p);
@@ -219,7 +218,7 @@ pub fn read_flat(s: &[u8], ty: u8, values: &mut [u64; 10]) -> Place
             next
         }
         _ => {
-            *values = [0u64; 10];
+            *values = [0u64; WIDTH_T];
             Place::Refused(Refusal::UnknownType)
         }
     }
@@ -227,7 +226,7 @@ pub fn read_flat(s: &[u8], ty: u8, values: &mut [u64; 10]) -> Place
 
 // A body written at a place from the values of its record, which lie flat: its fields' refusals in order, then 10, then 11; 3 where the
 // type is not known. A refusal leaves the output as it was.
-pub fn write_flat(out: &mut [u8], p: Place, lent: &[u8], ty: u8, values: &[u64; 10]) -> Place
+pub fn write_flat(out: &mut [u8], p: Place, lent: &[u8], ty: u8, values: &[u64; WIDTH_T]) -> Place
     ensures { λ r. ⌜ FlatWritten (lookup tableT ty) (now (lent .entry)) (now (values .entry)) (now (out .entry)) p (now (out .exit)) r ⌝ }
 {
     let v = *values;

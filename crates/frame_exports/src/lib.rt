@@ -101,7 +101,7 @@ pub extern "C" fn sheafsledge_read_tframe(bytes: &[u8], values: &mut [u64; 10]) 
     let head = framing::read_header(bytes);
     match head {
         Head::Held(n, ty, tag) => {
-            let next = flat_requests::read_flat(&bytes[..n], ty, values);
+            let next = flat_requests::read_flat(&bytes[..n], ty, Place::At(framing::BODY), values);
             flat_tbody(ty, tag, next, values)
         }
         Head::Refused(k) => refused_t(k, 0, false, values),
@@ -116,7 +116,7 @@ pub extern "C" fn sheafsledge_read_rframe(bytes: &[u8], values: &mut [u64; 22]) 
     let head = framing::read_header(bytes);
     match head {
         Head::Held(n, ty, tag) => {
-            let next = flat_replies::read_flat(&bytes[..n], ty, values);
+            let next = flat_replies::read_flat(&bytes[..n], ty, Place::At(framing::BODY), values);
             flat_rbody(ty, tag, next, values)
         }
         Head::Refused(k) => refused_r(k, values),

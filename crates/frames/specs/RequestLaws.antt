@@ -6,8 +6,7 @@ use Rattle.numbers.specs.declared.Refusal.{Refusal}
 use Rattle.numbers.specs.declared.Refusal.the-variants as R
 use Rattle.numbers.specs.declared.Place.{Place}
 use Rattle.numbers.specs.declared.Place.the-variants.{Refused}
-use Rattle.layouts.specs.Tables.{layoutT}
-use Rattle.requests.specs.Views.{typeT, valuesT}
+use Rattle.requests.specs.Views.{typeT, layoutT, valuesT}
 use Rattle.requests.specs.declared.Tmessage.{Tmessage}
 use Rattle.requests.specs.declared.Tbody.{Tbody}
 use Rattle.requests.specs.declared.Tbody.the-variants as M
@@ -15,7 +14,7 @@ use Rattle.framing.specs.Writing.{FrameWritten}
 use Rattle.frames.specs.Views.{TbodyWritten}
 
 pub request-written : (lent : List ℕ) (tag : ℕ) (b : Tbody) {n : ℕ} {m : Tmessage} {o o' : List ℕ} {q : Place} → b ≡ M.Message m n
-    → FrameWritten (layoutT (typeT m)) (typeT m) tag lent (valuesT m) o o' q → TbodyWritten lent tag b o o' q
+    → FrameWritten (layoutT m) (typeT m) tag lent (valuesT m) o o' q → TbodyWritten lent tag b o o' q
 unfolding TbodyWritten
 request-written lent tag b e w = rw e w
 

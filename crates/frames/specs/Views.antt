@@ -7,8 +7,7 @@ use Rattle.layouts.specs.Bodies.{accepted}
 use Rattle.numbers.specs.declared.Refusal.the-variants as C
 use Rattle.numbers.specs.declared.Place.{Place}
 use Rattle.numbers.specs.declared.Place.the-variants as P
-use Rattle.layouts.specs.Tables.{layoutT}
-use Rattle.requests.specs.Views.{typeT, valuesT, viewT}
+use Rattle.requests.specs.Views.{typeT, layoutT, valuesT, viewT}
 use Rattle.requests.specs.declared.Tbody.{Tbody}
 use Rattle.requests.specs.declared.Tbody.the-variants as M
 use Rattle.replies.specs.Views.{typeR, valuesR}
@@ -36,7 +35,7 @@ viewRframe (R.Refused k) = headless k
 
 -- a request's body written: 16 where it holds a refusal, and the output is as it was
 unfoldable pub TbodyWritten : List ℕ → ℕ → Tbody → List ℕ → List ℕ → Place → Type 0
-TbodyWritten lent tag (M.Message m n) o o' q = FrameWritten (layoutT (typeT m)) (typeT m) tag lent (valuesT m) o o' q
+TbodyWritten lent tag (M.Message m n) o o' q = FrameWritten (layoutT m) (typeT m) tag lent (valuesT m) o o' q
 TbodyWritten lent tag (M.Refused k) o o' q = (o' ≡ o) × (q ≡ P.Refused C.HoldsRefusal)
 
 pub record TframeWritten (lent : List ℕ) (f : Tframe) (o o' : List ℕ) (q : Place) : Type 0 where

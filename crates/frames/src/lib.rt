@@ -8,8 +8,8 @@ use replies::Rbody;
 use replies::Rmessage;
 use requests::Tbody;
 ghost use mathlib.Core.Path.{_≡_};
-ghost use Rattle.layouts.specs.Tables.{tableT, tableR, layoutR};
-ghost use Rattle.replies.specs.Views.{typeR, valuesR};
+ghost use Rattle.layouts.specs.Tables.{tableT, tableR};
+ghost use Rattle.replies.specs.Views.{typeR, layoutR, valuesR};
 ghost use Rattle.framing.specs.Writing.{FrameWritten};
 ghost use Rattle.framing.specs.Frames.{readFrame, refusedWhole};
 ghost use Rattle.frames.specs.Views.{Why, viewTframe, viewRframe, TframeWritten};
@@ -54,7 +54,7 @@ pub fn read_tframe(s: &[u8]) -> ReadTframe
     let Head::Held(n, ty, tag) = head else {
         return ReadTframe::Refused(why(head));
     };
-    let msg = requests::read_tmessage(&s[..n], ty, Place::At(7));
+    let msg = requests::read_tmessage(&s[..n], ty, Place::At(framing::BODY));
     let tag = Tag(tag);
     let frame = Tframe { tag, msg };
     ReadTframe::Frame(frame)
@@ -68,7 +68,7 @@ pub fn read_rframe(s: &[u8]) -> ReadRframe
     let Head::Held(n, ty, tag) = head else {
         return ReadRframe::Refused(why(head));
     };
-    let body = replies::read_rmessage(&s[..n], ty, Place::At(7));
+    let body = replies::read_rmessage(&s[..n], ty, Place::At(framing::BODY));
     match body {
         Rbody::Message(msg, used) => {
             let tag = Tag(tag);
@@ -87,7 +87,7 @@ pub fn write_tframe(out: &mut [u8], lent: &[u8], f: Tframe) -> Place
     let msg = f.msg;
     match msg {
         Tbody::Message(m, _) => {
-            let end = requests::write_tmessage(out, Place::At(7), lent, m);
+            let end = requests::write_tmessage(out, Place::At(framing::BODY), lent, m);
             let ty = requests::type_of(m);
             framing::put_header(out, end, ty, tag.0)
         }
@@ -97,11 +97,11 @@ pub fn write_tframe(out: &mut [u8], lent: &[u8], f: Tframe) -> Place
 
 // A reply written at the front of the output: its fields in order; then 10; then 11. The answer is its length.
 pub fn write_rframe(out: &mut [u8], lent: &[u8], f: Rframe) -> Place
-    ensures { λ r. ⌜ FrameWritten (layoutR (typeR (f .msg))) (typeR (f .msg)) (f .tag .0) (now (lent .entry)) (valuesR (f .msg)) (now (out .entry)) (now (out .exit)) r ⌝ }
+    ensures { λ r. ⌜ FrameWritten (layoutR (f .msg)) (typeR (f .msg)) (f .tag .0) (now (lent .entry)) (valuesR (f .msg)) (now (out .entry)) (now (out .exit)) r ⌝ }
 {
     let tag = f.tag;
     let msg = f.msg;
-    let end = replies::write_rmessage(out, Place::At(7), lent, msg);
+    let end = replies::write_rmessage(out, Place::At(framing::BODY), lent, msg);
     let ty = replies::type_of(msg);
     framing::put_header(out, end, ty, tag.0)
 }

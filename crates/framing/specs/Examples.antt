@@ -12,7 +12,7 @@ use Rattle.strings.specs.Strings.{readString, stringBytes}
 use Rattle.strings.specs.Spans.{showSpan, showString}
 use Rattle.fields.specs.Layouts.{readMany, readField, readFields, manyBytes, itemBytes, itemsBytes}
 use Rattle.fields.specs.Values.{val, span, part, places, show, shows}
-use Rattle.layouts.specs.Tables.{tableT, tableR, layoutT}
+use Rattle.layouts.specs.Tables.{tableT, tableR, layoutTversion}
 use Rattle.layouts.specs.Bodies.{accepted, refused}
 use Rattle.framing.specs.Frames.{readTypeTag, readHeader, headless, framed, readFrame}
 use Rattle.framing.specs.Writing.{frameBytes, frameOut, framePast}
@@ -39,8 +39,8 @@ a-to-n = (refl, refl, refl, refl, refl, refl, refl, refl, refl, refl, refl, refl
 
 -- what must hold of the writer, or one that does nothing would do: the bytes of A are what writing A's record gives
 pub a-written :
-    (frameOut 100 65535 (shows (layoutT 100) (57 ∷ 80 ∷ 50 ∷ 48 ∷ 48 ∷ 48 ∷ 46 ∷ 76 ∷ []) (val 8192 ∷ span 0 8 ∷ [])) (0 ∷ 0 ∷ 0 ∷ 0 ∷ 0 ∷ 0 ∷ 0 ∷ 0 ∷ 0 ∷ 0 ∷ 0 ∷ 0 ∷ 0 ∷ 0 ∷ 0 ∷ 0 ∷ 0 ∷ 0 ∷ 0 ∷ 0 ∷ 0 ∷ 9 ∷ [])
+    (frameOut 100 65535 (shows layoutTversion (57 ∷ 80 ∷ 50 ∷ 48 ∷ 48 ∷ 48 ∷ 46 ∷ 76 ∷ []) (val 8192 ∷ span 0 8 ∷ [])) (0 ∷ 0 ∷ 0 ∷ 0 ∷ 0 ∷ 0 ∷ 0 ∷ 0 ∷ 0 ∷ 0 ∷ 0 ∷ 0 ∷ 0 ∷ 0 ∷ 0 ∷ 0 ∷ 0 ∷ 0 ∷ 0 ∷ 0 ∷ 0 ∷ 9 ∷ [])
     ≡ 21 ∷ 0 ∷ 0 ∷ 0 ∷ 100 ∷ 255 ∷ 255 ∷ 0 ∷ 32 ∷ 0 ∷ 0 ∷ 8 ∷ 0 ∷ 57 ∷ 80 ∷ 50 ∷ 48 ∷ 48 ∷ 48 ∷ 46 ∷ 76 ∷ 9 ∷ [])
-    × (framePast 100 65535 (shows (layoutT 100) (57 ∷ 80 ∷ 50 ∷ 48 ∷ 48 ∷ 48 ∷ 46 ∷ 76 ∷ []) (val 8192 ∷ span 0 8 ∷ [])) (0 ∷ 0 ∷ 0 ∷ 0 ∷ 0 ∷ 0 ∷ 0 ∷ 0 ∷ 0 ∷ 0 ∷ 0 ∷ 0 ∷ 0 ∷ 0 ∷ 0 ∷ 0 ∷ 0 ∷ 0 ∷ 0 ∷ 0 ∷ 0 ∷ 9 ∷ []) ≡ At 21)
+    × (framePast 100 65535 (shows layoutTversion (57 ∷ 80 ∷ 50 ∷ 48 ∷ 48 ∷ 48 ∷ 46 ∷ 76 ∷ []) (val 8192 ∷ span 0 8 ∷ [])) (0 ∷ 0 ∷ 0 ∷ 0 ∷ 0 ∷ 0 ∷ 0 ∷ 0 ∷ 0 ∷ 0 ∷ 0 ∷ 0 ∷ 0 ∷ 0 ∷ 0 ∷ 0 ∷ 0 ∷ 0 ∷ 0 ∷ 0 ∷ 0 ∷ 9 ∷ []) ≡ At 21)
 unfolding fromLE toLE char chars utf8 noZero stringBytes itemBytes itemsBytes showSpan showString show shows putAt pastPut frameBytes frameOut framePast
 a-written = (refl, refl)

@@ -21,7 +21,7 @@ use Rattle.fields.specs.LayoutLaws.{reads-fields}
 use Rattle.fields.specs.Values.{Value, places, shows}
 use Rattle.fields.specs.ValueLaws.{shows-items}
 use Rattle.laying.specs.Laying.{limit}
-use Rattle.layouts.specs.Tables.{Row, lookup, body}
+use Rattle.layouts.specs.Tables.{Row, lookup}
 use Rattle.layouts.specs.Bodies.{Answer, accepted, refused}
 use Rattle.framing.specs.Frames.{readTypeTag, readHeader, framed, headless, frameOf, readFrame}
 use Rattle.framing.specs.Writing.{headBytes, frameBytes, frameOut, framePast}
@@ -83,29 +83,31 @@ module _ (rows : List Row) (s : List ℕ) {ty tag used : ℕ} {vs : List Value} 
       ∙ ap₂ (λ v n. framed tag (accepted ty v n)) (sym (A .values)) (sym u)
 
   -- what the record shows of the frame's bytes
-  pub shows-record : shows (body (lookup rows ty)) s vs ≡ ok (A .items) []
-  shows-record =
+  pub shows-record : {l : Layout} → lookup rows ty ≡ some l → shows l s vs ≡ ok (A .items) []
+  shows-record {l} known =
       let h : List ℕ = headBytes (A .size) ty tag in
       let i : List ℕ = itemsBytes (A .items) in
       let r : List ℕ = drop (A .size) s in
       let e : s ≡ h ++ (i ++ (A .left ++ r)) = sym (take-append-drop (A .size) s) ∙ ap (λ (x : List ℕ). x ++ r) (A .held) ∙ (simp append-assoc) in
-      ap₂ (λ l v. shows (body l) s v) (A .stands .known) (A .values)
+      let k = sym known ∙ A .stands .known in
+      let f : l ≡ map kind (A .items) = cc k in
+      ap₂ (λ x v. shows x s v) f (A .values)
       ∙ ap (λ (x : List ℕ). shows (map kind (A .items)) x (places 7 (A .items))) e
       ∙ shows-items (A .items) h (A .left ++ r) 7 (A .stands .goods) (head-length (A .size) ty tag)
 
   -- and is written back byte for byte
-  pub stripped-written : (o : List ℕ) → used ≤ length o
-      → (frameOut ty tag (shows (body (lookup rows ty)) s vs) o ≡ over o 0 (resized used s)) × (framePast ty tag (shows (body (lookup rows ty)) s vs) o ≡ At used)
+  pub stripped-written : {l : Layout} → lookup rows ty ≡ some l → (o : List ℕ) → used ≤ length o
+      → (frameOut ty tag (shows l s vs) o ≡ over o 0 (resized used s)) × (framePast ty tag (shows l s vs) o ≡ At used)
   unfolding frameOut framePast frameBytes
-  stripped-written o h =
+  stripped-written known o h =
       let u = A .uses in
       let b : frameBytes ty tag (A .items) ≡ resized used s = ap (λ n. headBytes n ty tag ++ itemsBytes (A .items)) (sym u) ∙ sym stripped-is in
       let l = frame-length ty tag (A .items) in
       let z = A .stands .sized in
       let w = used-within in
       let t = lt-ltb (7 + length (itemsBytes (A .items))) limit (omega arith) in (
-        rw (shows-record, t) (put-fits (frameBytes ty tag (A .items)) o 0 (omega arith) ∙ ap (over o 0) b),
-        rw (shows-record, t) (past-fits (frameBytes ty tag (A .items)) o 0 (omega arith) ∙ ap At (omega arith)),
+        rw (shows-record known, t) (put-fits (frameBytes ty tag (A .items)) o 0 (omega arith) ∙ ap (over o 0) b),
+        rw (shows-record known, t) (past-fits (frameBytes ty tag (A .items)) o 0 (omega arith) ∙ ap At (omega arith)),
       )
 
 -- ---- a cut frame is refused as short

@@ -9,6 +9,9 @@ ghost use Rattle.framing.specs.Writing.{HeadPut};
 ghost use Rattle.framing.specs.Headers.{TypeTag, HeadIs};
 ghost use Rattle.framing.specs.Cuts.{CutAt};
 
+// Where a frame's body begins: after its size, its type and its tag.
+pub const BODY: usize = 7;
+
 // A header: how many bytes of the slice are the frame's, its type and its tag; or why it can't be read.
 pub enum Head {
     Held(usize, u8, u16),
@@ -62,7 +65,7 @@ pub fn put_header(out: &mut [u8], end: Place, ty: u8, tag: u16) -> Place
     let Place::At(n) = end else {
         return end;
     };
-    if out.len() < 7 {
+    if out.len() < BODY {
         return Place::Refused(Refusal::NoRoom);
     }
     let a = numbers::put_num(out, Place::At(0), n as u64, 4);

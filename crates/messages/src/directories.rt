@@ -9,7 +9,7 @@ use numbers::Place;
 use strings::Span;
 ghost use Rattle.fields.specs.Fields.{Fields};
 ghost use Rattle.laying.specs.Laying.{Laid, Written};
-ghost use Rattle.layouts.specs.Tables.{layoutT, layoutR};
+ghost use Rattle.layouts.specs.Tables.{layoutTsymlink, layoutRsymlink, layoutTmknod, layoutRmknod, layoutTrename, layoutTreadlink, layoutRreadlink, layoutTreaddir, layoutRreaddir, layoutTlink, layoutTmkdir, layoutRmkdir, layoutTrenameat, layoutTunlinkat};
 ghost use Rattle.messages.specs.Records.{tsymlink, rsymlink, tmknod, rmknod, trename, treadlink, rreadlink, treaddir, rreaddir, tlink, tmkdir, rmkdir, trenameat, tunlinkat};
 
 pub struct Tsymlink {
@@ -25,7 +25,7 @@ pub struct ReadTsymlink {
 }
 
 pub fn read_tsymlink(s: &[u8], p: Place) -> ReadTsymlink
-    ensures { λ r. ⌜ Fields (layoutT 16) (now (s .entry)) p (tsymlink (r .value)) (r .next) ⌝ }
+    ensures { λ r. ⌜ Fields layoutTsymlink (now (s .entry)) p (tsymlink (r .value)) (r .next) ⌝ }
 {
     let r1 = numbers::read_u32(s, p);
     let p1 = r1.next;
@@ -49,7 +49,7 @@ pub fn read_tsymlink(s: &[u8], p: Place) -> ReadTsymlink
 }
 
 fn lay_tsymlink(out: &mut [u8], p: Place, lent: &[u8], m: Tsymlink, put: bool) -> Place
-    ensures { λ r. ⌜ Laid (layoutT 16) (now (lent .entry)) (tsymlink m) put (now (out .entry)) p (now (out .exit)) r ⌝ }
+    ensures { λ r. ⌜ Laid layoutTsymlink (now (lent .entry)) (tsymlink m) put (now (out .entry)) p (now (out .exit)) r ⌝ }
 {
     let fid = m.fid;
     let p1 = laying::lay_u32(out, p, fid.0, put);
@@ -62,7 +62,7 @@ fn lay_tsymlink(out: &mut [u8], p: Place, lent: &[u8], m: Tsymlink, put: bool) -
 }
 
 pub fn write_tsymlink(out: &mut [u8], p: Place, lent: &[u8], m: Tsymlink) -> Place
-    ensures { λ r. ⌜ Written (layoutT 16) (now (lent .entry)) (tsymlink m) (now (out .entry)) p (now (out .exit)) r ⌝ }
+    ensures { λ r. ⌜ Written layoutTsymlink (now (lent .entry)) (tsymlink m) (now (out .entry)) p (now (out .exit)) r ⌝ }
 {
     let end = lay_tsymlink(out, p, lent, m, laying::CHECK);
     let start = laying::begun(p, end, out.len());
@@ -79,7 +79,7 @@ pub struct ReadRsymlink {
 }
 
 pub fn read_rsymlink(s: &[u8], p: Place) -> ReadRsymlink
-    ensures { λ r. ⌜ Fields (layoutR 17) (now (s .entry)) p (rsymlink (r .value)) (r .next) ⌝ }
+    ensures { λ r. ⌜ Fields layoutRsymlink (now (s .entry)) p (rsymlink (r .value)) (r .next) ⌝ }
 {
     let r1 = qids::read_qid(s, p);
     let p1 = r1.next;
@@ -89,14 +89,14 @@ pub fn read_rsymlink(s: &[u8], p: Place) -> ReadRsymlink
 }
 
 fn lay_rsymlink(out: &mut [u8], p: Place, lent: &[u8], m: Rsymlink, put: bool) -> Place
-    ensures { λ r. ⌜ Laid (layoutR 17) (now (lent .entry)) (rsymlink m) put (now (out .entry)) p (now (out .exit)) r ⌝ }
+    ensures { λ r. ⌜ Laid layoutRsymlink (now (lent .entry)) (rsymlink m) put (now (out .entry)) p (now (out .exit)) r ⌝ }
 {
     let qid = m.qid;
     qids::lay_qid(out, p, lent, qid, put)
 }
 
 pub fn write_rsymlink(out: &mut [u8], p: Place, lent: &[u8], m: Rsymlink) -> Place
-    ensures { λ r. ⌜ Written (layoutR 17) (now (lent .entry)) (rsymlink m) (now (out .entry)) p (now (out .exit)) r ⌝ }
+    ensures { λ r. ⌜ Written layoutRsymlink (now (lent .entry)) (rsymlink m) (now (out .entry)) p (now (out .exit)) r ⌝ }
 {
     let end = lay_rsymlink(out, p, lent, m, laying::CHECK);
     let start = laying::begun(p, end, out.len());
@@ -118,7 +118,7 @@ pub struct ReadTmknod {
 }
 
 pub fn read_tmknod(s: &[u8], p: Place) -> ReadTmknod
-    ensures { λ r. ⌜ Fields (layoutT 18) (now (s .entry)) p (tmknod (r .value)) (r .next) ⌝ }
+    ensures { λ r. ⌜ Fields layoutTmknod (now (s .entry)) p (tmknod (r .value)) (r .next) ⌝ }
 {
     let r1 = numbers::read_u32(s, p);
     let p1 = r1.next;
@@ -147,7 +147,7 @@ pub fn read_tmknod(s: &[u8], p: Place) -> ReadTmknod
 }
 
 fn lay_tmknod(out: &mut [u8], p: Place, lent: &[u8], m: Tmknod, put: bool) -> Place
-    ensures { λ r. ⌜ Laid (layoutT 18) (now (lent .entry)) (tmknod m) put (now (out .entry)) p (now (out .exit)) r ⌝ }
+    ensures { λ r. ⌜ Laid layoutTmknod (now (lent .entry)) (tmknod m) put (now (out .entry)) p (now (out .exit)) r ⌝ }
 {
     let dfid = m.dfid;
     let p1 = laying::lay_u32(out, p, dfid.0, put);
@@ -161,7 +161,7 @@ fn lay_tmknod(out: &mut [u8], p: Place, lent: &[u8], m: Tmknod, put: bool) -> Pl
 }
 
 pub fn write_tmknod(out: &mut [u8], p: Place, lent: &[u8], m: Tmknod) -> Place
-    ensures { λ r. ⌜ Written (layoutT 18) (now (lent .entry)) (tmknod m) (now (out .entry)) p (now (out .exit)) r ⌝ }
+    ensures { λ r. ⌜ Written layoutTmknod (now (lent .entry)) (tmknod m) (now (out .entry)) p (now (out .exit)) r ⌝ }
 {
     let end = lay_tmknod(out, p, lent, m, laying::CHECK);
     let start = laying::begun(p, end, out.len());
@@ -178,7 +178,7 @@ pub struct ReadRmknod {
 }
 
 pub fn read_rmknod(s: &[u8], p: Place) -> ReadRmknod
-    ensures { λ r. ⌜ Fields (layoutR 19) (now (s .entry)) p (rmknod (r .value)) (r .next) ⌝ }
+    ensures { λ r. ⌜ Fields layoutRmknod (now (s .entry)) p (rmknod (r .value)) (r .next) ⌝ }
 {
     let r1 = qids::read_qid(s, p);
     let p1 = r1.next;
@@ -188,14 +188,14 @@ pub fn read_rmknod(s: &[u8], p: Place) -> ReadRmknod
 }
 
 fn lay_rmknod(out: &mut [u8], p: Place, lent: &[u8], m: Rmknod, put: bool) -> Place
-    ensures { λ r. ⌜ Laid (layoutR 19) (now (lent .entry)) (rmknod m) put (now (out .entry)) p (now (out .exit)) r ⌝ }
+    ensures { λ r. ⌜ Laid layoutRmknod (now (lent .entry)) (rmknod m) put (now (out .entry)) p (now (out .exit)) r ⌝ }
 {
     let qid = m.qid;
     qids::lay_qid(out, p, lent, qid, put)
 }
 
 pub fn write_rmknod(out: &mut [u8], p: Place, lent: &[u8], m: Rmknod) -> Place
-    ensures { λ r. ⌜ Written (layoutR 19) (now (lent .entry)) (rmknod m) (now (out .entry)) p (now (out .exit)) r ⌝ }
+    ensures { λ r. ⌜ Written layoutRmknod (now (lent .entry)) (rmknod m) (now (out .entry)) p (now (out .exit)) r ⌝ }
 {
     let end = lay_rmknod(out, p, lent, m, laying::CHECK);
     let start = laying::begun(p, end, out.len());
@@ -214,7 +214,7 @@ pub struct ReadTrename {
 }
 
 pub fn read_trename(s: &[u8], p: Place) -> ReadTrename
-    ensures { λ r. ⌜ Fields (layoutT 20) (now (s .entry)) p (trename (r .value)) (r .next) ⌝ }
+    ensures { λ r. ⌜ Fields layoutTrename (now (s .entry)) p (trename (r .value)) (r .next) ⌝ }
 {
     let r1 = numbers::read_u32(s, p);
     let p1 = r1.next;
@@ -230,7 +230,7 @@ pub fn read_trename(s: &[u8], p: Place) -> ReadTrename
 }
 
 fn lay_trename(out: &mut [u8], p: Place, lent: &[u8], m: Trename, put: bool) -> Place
-    ensures { λ r. ⌜ Laid (layoutT 20) (now (lent .entry)) (trename m) put (now (out .entry)) p (now (out .exit)) r ⌝ }
+    ensures { λ r. ⌜ Laid layoutTrename (now (lent .entry)) (trename m) put (now (out .entry)) p (now (out .exit)) r ⌝ }
 {
     let fid = m.fid;
     let p1 = laying::lay_u32(out, p, fid.0, put);
@@ -241,7 +241,7 @@ fn lay_trename(out: &mut [u8], p: Place, lent: &[u8], m: Trename, put: bool) -> 
 }
 
 pub fn write_trename(out: &mut [u8], p: Place, lent: &[u8], m: Trename) -> Place
-    ensures { λ r. ⌜ Written (layoutT 20) (now (lent .entry)) (trename m) (now (out .entry)) p (now (out .exit)) r ⌝ }
+    ensures { λ r. ⌜ Written layoutTrename (now (lent .entry)) (trename m) (now (out .entry)) p (now (out .exit)) r ⌝ }
 {
     let end = lay_trename(out, p, lent, m, laying::CHECK);
     let start = laying::begun(p, end, out.len());
@@ -258,7 +258,7 @@ pub struct ReadTreadlink {
 }
 
 pub fn read_treadlink(s: &[u8], p: Place) -> ReadTreadlink
-    ensures { λ r. ⌜ Fields (layoutT 22) (now (s .entry)) p (treadlink (r .value)) (r .next) ⌝ }
+    ensures { λ r. ⌜ Fields layoutTreadlink (now (s .entry)) p (treadlink (r .value)) (r .next) ⌝ }
 {
     let r1 = numbers::read_u32(s, p);
     let p1 = r1.next;
@@ -268,14 +268,14 @@ pub fn read_treadlink(s: &[u8], p: Place) -> ReadTreadlink
 }
 
 fn lay_treadlink(out: &mut [u8], p: Place, lent: &[u8], m: Treadlink, put: bool) -> Place
-    ensures { λ r. ⌜ Laid (layoutT 22) (now (lent .entry)) (treadlink m) put (now (out .entry)) p (now (out .exit)) r ⌝ }
+    ensures { λ r. ⌜ Laid layoutTreadlink (now (lent .entry)) (treadlink m) put (now (out .entry)) p (now (out .exit)) r ⌝ }
 {
     let fid = m.fid;
     laying::lay_u32(out, p, fid.0, put)
 }
 
 pub fn write_treadlink(out: &mut [u8], p: Place, lent: &[u8], m: Treadlink) -> Place
-    ensures { λ r. ⌜ Written (layoutT 22) (now (lent .entry)) (treadlink m) (now (out .entry)) p (now (out .exit)) r ⌝ }
+    ensures { λ r. ⌜ Written layoutTreadlink (now (lent .entry)) (treadlink m) (now (out .entry)) p (now (out .exit)) r ⌝ }
 {
     let end = lay_treadlink(out, p, lent, m, laying::CHECK);
     let start = laying::begun(p, end, out.len());
@@ -292,7 +292,7 @@ pub struct ReadRreadlink {
 }
 
 pub fn read_rreadlink(s: &[u8], p: Place) -> ReadRreadlink
-    ensures { λ r. ⌜ Fields (layoutR 23) (now (s .entry)) p (rreadlink (r .value)) (r .next) ⌝ }
+    ensures { λ r. ⌜ Fields layoutRreadlink (now (s .entry)) p (rreadlink (r .value)) (r .next) ⌝ }
 {
     let r1 = strings::read_str(s, p);
     let p1 = r1.next;
@@ -302,14 +302,14 @@ pub fn read_rreadlink(s: &[u8], p: Place) -> ReadRreadlink
 }
 
 fn lay_rreadlink(out: &mut [u8], p: Place, lent: &[u8], m: Rreadlink, put: bool) -> Place
-    ensures { λ r. ⌜ Laid (layoutR 23) (now (lent .entry)) (rreadlink m) put (now (out .entry)) p (now (out .exit)) r ⌝ }
+    ensures { λ r. ⌜ Laid layoutRreadlink (now (lent .entry)) (rreadlink m) put (now (out .entry)) p (now (out .exit)) r ⌝ }
 {
     let target = m.target;
     laying::lay_str(out, p, lent, target, put)
 }
 
 pub fn write_rreadlink(out: &mut [u8], p: Place, lent: &[u8], m: Rreadlink) -> Place
-    ensures { λ r. ⌜ Written (layoutR 23) (now (lent .entry)) (rreadlink m) (now (out .entry)) p (now (out .exit)) r ⌝ }
+    ensures { λ r. ⌜ Written layoutRreadlink (now (lent .entry)) (rreadlink m) (now (out .entry)) p (now (out .exit)) r ⌝ }
 {
     let end = lay_rreadlink(out, p, lent, m, laying::CHECK);
     let start = laying::begun(p, end, out.len());
@@ -328,7 +328,7 @@ pub struct ReadTreaddir {
 }
 
 pub fn read_treaddir(s: &[u8], p: Place) -> ReadTreaddir
-    ensures { λ r. ⌜ Fields (layoutT 40) (now (s .entry)) p (treaddir (r .value)) (r .next) ⌝ }
+    ensures { λ r. ⌜ Fields layoutTreaddir (now (s .entry)) p (treaddir (r .value)) (r .next) ⌝ }
 {
     let r1 = numbers::read_u32(s, p);
     let p1 = r1.next;
@@ -346,7 +346,7 @@ pub fn read_treaddir(s: &[u8], p: Place) -> ReadTreaddir
 }
 
 fn lay_treaddir(out: &mut [u8], p: Place, lent: &[u8], m: Treaddir, put: bool) -> Place
-    ensures { λ r. ⌜ Laid (layoutT 40) (now (lent .entry)) (treaddir m) put (now (out .entry)) p (now (out .exit)) r ⌝ }
+    ensures { λ r. ⌜ Laid layoutTreaddir (now (lent .entry)) (treaddir m) put (now (out .entry)) p (now (out .exit)) r ⌝ }
 {
     let fid = m.fid;
     let p1 = laying::lay_u32(out, p, fid.0, put);
@@ -355,7 +355,7 @@ fn lay_treaddir(out: &mut [u8], p: Place, lent: &[u8], m: Treaddir, put: bool) -
 }
 
 pub fn write_treaddir(out: &mut [u8], p: Place, lent: &[u8], m: Treaddir) -> Place
-    ensures { λ r. ⌜ Written (layoutT 40) (now (lent .entry)) (treaddir m) (now (out .entry)) p (now (out .exit)) r ⌝ }
+    ensures { λ r. ⌜ Written layoutTreaddir (now (lent .entry)) (treaddir m) (now (out .entry)) p (now (out .exit)) r ⌝ }
 {
     let end = lay_treaddir(out, p, lent, m, laying::CHECK);
     let start = laying::begun(p, end, out.len());
@@ -372,7 +372,7 @@ pub struct ReadRreaddir {
 }
 
 pub fn read_rreaddir(s: &[u8], p: Place) -> ReadRreaddir
-    ensures { λ r. ⌜ Fields (layoutR 41) (now (s .entry)) p (rreaddir (r .value)) (r .next) ⌝ }
+    ensures { λ r. ⌜ Fields layoutRreaddir (now (s .entry)) p (rreaddir (r .value)) (r .next) ⌝ }
 {
     let r1 = fields::read_data(s, p);
     let p1 = r1.next;
@@ -382,14 +382,14 @@ pub fn read_rreaddir(s: &[u8], p: Place) -> ReadRreaddir
 }
 
 fn lay_rreaddir(out: &mut [u8], p: Place, lent: &[u8], m: Rreaddir, put: bool) -> Place
-    ensures { λ r. ⌜ Laid (layoutR 41) (now (lent .entry)) (rreaddir m) put (now (out .entry)) p (now (out .exit)) r ⌝ }
+    ensures { λ r. ⌜ Laid layoutRreaddir (now (lent .entry)) (rreaddir m) put (now (out .entry)) p (now (out .exit)) r ⌝ }
 {
     let data = m.data;
     laying::lay_data(out, p, lent, data, put)
 }
 
 pub fn write_rreaddir(out: &mut [u8], p: Place, lent: &[u8], m: Rreaddir) -> Place
-    ensures { λ r. ⌜ Written (layoutR 41) (now (lent .entry)) (rreaddir m) (now (out .entry)) p (now (out .exit)) r ⌝ }
+    ensures { λ r. ⌜ Written layoutRreaddir (now (lent .entry)) (rreaddir m) (now (out .entry)) p (now (out .exit)) r ⌝ }
 {
     let end = lay_rreaddir(out, p, lent, m, laying::CHECK);
     let start = laying::begun(p, end, out.len());
@@ -408,7 +408,7 @@ pub struct ReadTlink {
 }
 
 pub fn read_tlink(s: &[u8], p: Place) -> ReadTlink
-    ensures { λ r. ⌜ Fields (layoutT 70) (now (s .entry)) p (tlink (r .value)) (r .next) ⌝ }
+    ensures { λ r. ⌜ Fields layoutTlink (now (s .entry)) p (tlink (r .value)) (r .next) ⌝ }
 {
     let r1 = numbers::read_u32(s, p);
     let p1 = r1.next;
@@ -424,7 +424,7 @@ pub fn read_tlink(s: &[u8], p: Place) -> ReadTlink
 }
 
 fn lay_tlink(out: &mut [u8], p: Place, lent: &[u8], m: Tlink, put: bool) -> Place
-    ensures { λ r. ⌜ Laid (layoutT 70) (now (lent .entry)) (tlink m) put (now (out .entry)) p (now (out .exit)) r ⌝ }
+    ensures { λ r. ⌜ Laid layoutTlink (now (lent .entry)) (tlink m) put (now (out .entry)) p (now (out .exit)) r ⌝ }
 {
     let dfid = m.dfid;
     let p1 = laying::lay_u32(out, p, dfid.0, put);
@@ -435,7 +435,7 @@ fn lay_tlink(out: &mut [u8], p: Place, lent: &[u8], m: Tlink, put: bool) -> Plac
 }
 
 pub fn write_tlink(out: &mut [u8], p: Place, lent: &[u8], m: Tlink) -> Place
-    ensures { λ r. ⌜ Written (layoutT 70) (now (lent .entry)) (tlink m) (now (out .entry)) p (now (out .exit)) r ⌝ }
+    ensures { λ r. ⌜ Written layoutTlink (now (lent .entry)) (tlink m) (now (out .entry)) p (now (out .exit)) r ⌝ }
 {
     let end = lay_tlink(out, p, lent, m, laying::CHECK);
     let start = laying::begun(p, end, out.len());
@@ -455,7 +455,7 @@ pub struct ReadTmkdir {
 }
 
 pub fn read_tmkdir(s: &[u8], p: Place) -> ReadTmkdir
-    ensures { λ r. ⌜ Fields (layoutT 72) (now (s .entry)) p (tmkdir (r .value)) (r .next) ⌝ }
+    ensures { λ r. ⌜ Fields layoutTmkdir (now (s .entry)) p (tmkdir (r .value)) (r .next) ⌝ }
 {
     let r1 = numbers::read_u32(s, p);
     let p1 = r1.next;
@@ -478,7 +478,7 @@ pub fn read_tmkdir(s: &[u8], p: Place) -> ReadTmkdir
 }
 
 fn lay_tmkdir(out: &mut [u8], p: Place, lent: &[u8], m: Tmkdir, put: bool) -> Place
-    ensures { λ r. ⌜ Laid (layoutT 72) (now (lent .entry)) (tmkdir m) put (now (out .entry)) p (now (out .exit)) r ⌝ }
+    ensures { λ r. ⌜ Laid layoutTmkdir (now (lent .entry)) (tmkdir m) put (now (out .entry)) p (now (out .exit)) r ⌝ }
 {
     let dfid = m.dfid;
     let p1 = laying::lay_u32(out, p, dfid.0, put);
@@ -490,7 +490,7 @@ fn lay_tmkdir(out: &mut [u8], p: Place, lent: &[u8], m: Tmkdir, put: bool) -> Pl
 }
 
 pub fn write_tmkdir(out: &mut [u8], p: Place, lent: &[u8], m: Tmkdir) -> Place
-    ensures { λ r. ⌜ Written (layoutT 72) (now (lent .entry)) (tmkdir m) (now (out .entry)) p (now (out .exit)) r ⌝ }
+    ensures { λ r. ⌜ Written layoutTmkdir (now (lent .entry)) (tmkdir m) (now (out .entry)) p (now (out .exit)) r ⌝ }
 {
     let end = lay_tmkdir(out, p, lent, m, laying::CHECK);
     let start = laying::begun(p, end, out.len());
@@ -507,7 +507,7 @@ pub struct ReadRmkdir {
 }
 
 pub fn read_rmkdir(s: &[u8], p: Place) -> ReadRmkdir
-    ensures { λ r. ⌜ Fields (layoutR 73) (now (s .entry)) p (rmkdir (r .value)) (r .next) ⌝ }
+    ensures { λ r. ⌜ Fields layoutRmkdir (now (s .entry)) p (rmkdir (r .value)) (r .next) ⌝ }
 {
     let r1 = qids::read_qid(s, p);
     let p1 = r1.next;
@@ -517,14 +517,14 @@ pub fn read_rmkdir(s: &[u8], p: Place) -> ReadRmkdir
 }
 
 fn lay_rmkdir(out: &mut [u8], p: Place, lent: &[u8], m: Rmkdir, put: bool) -> Place
-    ensures { λ r. ⌜ Laid (layoutR 73) (now (lent .entry)) (rmkdir m) put (now (out .entry)) p (now (out .exit)) r ⌝ }
+    ensures { λ r. ⌜ Laid layoutRmkdir (now (lent .entry)) (rmkdir m) put (now (out .entry)) p (now (out .exit)) r ⌝ }
 {
     let qid = m.qid;
     qids::lay_qid(out, p, lent, qid, put)
 }
 
 pub fn write_rmkdir(out: &mut [u8], p: Place, lent: &[u8], m: Rmkdir) -> Place
-    ensures { λ r. ⌜ Written (layoutR 73) (now (lent .entry)) (rmkdir m) (now (out .entry)) p (now (out .exit)) r ⌝ }
+    ensures { λ r. ⌜ Written layoutRmkdir (now (lent .entry)) (rmkdir m) (now (out .entry)) p (now (out .exit)) r ⌝ }
 {
     let end = lay_rmkdir(out, p, lent, m, laying::CHECK);
     let start = laying::begun(p, end, out.len());
@@ -544,7 +544,7 @@ pub struct ReadTrenameat {
 }
 
 pub fn read_trenameat(s: &[u8], p: Place) -> ReadTrenameat
-    ensures { λ r. ⌜ Fields (layoutT 74) (now (s .entry)) p (trenameat (r .value)) (r .next) ⌝ }
+    ensures { λ r. ⌜ Fields layoutTrenameat (now (s .entry)) p (trenameat (r .value)) (r .next) ⌝ }
 {
     let r1 = numbers::read_u32(s, p);
     let p1 = r1.next;
@@ -568,7 +568,7 @@ pub fn read_trenameat(s: &[u8], p: Place) -> ReadTrenameat
 }
 
 fn lay_trenameat(out: &mut [u8], p: Place, lent: &[u8], m: Trenameat, put: bool) -> Place
-    ensures { λ r. ⌜ Laid (layoutT 74) (now (lent .entry)) (trenameat m) put (now (out .entry)) p (now (out .exit)) r ⌝ }
+    ensures { λ r. ⌜ Laid layoutTrenameat (now (lent .entry)) (trenameat m) put (now (out .entry)) p (now (out .exit)) r ⌝ }
 {
     let olddirfid = m.olddirfid;
     let p1 = laying::lay_u32(out, p, olddirfid.0, put);
@@ -581,7 +581,7 @@ fn lay_trenameat(out: &mut [u8], p: Place, lent: &[u8], m: Trenameat, put: bool)
 }
 
 pub fn write_trenameat(out: &mut [u8], p: Place, lent: &[u8], m: Trenameat) -> Place
-    ensures { λ r. ⌜ Written (layoutT 74) (now (lent .entry)) (trenameat m) (now (out .entry)) p (now (out .exit)) r ⌝ }
+    ensures { λ r. ⌜ Written layoutTrenameat (now (lent .entry)) (trenameat m) (now (out .entry)) p (now (out .exit)) r ⌝ }
 {
     let end = lay_trenameat(out, p, lent, m, laying::CHECK);
     let start = laying::begun(p, end, out.len());
@@ -600,7 +600,7 @@ pub struct ReadTunlinkat {
 }
 
 pub fn read_tunlinkat(s: &[u8], p: Place) -> ReadTunlinkat
-    ensures { λ r. ⌜ Fields (layoutT 76) (now (s .entry)) p (tunlinkat (r .value)) (r .next) ⌝ }
+    ensures { λ r. ⌜ Fields layoutTunlinkat (now (s .entry)) p (tunlinkat (r .value)) (r .next) ⌝ }
 {
     let r1 = numbers::read_u32(s, p);
     let p1 = r1.next;
@@ -619,7 +619,7 @@ pub fn read_tunlinkat(s: &[u8], p: Place) -> ReadTunlinkat
 }
 
 fn lay_tunlinkat(out: &mut [u8], p: Place, lent: &[u8], m: Tunlinkat, put: bool) -> Place
-    ensures { λ r. ⌜ Laid (layoutT 76) (now (lent .entry)) (tunlinkat m) put (now (out .entry)) p (now (out .exit)) r ⌝ }
+    ensures { λ r. ⌜ Laid layoutTunlinkat (now (lent .entry)) (tunlinkat m) put (now (out .entry)) p (now (out .exit)) r ⌝ }
 {
     let dirfd = m.dirfd;
     let p1 = laying::lay_u32(out, p, dirfd.0, put);
@@ -629,7 +629,7 @@ fn lay_tunlinkat(out: &mut [u8], p: Place, lent: &[u8], m: Tunlinkat, put: bool)
 }
 
 pub fn write_tunlinkat(out: &mut [u8], p: Place, lent: &[u8], m: Tunlinkat) -> Place
-    ensures { λ r. ⌜ Written (layoutT 76) (now (lent .entry)) (tunlinkat m) (now (out .entry)) p (now (out .exit)) r ⌝ }
+    ensures { λ r. ⌜ Written layoutTunlinkat (now (lent .entry)) (tunlinkat m) (now (out .entry)) p (now (out .exit)) r ⌝ }
 {
     let end = lay_tunlinkat(out, p, lent, m, laying::CHECK);
     let start = laying::begun(p, end, out.len());

@@ -9,7 +9,7 @@ use numbers::Place;
 use strings::Span;
 ghost use Rattle.fields.specs.Fields.{Fields};
 ghost use Rattle.laying.specs.Laying.{Laid, Written};
-ghost use Rattle.layouts.specs.Tables.{layoutT, layoutR};
+ghost use Rattle.layouts.specs.Tables.{layoutTlopen, layoutRlopen, layoutTlcreate, layoutRlcreate, layoutTfsync};
 ghost use Rattle.messages.specs.Records.{tlopen, rlopen, tlcreate, rlcreate, tfsync};
 
 pub struct Tlopen {
@@ -23,7 +23,7 @@ pub struct ReadTlopen {
 }
 
 pub fn read_tlopen(s: &[u8], p: Place) -> ReadTlopen
-    ensures { λ r. ⌜ Fields (layoutT 12) (now (s .entry)) p (tlopen (r .value)) (r .next) ⌝ }
+    ensures { λ r. ⌜ Fields layoutTlopen (now (s .entry)) p (tlopen (r .value)) (r .next) ⌝ }
 {
     let r1 = numbers::read_u32(s, p);
     let p1 = r1.next;
@@ -38,7 +38,7 @@ pub fn read_tlopen(s: &[u8], p: Place) -> ReadTlopen
 }
 
 fn lay_tlopen(out: &mut [u8], p: Place, lent: &[u8], m: Tlopen, put: bool) -> Place
-    ensures { λ r. ⌜ Laid (layoutT 12) (now (lent .entry)) (tlopen m) put (now (out .entry)) p (now (out .exit)) r ⌝ }
+    ensures { λ r. ⌜ Laid layoutTlopen (now (lent .entry)) (tlopen m) put (now (out .entry)) p (now (out .exit)) r ⌝ }
 {
     let fid = m.fid;
     let p1 = laying::lay_u32(out, p, fid.0, put);
@@ -46,7 +46,7 @@ fn lay_tlopen(out: &mut [u8], p: Place, lent: &[u8], m: Tlopen, put: bool) -> Pl
 }
 
 pub fn write_tlopen(out: &mut [u8], p: Place, lent: &[u8], m: Tlopen) -> Place
-    ensures { λ r. ⌜ Written (layoutT 12) (now (lent .entry)) (tlopen m) (now (out .entry)) p (now (out .exit)) r ⌝ }
+    ensures { λ r. ⌜ Written layoutTlopen (now (lent .entry)) (tlopen m) (now (out .entry)) p (now (out .exit)) r ⌝ }
 {
     let end = lay_tlopen(out, p, lent, m, laying::CHECK);
     let start = laying::begun(p, end, out.len());
@@ -64,7 +64,7 @@ pub struct ReadRlopen {
 }
 
 pub fn read_rlopen(s: &[u8], p: Place) -> ReadRlopen
-    ensures { λ r. ⌜ Fields (layoutR 13) (now (s .entry)) p (rlopen (r .value)) (r .next) ⌝ }
+    ensures { λ r. ⌜ Fields layoutRlopen (now (s .entry)) p (rlopen (r .value)) (r .next) ⌝ }
 {
     let r1 = qids::read_qid(s, p);
     let p1 = r1.next;
@@ -79,7 +79,7 @@ pub fn read_rlopen(s: &[u8], p: Place) -> ReadRlopen
 }
 
 fn lay_rlopen(out: &mut [u8], p: Place, lent: &[u8], m: Rlopen, put: bool) -> Place
-    ensures { λ r. ⌜ Laid (layoutR 13) (now (lent .entry)) (rlopen m) put (now (out .entry)) p (now (out .exit)) r ⌝ }
+    ensures { λ r. ⌜ Laid layoutRlopen (now (lent .entry)) (rlopen m) put (now (out .entry)) p (now (out .exit)) r ⌝ }
 {
     let qid = m.qid;
     let p1 = qids::lay_qid(out, p, lent, qid, put);
@@ -87,7 +87,7 @@ fn lay_rlopen(out: &mut [u8], p: Place, lent: &[u8], m: Rlopen, put: bool) -> Pl
 }
 
 pub fn write_rlopen(out: &mut [u8], p: Place, lent: &[u8], m: Rlopen) -> Place
-    ensures { λ r. ⌜ Written (layoutR 13) (now (lent .entry)) (rlopen m) (now (out .entry)) p (now (out .exit)) r ⌝ }
+    ensures { λ r. ⌜ Written layoutRlopen (now (lent .entry)) (rlopen m) (now (out .entry)) p (now (out .exit)) r ⌝ }
 {
     let end = lay_rlopen(out, p, lent, m, laying::CHECK);
     let start = laying::begun(p, end, out.len());
@@ -108,7 +108,7 @@ pub struct ReadTlcreate {
 }
 
 pub fn read_tlcreate(s: &[u8], p: Place) -> ReadTlcreate
-    ensures { λ r. ⌜ Fields (layoutT 14) (now (s .entry)) p (tlcreate (r .value)) (r .next) ⌝ }
+    ensures { λ r. ⌜ Fields layoutTlcreate (now (s .entry)) p (tlcreate (r .value)) (r .next) ⌝ }
 {
     let r1 = numbers::read_u32(s, p);
     let p1 = r1.next;
@@ -134,7 +134,7 @@ pub fn read_tlcreate(s: &[u8], p: Place) -> ReadTlcreate
 }
 
 fn lay_tlcreate(out: &mut [u8], p: Place, lent: &[u8], m: Tlcreate, put: bool) -> Place
-    ensures { λ r. ⌜ Laid (layoutT 14) (now (lent .entry)) (tlcreate m) put (now (out .entry)) p (now (out .exit)) r ⌝ }
+    ensures { λ r. ⌜ Laid layoutTlcreate (now (lent .entry)) (tlcreate m) put (now (out .entry)) p (now (out .exit)) r ⌝ }
 {
     let fid = m.fid;
     let p1 = laying::lay_u32(out, p, fid.0, put);
@@ -147,7 +147,7 @@ fn lay_tlcreate(out: &mut [u8], p: Place, lent: &[u8], m: Tlcreate, put: bool) -
 }
 
 pub fn write_tlcreate(out: &mut [u8], p: Place, lent: &[u8], m: Tlcreate) -> Place
-    ensures { λ r. ⌜ Written (layoutT 14) (now (lent .entry)) (tlcreate m) (now (out .entry)) p (now (out .exit)) r ⌝ }
+    ensures { λ r. ⌜ Written layoutTlcreate (now (lent .entry)) (tlcreate m) (now (out .entry)) p (now (out .exit)) r ⌝ }
 {
     let end = lay_tlcreate(out, p, lent, m, laying::CHECK);
     let start = laying::begun(p, end, out.len());
@@ -165,7 +165,7 @@ pub struct ReadRlcreate {
 }
 
 pub fn read_rlcreate(s: &[u8], p: Place) -> ReadRlcreate
-    ensures { λ r. ⌜ Fields (layoutR 15) (now (s .entry)) p (rlcreate (r .value)) (r .next) ⌝ }
+    ensures { λ r. ⌜ Fields layoutRlcreate (now (s .entry)) p (rlcreate (r .value)) (r .next) ⌝ }
 {
     let r1 = qids::read_qid(s, p);
     let p1 = r1.next;
@@ -180,7 +180,7 @@ pub fn read_rlcreate(s: &[u8], p: Place) -> ReadRlcreate
 }
 
 fn lay_rlcreate(out: &mut [u8], p: Place, lent: &[u8], m: Rlcreate, put: bool) -> Place
-    ensures { λ r. ⌜ Laid (layoutR 15) (now (lent .entry)) (rlcreate m) put (now (out .entry)) p (now (out .exit)) r ⌝ }
+    ensures { λ r. ⌜ Laid layoutRlcreate (now (lent .entry)) (rlcreate m) put (now (out .entry)) p (now (out .exit)) r ⌝ }
 {
     let qid = m.qid;
     let p1 = qids::lay_qid(out, p, lent, qid, put);
@@ -188,7 +188,7 @@ fn lay_rlcreate(out: &mut [u8], p: Place, lent: &[u8], m: Rlcreate, put: bool) -
 }
 
 pub fn write_rlcreate(out: &mut [u8], p: Place, lent: &[u8], m: Rlcreate) -> Place
-    ensures { λ r. ⌜ Written (layoutR 15) (now (lent .entry)) (rlcreate m) (now (out .entry)) p (now (out .exit)) r ⌝ }
+    ensures { λ r. ⌜ Written layoutRlcreate (now (lent .entry)) (rlcreate m) (now (out .entry)) p (now (out .exit)) r ⌝ }
 {
     let end = lay_rlcreate(out, p, lent, m, laying::CHECK);
     let start = laying::begun(p, end, out.len());
@@ -206,7 +206,7 @@ pub struct ReadTfsync {
 }
 
 pub fn read_tfsync(s: &[u8], p: Place) -> ReadTfsync
-    ensures { λ r. ⌜ Fields (layoutT 50) (now (s .entry)) p (tfsync (r .value)) (r .next) ⌝ }
+    ensures { λ r. ⌜ Fields layoutTfsync (now (s .entry)) p (tfsync (r .value)) (r .next) ⌝ }
 {
     let r1 = numbers::read_u32(s, p);
     let p1 = r1.next;
@@ -221,7 +221,7 @@ pub fn read_tfsync(s: &[u8], p: Place) -> ReadTfsync
 }
 
 fn lay_tfsync(out: &mut [u8], p: Place, lent: &[u8], m: Tfsync, put: bool) -> Place
-    ensures { λ r. ⌜ Laid (layoutT 50) (now (lent .entry)) (tfsync m) put (now (out .entry)) p (now (out .exit)) r ⌝ }
+    ensures { λ r. ⌜ Laid layoutTfsync (now (lent .entry)) (tfsync m) put (now (out .entry)) p (now (out .exit)) r ⌝ }
 {
     let fid = m.fid;
     let p1 = laying::lay_u32(out, p, fid.0, put);
@@ -229,7 +229,7 @@ fn lay_tfsync(out: &mut [u8], p: Place, lent: &[u8], m: Tfsync, put: bool) -> Pl
 }
 
 pub fn write_tfsync(out: &mut [u8], p: Place, lent: &[u8], m: Tfsync) -> Place
-    ensures { λ r. ⌜ Written (layoutT 50) (now (lent .entry)) (tfsync m) (now (out .entry)) p (now (out .exit)) r ⌝ }
+    ensures { λ r. ⌜ Written layoutTfsync (now (lent .entry)) (tfsync m) (now (out .entry)) p (now (out .exit)) r ⌝ }
 {
     let end = lay_tfsync(out, p, lent, m, laying::CHECK);
     let start = laying::begun(p, end, out.len());

@@ -8,7 +8,7 @@ use numbers::Place;
 use strings::Span;
 ghost use Rattle.fields.specs.Fields.{Fields};
 ghost use Rattle.laying.specs.Laying.{Laid, Written};
-ghost use Rattle.layouts.specs.Tables.{layoutT, layoutR};
+ghost use Rattle.layouts.specs.Tables.{layoutTauth, layoutRauth, layoutTattach, layoutRattach, layoutRlerror};
 ghost use Rattle.messages.specs.Records.{tauth, rauth, tattach, rattach, rlerror};
 
 pub struct Tauth {
@@ -24,7 +24,7 @@ pub struct ReadTauth {
 }
 
 pub fn read_tauth(s: &[u8], p: Place) -> ReadTauth
-    ensures { λ r. ⌜ Fields (layoutT 102) (now (s .entry)) p (tauth (r .value)) (r .next) ⌝ }
+    ensures { λ r. ⌜ Fields layoutTauth (now (s .entry)) p (tauth (r .value)) (r .next) ⌝ }
 {
     let r1 = numbers::read_u32(s, p);
     let p1 = r1.next;
@@ -47,7 +47,7 @@ pub fn read_tauth(s: &[u8], p: Place) -> ReadTauth
 }
 
 fn lay_tauth(out: &mut [u8], p: Place, lent: &[u8], m: Tauth, put: bool) -> Place
-    ensures { λ r. ⌜ Laid (layoutT 102) (now (lent .entry)) (tauth m) put (now (out .entry)) p (now (out .exit)) r ⌝ }
+    ensures { λ r. ⌜ Laid layoutTauth (now (lent .entry)) (tauth m) put (now (out .entry)) p (now (out .exit)) r ⌝ }
 {
     let afid = m.afid;
     let p1 = laying::lay_u32(out, p, afid.0, put);
@@ -59,7 +59,7 @@ fn lay_tauth(out: &mut [u8], p: Place, lent: &[u8], m: Tauth, put: bool) -> Plac
 }
 
 pub fn write_tauth(out: &mut [u8], p: Place, lent: &[u8], m: Tauth) -> Place
-    ensures { λ r. ⌜ Written (layoutT 102) (now (lent .entry)) (tauth m) (now (out .entry)) p (now (out .exit)) r ⌝ }
+    ensures { λ r. ⌜ Written layoutTauth (now (lent .entry)) (tauth m) (now (out .entry)) p (now (out .exit)) r ⌝ }
 {
     let end = lay_tauth(out, p, lent, m, laying::CHECK);
     let start = laying::begun(p, end, out.len());
@@ -76,7 +76,7 @@ pub struct ReadRauth {
 }
 
 pub fn read_rauth(s: &[u8], p: Place) -> ReadRauth
-    ensures { λ r. ⌜ Fields (layoutR 103) (now (s .entry)) p (rauth (r .value)) (r .next) ⌝ }
+    ensures { λ r. ⌜ Fields layoutRauth (now (s .entry)) p (rauth (r .value)) (r .next) ⌝ }
 {
     let r1 = qids::read_qid(s, p);
     let p1 = r1.next;
@@ -86,14 +86,14 @@ pub fn read_rauth(s: &[u8], p: Place) -> ReadRauth
 }
 
 fn lay_rauth(out: &mut [u8], p: Place, lent: &[u8], m: Rauth, put: bool) -> Place
-    ensures { λ r. ⌜ Laid (layoutR 103) (now (lent .entry)) (rauth m) put (now (out .entry)) p (now (out .exit)) r ⌝ }
+    ensures { λ r. ⌜ Laid layoutRauth (now (lent .entry)) (rauth m) put (now (out .entry)) p (now (out .exit)) r ⌝ }
 {
     let aqid = m.aqid;
     qids::lay_qid(out, p, lent, aqid, put)
 }
 
 pub fn write_rauth(out: &mut [u8], p: Place, lent: &[u8], m: Rauth) -> Place
-    ensures { λ r. ⌜ Written (layoutR 103) (now (lent .entry)) (rauth m) (now (out .entry)) p (now (out .exit)) r ⌝ }
+    ensures { λ r. ⌜ Written layoutRauth (now (lent .entry)) (rauth m) (now (out .entry)) p (now (out .exit)) r ⌝ }
 {
     let end = lay_rauth(out, p, lent, m, laying::CHECK);
     let start = laying::begun(p, end, out.len());
@@ -114,7 +114,7 @@ pub struct ReadTattach {
 }
 
 pub fn read_tattach(s: &[u8], p: Place) -> ReadTattach
-    ensures { λ r. ⌜ Fields (layoutT 104) (now (s .entry)) p (tattach (r .value)) (r .next) ⌝ }
+    ensures { λ r. ⌜ Fields layoutTattach (now (s .entry)) p (tattach (r .value)) (r .next) ⌝ }
 {
     let r1 = numbers::read_u32(s, p);
     let p1 = r1.next;
@@ -141,7 +141,7 @@ pub fn read_tattach(s: &[u8], p: Place) -> ReadTattach
 }
 
 fn lay_tattach(out: &mut [u8], p: Place, lent: &[u8], m: Tattach, put: bool) -> Place
-    ensures { λ r. ⌜ Laid (layoutT 104) (now (lent .entry)) (tattach m) put (now (out .entry)) p (now (out .exit)) r ⌝ }
+    ensures { λ r. ⌜ Laid layoutTattach (now (lent .entry)) (tattach m) put (now (out .entry)) p (now (out .exit)) r ⌝ }
 {
     let fid = m.fid;
     let p1 = laying::lay_u32(out, p, fid.0, put);
@@ -155,7 +155,7 @@ fn lay_tattach(out: &mut [u8], p: Place, lent: &[u8], m: Tattach, put: bool) -> 
 }
 
 pub fn write_tattach(out: &mut [u8], p: Place, lent: &[u8], m: Tattach) -> Place
-    ensures { λ r. ⌜ Written (layoutT 104) (now (lent .entry)) (tattach m) (now (out .entry)) p (now (out .exit)) r ⌝ }
+    ensures { λ r. ⌜ Written layoutTattach (now (lent .entry)) (tattach m) (now (out .entry)) p (now (out .exit)) r ⌝ }
 {
     let end = lay_tattach(out, p, lent, m, laying::CHECK);
     let start = laying::begun(p, end, out.len());
@@ -172,7 +172,7 @@ pub struct ReadRattach {
 }
 
 pub fn read_rattach(s: &[u8], p: Place) -> ReadRattach
-    ensures { λ r. ⌜ Fields (layoutR 105) (now (s .entry)) p (rattach (r .value)) (r .next) ⌝ }
+    ensures { λ r. ⌜ Fields layoutRattach (now (s .entry)) p (rattach (r .value)) (r .next) ⌝ }
 {
     let r1 = qids::read_qid(s, p);
     let p1 = r1.next;
@@ -182,14 +182,14 @@ pub fn read_rattach(s: &[u8], p: Place) -> ReadRattach
 }
 
 fn lay_rattach(out: &mut [u8], p: Place, lent: &[u8], m: Rattach, put: bool) -> Place
-    ensures { λ r. ⌜ Laid (layoutR 105) (now (lent .entry)) (rattach m) put (now (out .entry)) p (now (out .exit)) r ⌝ }
+    ensures { λ r. ⌜ Laid layoutRattach (now (lent .entry)) (rattach m) put (now (out .entry)) p (now (out .exit)) r ⌝ }
 {
     let qid = m.qid;
     qids::lay_qid(out, p, lent, qid, put)
 }
 
 pub fn write_rattach(out: &mut [u8], p: Place, lent: &[u8], m: Rattach) -> Place
-    ensures { λ r. ⌜ Written (layoutR 105) (now (lent .entry)) (rattach m) (now (out .entry)) p (now (out .exit)) r ⌝ }
+    ensures { λ r. ⌜ Written layoutRattach (now (lent .entry)) (rattach m) (now (out .entry)) p (now (out .exit)) r ⌝ }
 {
     let end = lay_rattach(out, p, lent, m, laying::CHECK);
     let start = laying::begun(p, end, out.len());
@@ -206,7 +206,7 @@ pub struct ReadRlerror {
 }
 
 pub fn read_rlerror(s: &[u8], p: Place) -> ReadRlerror
-    ensures { λ r. ⌜ Fields (layoutR 7) (now (s .entry)) p (rlerror (r .value)) (r .next) ⌝ }
+    ensures { λ r. ⌜ Fields layoutRlerror (now (s .entry)) p (rlerror (r .value)) (r .next) ⌝ }
 {
     let r1 = numbers::read_u32(s, p);
     let p1 = r1.next;
@@ -215,13 +215,13 @@ pub fn read_rlerror(s: &[u8], p: Place) -> ReadRlerror
 }
 
 fn lay_rlerror(out: &mut [u8], p: Place, lent: &[u8], m: Rlerror, put: bool) -> Place
-    ensures { λ r. ⌜ Laid (layoutR 7) (now (lent .entry)) (rlerror m) put (now (out .entry)) p (now (out .exit)) r ⌝ }
+    ensures { λ r. ⌜ Laid layoutRlerror (now (lent .entry)) (rlerror m) put (now (out .entry)) p (now (out .exit)) r ⌝ }
 {
     laying::lay_u32(out, p, m.ecode, put)
 }
 
 pub fn write_rlerror(out: &mut [u8], p: Place, lent: &[u8], m: Rlerror) -> Place
-    ensures { λ r. ⌜ Written (layoutR 7) (now (lent .entry)) (rlerror m) (now (out .entry)) p (now (out .exit)) r ⌝ }
+    ensures { λ r. ⌜ Written layoutRlerror (now (lent .entry)) (rlerror m) (now (out .entry)) p (now (out .exit)) r ⌝ }
 {
     let end = lay_rlerror(out, p, lent, m, laying::CHECK);
     let start = laying::begun(p, end, out.len());

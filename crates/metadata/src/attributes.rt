@@ -9,7 +9,7 @@ use numbers::Place;
 use strings::Span;
 ghost use Rattle.fields.specs.Fields.{Fields};
 ghost use Rattle.laying.specs.Laying.{Laid, Written};
-ghost use Rattle.layouts.specs.Tables.{layoutT, layoutR};
+ghost use Rattle.layouts.specs.Tables.{layoutTstatfs, layoutRstatfs, layoutTgetattr, layoutRgetattr, layoutTsetattr, layoutTxattrwalk, layoutRxattrwalk, layoutTxattrcreate};
 ghost use Rattle.metadata.specs.Records.{tstatfs, rstatfs, tgetattr, rgetattr, tsetattr, txattrwalk, rxattrwalk, txattrcreate};
 
 pub struct Tstatfs {
@@ -22,7 +22,7 @@ pub struct ReadTstatfs {
 }
 
 pub fn read_tstatfs(s: &[u8], p: Place) -> ReadTstatfs
-    ensures { λ r. ⌜ Fields (layoutT 8) (now (s .entry)) p (tstatfs (r .value)) (r .next) ⌝ }
+    ensures { λ r. ⌜ Fields layoutTstatfs (now (s .entry)) p (tstatfs (r .value)) (r .next) ⌝ }
 {
     let r1 = numbers::read_u32(s, p);
     let p1 = r1.next;
@@ -32,14 +32,14 @@ pub fn read_tstatfs(s: &[u8], p: Place) -> ReadTstatfs
 }
 
 fn lay_tstatfs(out: &mut [u8], p: Place, lent: &[u8], m: Tstatfs, put: bool) -> Place
-    ensures { λ r. ⌜ Laid (layoutT 8) (now (lent .entry)) (tstatfs m) put (now (out .entry)) p (now (out .exit)) r ⌝ }
+    ensures { λ r. ⌜ Laid layoutTstatfs (now (lent .entry)) (tstatfs m) put (now (out .entry)) p (now (out .exit)) r ⌝ }
 {
     let fid = m.fid;
     laying::lay_u32(out, p, fid.0, put)
 }
 
 pub fn write_tstatfs(out: &mut [u8], p: Place, lent: &[u8], m: Tstatfs) -> Place
-    ensures { λ r. ⌜ Written (layoutT 8) (now (lent .entry)) (tstatfs m) (now (out .entry)) p (now (out .exit)) r ⌝ }
+    ensures { λ r. ⌜ Written layoutTstatfs (now (lent .entry)) (tstatfs m) (now (out .entry)) p (now (out .exit)) r ⌝ }
 {
     let end = lay_tstatfs(out, p, lent, m, laying::CHECK);
     let start = laying::begun(p, end, out.len());
@@ -64,7 +64,7 @@ pub struct ReadRstatfs {
 }
 
 pub fn read_rstatfs(s: &[u8], p: Place) -> ReadRstatfs
-    ensures { λ r. ⌜ Fields (layoutR 9) (now (s .entry)) p (rstatfs (r .value)) (r .next) ⌝ }
+    ensures { λ r. ⌜ Fields layoutRstatfs (now (s .entry)) p (rstatfs (r .value)) (r .next) ⌝ }
 {
     let r1 = numbers::read_u32(s, p);
     let p1 = r1.next;
@@ -99,7 +99,7 @@ pub fn read_rstatfs(s: &[u8], p: Place) -> ReadRstatfs
 }
 
 fn lay_rstatfs(out: &mut [u8], p: Place, lent: &[u8], m: Rstatfs, put: bool) -> Place
-    ensures { λ r. ⌜ Laid (layoutR 9) (now (lent .entry)) (rstatfs m) put (now (out .entry)) p (now (out .exit)) r ⌝ }
+    ensures { λ r. ⌜ Laid layoutRstatfs (now (lent .entry)) (rstatfs m) put (now (out .entry)) p (now (out .exit)) r ⌝ }
 {
     let p1 = laying::lay_u32(out, p, m.ty, put);
     let p2 = laying::lay_u32(out, p1, m.bsize, put);
@@ -113,7 +113,7 @@ fn lay_rstatfs(out: &mut [u8], p: Place, lent: &[u8], m: Rstatfs, put: bool) -> 
 }
 
 pub fn write_rstatfs(out: &mut [u8], p: Place, lent: &[u8], m: Rstatfs) -> Place
-    ensures { λ r. ⌜ Written (layoutR 9) (now (lent .entry)) (rstatfs m) (now (out .entry)) p (now (out .exit)) r ⌝ }
+    ensures { λ r. ⌜ Written layoutRstatfs (now (lent .entry)) (rstatfs m) (now (out .entry)) p (now (out .exit)) r ⌝ }
 {
     let end = lay_rstatfs(out, p, lent, m, laying::CHECK);
     let start = laying::begun(p, end, out.len());
@@ -131,7 +131,7 @@ pub struct ReadTgetattr {
 }
 
 pub fn read_tgetattr(s: &[u8], p: Place) -> ReadTgetattr
-    ensures { λ r. ⌜ Fields (layoutT 24) (now (s .entry)) p (tgetattr (r .value)) (r .next) ⌝ }
+    ensures { λ r. ⌜ Fields layoutTgetattr (now (s .entry)) p (tgetattr (r .value)) (r .next) ⌝ }
 {
     let r1 = numbers::read_u32(s, p);
     let p1 = r1.next;
@@ -146,7 +146,7 @@ pub fn read_tgetattr(s: &[u8], p: Place) -> ReadTgetattr
 }
 
 fn lay_tgetattr(out: &mut [u8], p: Place, lent: &[u8], m: Tgetattr, put: bool) -> Place
-    ensures { λ r. ⌜ Laid (layoutT 24) (now (lent .entry)) (tgetattr m) put (now (out .entry)) p (now (out .exit)) r ⌝ }
+    ensures { λ r. ⌜ Laid layoutTgetattr (now (lent .entry)) (tgetattr m) put (now (out .entry)) p (now (out .exit)) r ⌝ }
 {
     let fid = m.fid;
     let p1 = laying::lay_u32(out, p, fid.0, put);
@@ -154,7 +154,7 @@ fn lay_tgetattr(out: &mut [u8], p: Place, lent: &[u8], m: Tgetattr, put: bool) -
 }
 
 pub fn write_tgetattr(out: &mut [u8], p: Place, lent: &[u8], m: Tgetattr) -> Place
-    ensures { λ r. ⌜ Written (layoutT 24) (now (lent .entry)) (tgetattr m) (now (out .entry)) p (now (out .exit)) r ⌝ }
+    ensures { λ r. ⌜ Written layoutTgetattr (now (lent .entry)) (tgetattr m) (now (out .entry)) p (now (out .exit)) r ⌝ }
 {
     let end = lay_tgetattr(out, p, lent, m, laying::CHECK);
     let start = laying::begun(p, end, out.len());
@@ -190,7 +190,7 @@ pub struct ReadRgetattr {
 }
 
 pub fn read_rgetattr(s: &[u8], p: Place) -> ReadRgetattr
-    ensures { λ r. ⌜ Fields (layoutR 25) (now (s .entry)) p (rgetattr (r .value)) (r .next) ⌝ }
+    ensures { λ r. ⌜ Fields layoutRgetattr (now (s .entry)) p (rgetattr (r .value)) (r .next) ⌝ }
 {
     let r1 = numbers::read_u64(s, p);
     let p1 = r1.next;
@@ -260,7 +260,7 @@ pub fn read_rgetattr(s: &[u8], p: Place) -> ReadRgetattr
 }
 
 fn lay_rgetattr(out: &mut [u8], p: Place, lent: &[u8], m: Rgetattr, put: bool) -> Place
-    ensures { λ r. ⌜ Laid (layoutR 25) (now (lent .entry)) (rgetattr m) put (now (out .entry)) p (now (out .exit)) r ⌝ }
+    ensures { λ r. ⌜ Laid layoutRgetattr (now (lent .entry)) (rgetattr m) put (now (out .entry)) p (now (out .exit)) r ⌝ }
 {
     let p1 = laying::lay_u64(out, p, m.valid, put);
     let qid = m.qid;
@@ -287,7 +287,7 @@ fn lay_rgetattr(out: &mut [u8], p: Place, lent: &[u8], m: Rgetattr, put: bool) -
 }
 
 pub fn write_rgetattr(out: &mut [u8], p: Place, lent: &[u8], m: Rgetattr) -> Place
-    ensures { λ r. ⌜ Written (layoutR 25) (now (lent .entry)) (rgetattr m) (now (out .entry)) p (now (out .exit)) r ⌝ }
+    ensures { λ r. ⌜ Written layoutRgetattr (now (lent .entry)) (rgetattr m) (now (out .entry)) p (now (out .exit)) r ⌝ }
 {
     let end = lay_rgetattr(out, p, lent, m, laying::CHECK);
     let start = laying::begun(p, end, out.len());
@@ -313,7 +313,7 @@ pub struct ReadTsetattr {
 }
 
 pub fn read_tsetattr(s: &[u8], p: Place) -> ReadTsetattr
-    ensures { λ r. ⌜ Fields (layoutT 26) (now (s .entry)) p (tsetattr (r .value)) (r .next) ⌝ }
+    ensures { λ r. ⌜ Fields layoutTsetattr (now (s .entry)) p (tsetattr (r .value)) (r .next) ⌝ }
 {
     let r1 = numbers::read_u32(s, p);
     let p1 = r1.next;
@@ -353,7 +353,7 @@ pub fn read_tsetattr(s: &[u8], p: Place) -> ReadTsetattr
 }
 
 fn lay_tsetattr(out: &mut [u8], p: Place, lent: &[u8], m: Tsetattr, put: bool) -> Place
-    ensures { λ r. ⌜ Laid (layoutT 26) (now (lent .entry)) (tsetattr m) put (now (out .entry)) p (now (out .exit)) r ⌝ }
+    ensures { λ r. ⌜ Laid layoutTsetattr (now (lent .entry)) (tsetattr m) put (now (out .entry)) p (now (out .exit)) r ⌝ }
 {
     let fid = m.fid;
     let p1 = laying::lay_u32(out, p, fid.0, put);
@@ -370,7 +370,7 @@ fn lay_tsetattr(out: &mut [u8], p: Place, lent: &[u8], m: Tsetattr, put: bool) -
 }
 
 pub fn write_tsetattr(out: &mut [u8], p: Place, lent: &[u8], m: Tsetattr) -> Place
-    ensures { λ r. ⌜ Written (layoutT 26) (now (lent .entry)) (tsetattr m) (now (out .entry)) p (now (out .exit)) r ⌝ }
+    ensures { λ r. ⌜ Written layoutTsetattr (now (lent .entry)) (tsetattr m) (now (out .entry)) p (now (out .exit)) r ⌝ }
 {
     let end = lay_tsetattr(out, p, lent, m, laying::CHECK);
     let start = laying::begun(p, end, out.len());
@@ -389,7 +389,7 @@ pub struct ReadTxattrwalk {
 }
 
 pub fn read_txattrwalk(s: &[u8], p: Place) -> ReadTxattrwalk
-    ensures { λ r. ⌜ Fields (layoutT 30) (now (s .entry)) p (txattrwalk (r .value)) (r .next) ⌝ }
+    ensures { λ r. ⌜ Fields layoutTxattrwalk (now (s .entry)) p (txattrwalk (r .value)) (r .next) ⌝ }
 {
     let r1 = numbers::read_u32(s, p);
     let p1 = r1.next;
@@ -405,7 +405,7 @@ pub fn read_txattrwalk(s: &[u8], p: Place) -> ReadTxattrwalk
 }
 
 fn lay_txattrwalk(out: &mut [u8], p: Place, lent: &[u8], m: Txattrwalk, put: bool) -> Place
-    ensures { λ r. ⌜ Laid (layoutT 30) (now (lent .entry)) (txattrwalk m) put (now (out .entry)) p (now (out .exit)) r ⌝ }
+    ensures { λ r. ⌜ Laid layoutTxattrwalk (now (lent .entry)) (txattrwalk m) put (now (out .entry)) p (now (out .exit)) r ⌝ }
 {
     let fid = m.fid;
     let p1 = laying::lay_u32(out, p, fid.0, put);
@@ -416,7 +416,7 @@ fn lay_txattrwalk(out: &mut [u8], p: Place, lent: &[u8], m: Txattrwalk, put: boo
 }
 
 pub fn write_txattrwalk(out: &mut [u8], p: Place, lent: &[u8], m: Txattrwalk) -> Place
-    ensures { λ r. ⌜ Written (layoutT 30) (now (lent .entry)) (txattrwalk m) (now (out .entry)) p (now (out .exit)) r ⌝ }
+    ensures { λ r. ⌜ Written layoutTxattrwalk (now (lent .entry)) (txattrwalk m) (now (out .entry)) p (now (out .exit)) r ⌝ }
 {
     let end = lay_txattrwalk(out, p, lent, m, laying::CHECK);
     let start = laying::begun(p, end, out.len());
@@ -433,7 +433,7 @@ pub struct ReadRxattrwalk {
 }
 
 pub fn read_rxattrwalk(s: &[u8], p: Place) -> ReadRxattrwalk
-    ensures { λ r. ⌜ Fields (layoutR 31) (now (s .entry)) p (rxattrwalk (r .value)) (r .next) ⌝ }
+    ensures { λ r. ⌜ Fields layoutRxattrwalk (now (s .entry)) p (rxattrwalk (r .value)) (r .next) ⌝ }
 {
     let r1 = numbers::read_u64(s, p);
     let p1 = r1.next;
@@ -442,13 +442,13 @@ pub fn read_rxattrwalk(s: &[u8], p: Place) -> ReadRxattrwalk
 }
 
 fn lay_rxattrwalk(out: &mut [u8], p: Place, lent: &[u8], m: Rxattrwalk, put: bool) -> Place
-    ensures { λ r. ⌜ Laid (layoutR 31) (now (lent .entry)) (rxattrwalk m) put (now (out .entry)) p (now (out .exit)) r ⌝ }
+    ensures { λ r. ⌜ Laid layoutRxattrwalk (now (lent .entry)) (rxattrwalk m) put (now (out .entry)) p (now (out .exit)) r ⌝ }
 {
     laying::lay_u64(out, p, m.size, put)
 }
 
 pub fn write_rxattrwalk(out: &mut [u8], p: Place, lent: &[u8], m: Rxattrwalk) -> Place
-    ensures { λ r. ⌜ Written (layoutR 31) (now (lent .entry)) (rxattrwalk m) (now (out .entry)) p (now (out .exit)) r ⌝ }
+    ensures { λ r. ⌜ Written layoutRxattrwalk (now (lent .entry)) (rxattrwalk m) (now (out .entry)) p (now (out .exit)) r ⌝ }
 {
     let end = lay_rxattrwalk(out, p, lent, m, laying::CHECK);
     let start = laying::begun(p, end, out.len());
@@ -468,7 +468,7 @@ pub struct ReadTxattrcreate {
 }
 
 pub fn read_txattrcreate(s: &[u8], p: Place) -> ReadTxattrcreate
-    ensures { λ r. ⌜ Fields (layoutT 32) (now (s .entry)) p (txattrcreate (r .value)) (r .next) ⌝ }
+    ensures { λ r. ⌜ Fields layoutTxattrcreate (now (s .entry)) p (txattrcreate (r .value)) (r .next) ⌝ }
 {
     let r1 = numbers::read_u32(s, p);
     let p1 = r1.next;
@@ -490,7 +490,7 @@ pub fn read_txattrcreate(s: &[u8], p: Place) -> ReadTxattrcreate
 }
 
 fn lay_txattrcreate(out: &mut [u8], p: Place, lent: &[u8], m: Txattrcreate, put: bool) -> Place
-    ensures { λ r. ⌜ Laid (layoutT 32) (now (lent .entry)) (txattrcreate m) put (now (out .entry)) p (now (out .exit)) r ⌝ }
+    ensures { λ r. ⌜ Laid layoutTxattrcreate (now (lent .entry)) (txattrcreate m) put (now (out .entry)) p (now (out .exit)) r ⌝ }
 {
     let fid = m.fid;
     let p1 = laying::lay_u32(out, p, fid.0, put);
@@ -501,7 +501,7 @@ fn lay_txattrcreate(out: &mut [u8], p: Place, lent: &[u8], m: Txattrcreate, put:
 }
 
 pub fn write_txattrcreate(out: &mut [u8], p: Place, lent: &[u8], m: Txattrcreate) -> Place
-    ensures { λ r. ⌜ Written (layoutT 32) (now (lent .entry)) (txattrcreate m) (now (out .entry)) p (now (out .exit)) r ⌝ }
+    ensures { λ r. ⌜ Written layoutTxattrcreate (now (lent .entry)) (txattrcreate m) (now (out .entry)) p (now (out .exit)) r ⌝ }
 {
     let end = lay_txattrcreate(out, p, lent, m, laying::CHECK);
     let start = laying::begun(p, end, out.len());

@@ -6,7 +6,7 @@ use numbers::Place;
 use strings::Span;
 ghost use Rattle.fields.specs.Fields.{Fields};
 ghost use Rattle.laying.specs.Laying.{Laid, Written};
-ghost use Rattle.layouts.specs.Tables.{layoutT, layoutR};
+ghost use Rattle.layouts.specs.Tables.{layoutTlock, layoutRlock, layoutTgetlock, layoutRgetlock};
 ghost use Rattle.metadata.specs.Records.{tlock, rlock, tgetlock, rgetlock};
 
 pub struct Tlock {
@@ -25,7 +25,7 @@ pub struct ReadTlock {
 }
 
 pub fn read_tlock(s: &[u8], p: Place) -> ReadTlock
-    ensures { λ r. ⌜ Fields (layoutT 52) (now (s .entry)) p (tlock (r .value)) (r .next) ⌝ }
+    ensures { λ r. ⌜ Fields layoutTlock (now (s .entry)) p (tlock (r .value)) (r .next) ⌝ }
 {
     let r1 = numbers::read_u32(s, p);
     let p1 = r1.next;
@@ -56,7 +56,7 @@ pub fn read_tlock(s: &[u8], p: Place) -> ReadTlock
 }
 
 fn lay_tlock(out: &mut [u8], p: Place, lent: &[u8], m: Tlock, put: bool) -> Place
-    ensures { λ r. ⌜ Laid (layoutT 52) (now (lent .entry)) (tlock m) put (now (out .entry)) p (now (out .exit)) r ⌝ }
+    ensures { λ r. ⌜ Laid layoutTlock (now (lent .entry)) (tlock m) put (now (out .entry)) p (now (out .exit)) r ⌝ }
 {
     let fid = m.fid;
     let p1 = laying::lay_u32(out, p, fid.0, put);
@@ -70,7 +70,7 @@ fn lay_tlock(out: &mut [u8], p: Place, lent: &[u8], m: Tlock, put: bool) -> Plac
 }
 
 pub fn write_tlock(out: &mut [u8], p: Place, lent: &[u8], m: Tlock) -> Place
-    ensures { λ r. ⌜ Written (layoutT 52) (now (lent .entry)) (tlock m) (now (out .entry)) p (now (out .exit)) r ⌝ }
+    ensures { λ r. ⌜ Written layoutTlock (now (lent .entry)) (tlock m) (now (out .entry)) p (now (out .exit)) r ⌝ }
 {
     let end = lay_tlock(out, p, lent, m, laying::CHECK);
     let start = laying::begun(p, end, out.len());
@@ -87,7 +87,7 @@ pub struct ReadRlock {
 }
 
 pub fn read_rlock(s: &[u8], p: Place) -> ReadRlock
-    ensures { λ r. ⌜ Fields (layoutR 53) (now (s .entry)) p (rlock (r .value)) (r .next) ⌝ }
+    ensures { λ r. ⌜ Fields layoutRlock (now (s .entry)) p (rlock (r .value)) (r .next) ⌝ }
 {
     let r1 = numbers::read_u8(s, p);
     let p1 = r1.next;
@@ -96,13 +96,13 @@ pub fn read_rlock(s: &[u8], p: Place) -> ReadRlock
 }
 
 fn lay_rlock(out: &mut [u8], p: Place, lent: &[u8], m: Rlock, put: bool) -> Place
-    ensures { λ r. ⌜ Laid (layoutR 53) (now (lent .entry)) (rlock m) put (now (out .entry)) p (now (out .exit)) r ⌝ }
+    ensures { λ r. ⌜ Laid layoutRlock (now (lent .entry)) (rlock m) put (now (out .entry)) p (now (out .exit)) r ⌝ }
 {
     laying::lay_u8(out, p, m.status, put)
 }
 
 pub fn write_rlock(out: &mut [u8], p: Place, lent: &[u8], m: Rlock) -> Place
-    ensures { λ r. ⌜ Written (layoutR 53) (now (lent .entry)) (rlock m) (now (out .entry)) p (now (out .exit)) r ⌝ }
+    ensures { λ r. ⌜ Written layoutRlock (now (lent .entry)) (rlock m) (now (out .entry)) p (now (out .exit)) r ⌝ }
 {
     let end = lay_rlock(out, p, lent, m, laying::CHECK);
     let start = laying::begun(p, end, out.len());
@@ -124,7 +124,7 @@ pub struct ReadTgetlock {
 }
 
 pub fn read_tgetlock(s: &[u8], p: Place) -> ReadTgetlock
-    ensures { λ r. ⌜ Fields (layoutT 54) (now (s .entry)) p (tgetlock (r .value)) (r .next) ⌝ }
+    ensures { λ r. ⌜ Fields layoutTgetlock (now (s .entry)) p (tgetlock (r .value)) (r .next) ⌝ }
 {
     let r1 = numbers::read_u32(s, p);
     let p1 = r1.next;
@@ -152,7 +152,7 @@ pub fn read_tgetlock(s: &[u8], p: Place) -> ReadTgetlock
 }
 
 fn lay_tgetlock(out: &mut [u8], p: Place, lent: &[u8], m: Tgetlock, put: bool) -> Place
-    ensures { λ r. ⌜ Laid (layoutT 54) (now (lent .entry)) (tgetlock m) put (now (out .entry)) p (now (out .exit)) r ⌝ }
+    ensures { λ r. ⌜ Laid layoutTgetlock (now (lent .entry)) (tgetlock m) put (now (out .entry)) p (now (out .exit)) r ⌝ }
 {
     let fid = m.fid;
     let p1 = laying::lay_u32(out, p, fid.0, put);
@@ -165,7 +165,7 @@ fn lay_tgetlock(out: &mut [u8], p: Place, lent: &[u8], m: Tgetlock, put: bool) -
 }
 
 pub fn write_tgetlock(out: &mut [u8], p: Place, lent: &[u8], m: Tgetlock) -> Place
-    ensures { λ r. ⌜ Written (layoutT 54) (now (lent .entry)) (tgetlock m) (now (out .entry)) p (now (out .exit)) r ⌝ }
+    ensures { λ r. ⌜ Written layoutTgetlock (now (lent .entry)) (tgetlock m) (now (out .entry)) p (now (out .exit)) r ⌝ }
 {
     let end = lay_tgetlock(out, p, lent, m, laying::CHECK);
     let start = laying::begun(p, end, out.len());
@@ -186,7 +186,7 @@ pub struct ReadRgetlock {
 }
 
 pub fn read_rgetlock(s: &[u8], p: Place) -> ReadRgetlock
-    ensures { λ r. ⌜ Fields (layoutR 55) (now (s .entry)) p (rgetlock (r .value)) (r .next) ⌝ }
+    ensures { λ r. ⌜ Fields layoutRgetlock (now (s .entry)) p (rgetlock (r .value)) (r .next) ⌝ }
 {
     let r1 = numbers::read_u8(s, p);
     let p1 = r1.next;
@@ -210,7 +210,7 @@ pub fn read_rgetlock(s: &[u8], p: Place) -> ReadRgetlock
 }
 
 fn lay_rgetlock(out: &mut [u8], p: Place, lent: &[u8], m: Rgetlock, put: bool) -> Place
-    ensures { λ r. ⌜ Laid (layoutR 55) (now (lent .entry)) (rgetlock m) put (now (out .entry)) p (now (out .exit)) r ⌝ }
+    ensures { λ r. ⌜ Laid layoutRgetlock (now (lent .entry)) (rgetlock m) put (now (out .entry)) p (now (out .exit)) r ⌝ }
 {
     let p1 = laying::lay_u8(out, p, m.type_, put);
     let p2 = laying::lay_u64(out, p1, m.start, put);
@@ -221,7 +221,7 @@ fn lay_rgetlock(out: &mut [u8], p: Place, lent: &[u8], m: Rgetlock, put: bool) -
 }
 
 pub fn write_rgetlock(out: &mut [u8], p: Place, lent: &[u8], m: Rgetlock) -> Place
-    ensures { λ r. ⌜ Written (layoutR 55) (now (lent .entry)) (rgetlock m) (now (out .entry)) p (now (out .exit)) r ⌝ }
+    ensures { λ r. ⌜ Written layoutRgetlock (now (lent .entry)) (rgetlock m) (now (out .entry)) p (now (out .exit)) r ⌝ }
 {
     let end = lay_rgetlock(out, p, lent, m, laying::CHECK);
     let start = laying::begun(p, end, out.len());

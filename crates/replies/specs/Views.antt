@@ -1,8 +1,10 @@
 -- Written by tools/messages from its table of messages.
--- For each case of `Rmessage` this paper's number, and its values.
+-- For each case of `Rmessage` this paper's number, its layout, and its values.
 use Prim.Native.Nat.{ℕ}
 use mathlib.Core.List.{List, []}
+use Rattle.fields.specs.Layouts.{Layout}
 use Rattle.fields.specs.Values.{Value}
+use Rattle.layouts.specs.Tables.{layoutRversion, layoutRflush, layoutRwalk, layoutRread, layoutRwrite, layoutRclunk, layoutRremove, layoutRattach, layoutRauth, layoutRstatfs, layoutRlopen, layoutRlcreate, layoutRsymlink, layoutRmknod, layoutRrename, layoutRreadlink, layoutRgetattr, layoutRsetattr, layoutRxattrwalk, layoutRxattrcreate, layoutRreaddir, layoutRfsync, layoutRlock, layoutRgetlock, layoutRlink, layoutRmkdir, layoutRrenameat, layoutRunlinkat, layoutRlerror}
 use Rattle.common.specs.Records.{rversion, rwalk, rread, rwrite}
 use Rattle.messages.specs.Records.{rattach, rauth, rlopen, rlcreate, rsymlink, rmknod, rreadlink, rreaddir, rmkdir, rlerror}
 use Rattle.metadata.specs.Records.{rstatfs, rgetattr, rxattrwalk, rlock, rgetlock}
@@ -42,6 +44,37 @@ typeR (M.Mkdir m) = 73
 typeR M.RenameAt = 75
 typeR M.UnlinkAt = 77
 typeR (M.Lerror m) = 7
+
+unfoldable pub layoutR : Rmessage → Layout
+layoutR (M.Version m) = layoutRversion
+layoutR M.Flush = layoutRflush
+layoutR (M.Walk m) = layoutRwalk
+layoutR (M.Read m) = layoutRread
+layoutR (M.Write m) = layoutRwrite
+layoutR M.Clunk = layoutRclunk
+layoutR M.Remove = layoutRremove
+layoutR (M.Attach m) = layoutRattach
+layoutR (M.Auth m) = layoutRauth
+layoutR (M.Statfs m) = layoutRstatfs
+layoutR (M.Lopen m) = layoutRlopen
+layoutR (M.Lcreate m) = layoutRlcreate
+layoutR (M.Symlink m) = layoutRsymlink
+layoutR (M.Mknod m) = layoutRmknod
+layoutR M.Rename = layoutRrename
+layoutR (M.Readlink m) = layoutRreadlink
+layoutR (M.GetAttr m) = layoutRgetattr
+layoutR M.SetAttr = layoutRsetattr
+layoutR (M.XattrWalk m) = layoutRxattrwalk
+layoutR M.XattrCreate = layoutRxattrcreate
+layoutR (M.Readdir m) = layoutRreaddir
+layoutR M.Fsync = layoutRfsync
+layoutR (M.Lock m) = layoutRlock
+layoutR (M.GetLock m) = layoutRgetlock
+layoutR M.Link = layoutRlink
+layoutR (M.Mkdir m) = layoutRmkdir
+layoutR M.RenameAt = layoutRrenameat
+layoutR M.UnlinkAt = layoutRunlinkat
+layoutR (M.Lerror m) = layoutRlerror
 
 unfoldable pub valuesR : Rmessage → List Value
 valuesR (M.Version m) = rversion m

@@ -24,9 +24,9 @@ use numbers::Place;
 use numbers::Refusal;
 ghost use mathlib.Core.Path.{_≡_};
 ghost use Rattle.laying.specs.Laying.{Written};
-ghost use Rattle.layouts.specs.Tables.{tableR, layoutR};
+ghost use Rattle.layouts.specs.Tables.{tableR};
 ghost use Rattle.layouts.specs.Bodies.{readBody, finishAt};
-ghost use Rattle.replies.specs.Views.{typeR, valuesR, viewR};
+ghost use Rattle.replies.specs.Views.{typeR, layoutR, valuesR, viewR};
 
 pub enum Rmessage {
     Version(Rversion),
@@ -247,7 +247,7 @@ pub fn type_of(m: Rmessage) -> u8
 
 // A body written at a place: its fields' refusals in order, then 10, then 11; a refusal leaves the output as it was.
 pub fn write_rmessage(out: &mut [u8], p: Place, lent: &[u8], m: Rmessage) -> Place
-    ensures { λ r. ⌜ Written (layoutR (typeR m)) (now (lent .entry)) (valuesR m) (now (out .entry)) p (now (out .exit)) r ⌝ }
+    ensures { λ r. ⌜ Written (layoutR m) (now (lent .entry)) (valuesR m) (now (out .entry)) p (now (out .exit)) r ⌝ }
 {
     match m {
         Rmessage::Version(x) => common::sessions::write_rversion(out, p, lent, x),

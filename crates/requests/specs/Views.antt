@@ -1,8 +1,10 @@
 -- Written by tools/messages from its table of messages.
--- For each case of `Tmessage` this paper's number, and its values.
+-- For each case of `Tmessage` this paper's number, its layout, and its values.
 use Prim.Native.Nat.{ℕ}
 use mathlib.Core.List.{List, []}
+use Rattle.fields.specs.Layouts.{Layout}
 use Rattle.fields.specs.Values.{Value}
+use Rattle.layouts.specs.Tables.{layoutTversion, layoutTflush, layoutTwalk, layoutTread, layoutTwrite, layoutTclunk, layoutTremove, layoutTattach, layoutTauth, layoutTstatfs, layoutTlopen, layoutTlcreate, layoutTsymlink, layoutTmknod, layoutTrename, layoutTreadlink, layoutTgetattr, layoutTsetattr, layoutTxattrwalk, layoutTxattrcreate, layoutTreaddir, layoutTfsync, layoutTlock, layoutTgetlock, layoutTlink, layoutTmkdir, layoutTrenameat, layoutTunlinkat}
 use Rattle.common.specs.Records.{tversion, tflush, twalk, tread, twrite, tclunk, tremove}
 use Rattle.messages.specs.Records.{tattach, tauth, tlopen, tlcreate, tsymlink, tmknod, trename, treadlink, treaddir, tfsync, tlink, tmkdir, trenameat, tunlinkat}
 use Rattle.metadata.specs.Records.{tstatfs, tgetattr, tsetattr, txattrwalk, txattrcreate, tlock, tgetlock}
@@ -41,6 +43,36 @@ typeT (M.Link m) = 70
 typeT (M.Mkdir m) = 72
 typeT (M.RenameAt m) = 74
 typeT (M.UnlinkAt m) = 76
+
+unfoldable pub layoutT : Tmessage → Layout
+layoutT (M.Version m) = layoutTversion
+layoutT (M.Flush m) = layoutTflush
+layoutT (M.Walk m) = layoutTwalk
+layoutT (M.Read m) = layoutTread
+layoutT (M.Write m) = layoutTwrite
+layoutT (M.Clunk m) = layoutTclunk
+layoutT (M.Remove m) = layoutTremove
+layoutT (M.Attach m) = layoutTattach
+layoutT (M.Auth m) = layoutTauth
+layoutT (M.Statfs m) = layoutTstatfs
+layoutT (M.Lopen m) = layoutTlopen
+layoutT (M.Lcreate m) = layoutTlcreate
+layoutT (M.Symlink m) = layoutTsymlink
+layoutT (M.Mknod m) = layoutTmknod
+layoutT (M.Rename m) = layoutTrename
+layoutT (M.Readlink m) = layoutTreadlink
+layoutT (M.GetAttr m) = layoutTgetattr
+layoutT (M.SetAttr m) = layoutTsetattr
+layoutT (M.XattrWalk m) = layoutTxattrwalk
+layoutT (M.XattrCreate m) = layoutTxattrcreate
+layoutT (M.Readdir m) = layoutTreaddir
+layoutT (M.Fsync m) = layoutTfsync
+layoutT (M.Lock m) = layoutTlock
+layoutT (M.GetLock m) = layoutTgetlock
+layoutT (M.Link m) = layoutTlink
+layoutT (M.Mkdir m) = layoutTmkdir
+layoutT (M.RenameAt m) = layoutTrenameat
+layoutT (M.UnlinkAt m) = layoutTunlinkat
 
 unfoldable pub valuesT : Tmessage → List Value
 valuesT (M.Version m) = tversion m

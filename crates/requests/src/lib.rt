@@ -33,9 +33,9 @@ use numbers::Place;
 use numbers::Refusal;
 ghost use mathlib.Core.Path.{_≡_};
 ghost use Rattle.laying.specs.Laying.{Written};
-ghost use Rattle.layouts.specs.Tables.{tableT, layoutT};
+ghost use Rattle.layouts.specs.Tables.{tableT};
 ghost use Rattle.layouts.specs.Bodies.{readBody, finishAt};
-ghost use Rattle.requests.specs.Views.{typeT, valuesT, viewT};
+ghost use Rattle.requests.specs.Views.{typeT, layoutT, valuesT, viewT};
 
 pub enum Tmessage {
     Version(Tversion),
@@ -298,7 +298,7 @@ pub fn type_of(m: Tmessage) -> u8
 
 // A body written at a place: its fields' refusals in order, then 10, then 11; a refusal leaves the output as it was.
 pub fn write_tmessage(out: &mut [u8], p: Place, lent: &[u8], m: Tmessage) -> Place
-    ensures { λ r. ⌜ Written (layoutT (typeT m)) (now (lent .entry)) (valuesT m) (now (out .entry)) p (now (out .exit)) r ⌝ }
+    ensures { λ r. ⌜ Written (layoutT m) (now (lent .entry)) (valuesT m) (now (out .entry)) p (now (out .exit)) r ⌝ }
 {
     match m {
         Tmessage::Version(x) => common::sessions::write_tversion(out, p, lent, x),

@@ -12,12 +12,12 @@ use Rattle.numbers.specs.declared.Refusal.the-variants as R
 use Rattle.numbers.specs.declared.Place.{Place}
 use Rattle.numbers.specs.declared.Place.the-variants.{At}
 use Rattle.fields.specs.Values.{Value}
-use Rattle.layouts.specs.Tables.{tableT, tableR, layoutT, layoutR}
+use Rattle.layouts.specs.Tables.{tableT, tableR}
 use Rattle.layouts.specs.Bodies.{accepted, refused}
-use Rattle.requests.specs.Views.{typeT, valuesT, viewT}
+use Rattle.requests.specs.Views.{typeT, layoutT, valuesT, viewT}
 use Rattle.requests.specs.declared.Tmessage.{Tmessage}
 use Rattle.requests.specs.declared.Tbody.the-variants as M
-use Rattle.replies.specs.Views.{typeR, valuesR}
+use Rattle.replies.specs.Views.{typeR, layoutR, valuesR}
 use Rattle.framing.specs.Frames.{Frame, headless, framed, refusedWhole, readFrame}
 use Rattle.framing.specs.Writing.{FrameWritten}
 use Rattle.frames.specs.Views.{viewTframe, viewRframe, TbodyWritten, TframeWritten}
@@ -91,8 +91,8 @@ module _ (s : List ℕ) (f : Tframe) (m : Tmessage) {used : ℕ} (b : Bytes s) (
   pub stripped-request-written : {o o' : List ℕ} {q : Place} → used ≤ length o → TframeWritten s f o o' q → (o' ≡ over o 0 (resized used s)) × (q ≡ At used)
   unfolding TbodyWritten
   stripped-request-written {o} {o'} {q} h w =
-      let x : FrameWritten (layoutT (typeT m)) (typeT m) (f .tag .0) s (valuesT m) o o' q = rw k at (w .is) in
-      let y = stripped-written tableT s request-is o h in
+      let x : FrameWritten (layoutT m) (typeT m) (f .tag .0) s (valuesT m) o o' q = rw k at (w .is) in
+      let y = stripped-written tableT s request-is (row-of-request m) o h in
       (x .bytes ∙ y .0, x .next ∙ y .1)
 
   -- 4. cut
@@ -124,9 +124,9 @@ module _ (s : List ℕ) (f : Rframe) {used : ℕ} (b : Bytes s) (c : viewRframe 
   stripped-reply r e = one-rframe r (Q.Frame f used) (e ∙ ap refusedWhole (stripped-read tableR s reply-is ∙ sym reply) ∙ sym c)
 
   -- and writing it, given room, gives those bytes
-  pub stripped-reply-written : {o o' : List ℕ} {q : Place} → used ≤ length o → FrameWritten (layoutR (typeR (f .msg))) (typeR (f .msg)) (f .tag .0) s (valuesR (f .msg)) o o' q
+  pub stripped-reply-written : {o o' : List ℕ} {q : Place} → used ≤ length o → FrameWritten (layoutR (f .msg)) (typeR (f .msg)) (f .tag .0) s (valuesR (f .msg)) o o' q
       → (o' ≡ over o 0 (resized used s)) × (q ≡ At used)
-  stripped-reply-written {o} h w = let y = stripped-written tableR s reply-is o h in (w .bytes ∙ y .0, w .next ∙ y .1)
+  stripped-reply-written {o} h w = let y = stripped-written tableR s reply-is (row-of-reply (f .msg)) o h in (w .bytes ∙ y .0, w .next ∙ y .1)
 
   -- 4. cut
   pub cut-reply : (j : ℕ) → j < used → (r : ReadRframe) → viewRframe r ≡ refusedWhole (readFrame tableR (cutAt j s)) → answerIn (viewRframe r) ≡ refused R.Short
@@ -136,14 +136,14 @@ module _ (s : List ℕ) (f : Rframe) {used : ℕ} (b : Bytes s) (c : viewRframe 
 
 -- a typed record's tag has two bytes, its values fit their fields, and its data is within the reading limit
 module _ {lent o o' : List ℕ} {n : ℕ} (b : Bytes lent) where
-  pub request-back : (f : Tframe) (m : Tmessage) {u : ℕ} → f .msg ≡ M.Message m u → f .tag .0 < 256 ^ 2 → Fits (layoutT (typeT m)) (valuesT m) → TframeWritten lent f o o' (At n)
-      → Back tableT (layoutT (typeT m)) (typeT m) (f .tag .0) lent (valuesT m) o' n
+  pub request-back : (f : Tframe) (m : Tmessage) {u : ℕ} → f .msg ≡ M.Message m u → f .tag .0 < 256 ^ 2 → Fits (layoutT m) (valuesT m) → TframeWritten lent f o o' (At n)
+      → Back tableT (layoutT m) (typeT m) (f .tag .0) lent (valuesT m) o' n
   unfolding TbodyWritten
-  request-back f m k g h w = let x : FrameWritten (layoutT (typeT m)) (typeT m) (f .tag .0) lent (valuesT m) o o' (At n) = rw k at (w .is) in read-back tableT (row-of-request m) (type-of-request m) g b h x
+  request-back f m k g h w = let x : FrameWritten (layoutT m) (typeT m) (f .tag .0) lent (valuesT m) o o' (At n) = rw k at (w .is) in read-back tableT (row-of-request m) (type-of-request m) g b h x
 
-  pub reply-back : (f : Rframe) → f .tag .0 < 256 ^ 2 → Fits (layoutR (typeR (f .msg))) (valuesR (f .msg))
-      → FrameWritten (layoutR (typeR (f .msg))) (typeR (f .msg)) (f .tag .0) lent (valuesR (f .msg)) o o' (At n)
-      → Back tableR (layoutR (typeR (f .msg))) (typeR (f .msg)) (f .tag .0) lent (valuesR (f .msg)) o' n
+  pub reply-back : (f : Rframe) → f .tag .0 < 256 ^ 2 → Fits (layoutR (f .msg)) (valuesR (f .msg))
+      → FrameWritten (layoutR (f .msg)) (typeR (f .msg)) (f .tag .0) lent (valuesR (f .msg)) o o' (At n)
+      → Back tableR (layoutR (f .msg)) (typeR (f .msg)) (f .tag .0) lent (valuesR (f .msg)) o' n
   reply-back f g h w = read-back tableR (row-of-reply (f .msg)) (type-of-reply (f .msg)) g b h w
 
 -- ---- 5. local

@@ -9,15 +9,16 @@ use mathlib.Core.Option.{some}
 use lib.Dec.{ltb, eqb}
 use borrow.Author.Tests.{ltb-true, eqb-true}
 use Rattle.fields.specs.Layouts.{Layout}
-use Rattle.layouts.specs.Tables.{Row, row, tableT, tableR, layoutT, layoutR, lookup}
-use Rattle.requests.specs.Views.{typeT}
+use Rattle.layouts.specs.Tables.{Row, row, tableT, tableR, lookup}
+use Rattle.requests.specs.Views.{typeT, layoutT}
 use Rattle.requests.specs.declared.Tmessage.{Tmessage}
 use Rattle.requests.specs.declared.Tmessage.the-variants as M
-use Rattle.replies.specs.Views.{typeR}
+use Rattle.replies.specs.Views.{typeR, layoutR}
 use Rattle.replies.specs.declared.Rmessage.{Rmessage}
 use Rattle.replies.specs.declared.Rmessage.the-variants as Q
 
-pub row-of-request : (m : Tmessage) → lookup tableT (typeT m) ≡ some (layoutT (typeT m))
+pub row-of-request : (m : Tmessage) → lookup tableT (typeT m) ≡ some (layoutT m)
+unfolding layoutT
 row-of-request (M.Version m) = refl
 row-of-request (M.Flush m) = refl
 row-of-request (M.Walk m) = refl
@@ -67,7 +68,8 @@ small-row (row k m ∷ rs) ty {l} b e = go (ltb k 256) refl b (λ c f. small-row
 pub type-of-request : (m : Tmessage) → typeT m < 256 ^ 1
 type-of-request m = small-row tableT (typeT m) refl (row-of-request m)
 
-pub row-of-reply : (m : Rmessage) → lookup tableR (typeR m) ≡ some (layoutR (typeR m))
+pub row-of-reply : (m : Rmessage) → lookup tableR (typeR m) ≡ some (layoutR m)
+unfolding layoutR
 row-of-reply (Q.Version m) = refl
 row-of-reply Q.Flush = refl
 row-of-reply (Q.Walk m) = refl

@@ -38,9 +38,9 @@ fn read_body(frame: &[u8], ty: u8) -> Body
     ensures { λ r. ⌜ BodyOf (now (frame .entry)) ty r ⌝ }
 {
     if ty % 2 == 0 {
-        return Body::Request(requests::read_tmessage(frame, ty, Place::At(7)));
+        return Body::Request(requests::read_tmessage(frame, ty, Place::At(framing::BODY)));
     }
-    Body::Reply(replies::read_rmessage(frame, ty, Place::At(7)))
+    Body::Reply(replies::read_rmessage(frame, ty, Place::At(framing::BODY)))
 }
 
 // Where the fields of an accepted frame end; its end where the body is refused, so that there is no tail.

@@ -60,7 +60,7 @@ pub fn write_twalk(
 ) -> Place
     ensures { λ r. ⌜ TwalkWritten (tag .0) (fid .0) (newfid .0) (now (lent .entry)) (now (names .entry)) (now (out .entry)) (now (out .exit)) r ⌝ }
 {
-    let p = fields::check_count(names.len(), Place::At(7));
+    let p = fields::check_count(names.len(), Place::At(framing::BODY));
     let Place::At(_) = p else {
         return p;
     };
@@ -118,7 +118,7 @@ fn rwalk_head(out: &mut [u8], tag: Tag, count: usize) -> usize
         return 0;
     };
     framing::put_header(out, end, 111, tag.0);
-    numbers::put_u16(out, Place::At(7), count as u16);
+    numbers::put_u16(out, Place::At(framing::BODY), count as u16);
     count
 }
 

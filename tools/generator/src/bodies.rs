@@ -1,6 +1,7 @@
 //! The two enums: bodies read by their type number and written by their case, and what the definitions say of them.
 
 use crate::names::{closed, numbered, quoted, uses, Occurrences, NOTHING};
+use crate::records::layouts;
 use crate::table::{Direction, Field, Kind, Message, Table};
 use crate::Files;
 use std::collections::BTreeSet;
@@ -88,9 +89,9 @@ fn enums(direction: Direction, krate: &str, rows: &[&Message], cases: &[&Message
 
 {uses}ghost use mathlib.Core.Path.{{_≡_}};
 ghost use Rattle.laying.specs.Laying.{{Written}};
-ghost use Rattle.layouts.specs.Tables.{{table{d}, layout{d}}};
+ghost use Rattle.layouts.specs.Tables.{{table{d}}};
 ghost use Rattle.layouts.specs.Bodies.{{readBody, finishAt}};
-ghost use Rattle.{krate}.specs.Views.{{type{d}, values{d}, view{d}}};
+ghost use Rattle.{krate}.specs.Views.{{type{d}, layout{d}, values{d}, view{d}}};
 
 pub enum {d}message {{
 {holds}}}
@@ -168,7 +169,7 @@ fn write_body(direction: Direction, cases: &[&Message]) -> String {
         "
 // A body written at a place: its fields' refusals in order, then 10, then 11; a refusal leaves the output as it was.
 pub fn write_{small}message(out: &mut [u8], p: Place, lent: &[u8], m: {d}message) -> Place
-    ensures {{ λ r. ⌜ Written (layout{d} (type{d} m)) (now (lent .entry)) (values{d} m) (now (out .entry)) p (now (out .exit)) r ⌝ }}
+    ensures {{ λ r. ⌜ Written (layout{d} m) (now (lent .entry)) (values{d} m) (now (out .entry)) p (now (out .exit)) r ⌝ }}
 {{
     match m {{
 {arms}    }}
@@ -204,7 +205,8 @@ fn read_arm(m: &Message, d: char) -> String {
 fn views(direction: Direction, krate: &str, cases: &[&Message]) -> String {
     let d = direction.letter();
     let mut text = format!(
-        "-- For each case of `{d}message` this paper's number, and its values.\nuse Prim.Native.Nat.{{ℕ}}\nuse mathlib.Core.List.{{List, []}}\nuse Rattle.fields.specs.Values.{{Value}}\n"
+        "-- For each case of `{d}message` this paper's number, its layout, and its values.\nuse Prim.Native.Nat.{{ℕ}}\nuse mathlib.Core.List.{{List, []}}\nuse Rattle.fields.specs.Layouts.{{Layout}}\nuse Rattle.fields.specs.Values.{{Value}}\nuse Rattle.layouts.specs.Tables.{{{}}}\n",
+        layouts(cases)
     );
     for from in ["common", "messages", "metadata"] {
         let values: Vec<String> = cases
@@ -222,6 +224,10 @@ fn views(direction: Direction, krate: &str, cases: &[&Message]) -> String {
     text += &format!("\nabbrev pub type{d} : {d}message → ℕ\n");
     for m in cases {
         text += &format!("type{d} {} = {}\n", pattern(m), m.number);
+    }
+    text += &format!("\nunfoldable pub layout{d} : {d}message → Layout\n");
+    for m in cases {
+        text += &format!("layout{d} {} = {}\n", pattern(m), m.layout());
     }
     text += &format!("\nunfoldable pub values{d} : {d}message → List Value\n");
     for m in cases {
@@ -443,7 +449,7 @@ fn write_proof(direction: Direction, krate: &str, cases: &[&Message]) -> String 
         text += "use Rattle.laying.specs.WritingLaws.{written-nothing}\n";
     }
     text += &format!(
-        "use Rattle.{krate}.specs.Views.{{values{d}}}\n{}",
+        "use Rattle.{krate}.specs.Views.{{layout{d}, values{d}}}\n{}",
         uses(krate, &format!("write_{small}message"))
     );
     let (mut held, mut empty) = (0, 0);
@@ -459,7 +465,7 @@ fn write_proof(direction: Direction, krate: &str, cases: &[&Message]) -> String 
                 calls.next("enum-told"),
                 calls.next("begun"),
             );
-            text += &format!("\n{told} : tie.Need-{told}\n{told} c = search needs\n\n{need} : tie.Need-{need}\nunfolding values{d}\n");
+            text += &format!("\n{told} : tie.Need-{told}\n{told} c = search needs\n\n{need} : tie.Need-{need}\nunfolding layout{d} values{d}\n");
             text += &format!("{need} c = rw (c .before .{call} .given .1) (written-nothing (c .{begun} .ensures))\n");
             asked.extend([told, NOTHING.to_string()]);
         } else {
@@ -469,7 +475,7 @@ fn write_proof(direction: Direction, krate: &str, cases: &[&Message]) -> String 
                 numbered("same-length", held),
                 calls.next("m"),
             );
-            text += &format!("\n{known} : tie.Need-{known}\n{known} c = search needs\n\n{length} : tie.Need-{length}\n{length} c = search needs\n\n{need} : tie.Need-{need}\nunfolding values{d}\n");
+            text += &format!("\n{known} : tie.Need-{known}\n{known} c = search needs\n\n{length} : tie.Need-{length}\n{length} c = search needs\n\n{need} : tie.Need-{need}\nunfolding layout{d} values{d}\n");
             text += &format!(
                 "{need} c = rw (c .before .before .before .before .before .{call} .given .1) (c .before .before .write-{} .ensures)\n",
                 m.small()

@@ -32,6 +32,23 @@ pub fn write(table: &Table, files: &mut Files) {
     }
 }
 
+/// The constants of the crate that a family's file names.
+fn constants(rows: &[&Message], directions: impl Iterator<Item = Direction>) -> String {
+    let mut text = String::new();
+    for (bits, width) in [(8, 1), (16, 2), (32, 4)] {
+        if rows
+            .iter()
+            .any(|m| m.fields.iter().any(|f| widths(f).contains(&width)))
+        {
+            text += &format!("use crate::U{bits};\n");
+        }
+    }
+    for direction in directions {
+        text += &format!("use crate::{};\n", direction.width());
+    }
+    text
+}
+
 fn family_source(table: &Table, family: &str) -> String {
     let rows: Vec<&Message> = table
         .messages
@@ -42,14 +59,10 @@ fn family_source(table: &Table, family: &str) -> String {
         "// {}\n\n",
         table.heads[&("flat".to_string(), family.to_string())]
     );
-    for (bits, width) in [(8, 1), (16, 2), (32, 4)] {
-        if rows
-            .iter()
-            .any(|m| m.fields.iter().any(|f| widths(f).contains(&width)))
-        {
-            text += &format!("use crate::U{bits};\n");
-        }
-    }
+    let directions = [Direction::T, Direction::R]
+        .into_iter()
+        .filter(|d| rows.iter().any(|m| m.direction == *d));
+    text += &constants(&rows, directions.clone());
     let mut lines = type_uses(&rows);
     // A part holds a span.
     if lines.contains("use fields::Part;") {
@@ -80,9 +93,13 @@ fn family_source(table: &Table, family: &str) -> String {
             );
         }
     }
-    text += "ghost use Rattle.flat.specs.Flat.{flat, fieldValues};\n";
+    let widths: String = directions
+        .map(|d| format!(", width{}", d.letter()))
+        .collect();
+    text += &format!("ghost use Rattle.flat.specs.Flat.{{flat, fieldValues{widths}}};\n");
     for row in rows {
-        text += &format!("\n{}\n{}", flattened(row), put_together(row));
+        let room = room(table, row.direction);
+        text += &format!("\n{}\n{}", flattened(row, room), put_together(row));
     }
     text
 }
@@ -130,9 +147,17 @@ fn values(f: &Field) -> Vec<String> {
     }
 }
 
-fn flattened(m: &Message) -> String {
-    let (record, small, room) = (m.record(), m.small(), m.direction.room());
-    let mut text = format!("pub fn flat_{small}(m: {record}) -> [u64; {room}]\n    ensures {{ λ r. ⌜ r ≡ flat {room} ({small} m) ⌝ }}\n{{\n");
+/// How many values hold any body of the direction.
+fn room(table: &Table, direction: Direction) -> usize {
+    let rows = table.by_number(direction);
+    let counts = rows.iter().map(|m| m.fields.iter().map(count).sum());
+    counts.max().unwrap_or(0)
+}
+
+fn flattened(m: &Message, room: usize) -> String {
+    let (record, small) = (m.record(), m.small());
+    let (d, width) = (m.direction.letter(), m.direction.width());
+    let mut text = format!("pub fn flat_{small}(m: {record}) -> [u64; {width}]\n    ensures {{ λ r. ⌜ r ≡ flat width{d} ({small} m) ⌝ }}\n{{\n");
     for f in &m.fields {
         if !matches!(f.kind, Kind::Number(_)) {
             text += &format!("    let {0} = m.{0};\n", f.name);
@@ -147,7 +172,7 @@ fn flattened(m: &Message) -> String {
         all.resize(room, "0".to_string());
         return text + &format!("    [{}]\n}}\n", all.join(", "));
     }
-    text += &format!("    let mut v = [0u64; {room}];\n");
+    text += &format!("    let mut v = [0u64; {width}];\n");
     for (i, value) in all.iter().enumerate() {
         text += &format!("    v[{i}] = {value};\n");
     }
@@ -163,8 +188,8 @@ fn narrowed(i: usize, width: u8) -> String {
 }
 
 fn put_together(m: &Message) -> String {
-    let (record, small, room, layout) = (m.record(), m.small(), m.direction.room(), m.layout());
-    let mut text = format!("pub fn {small}_of(v: [u64; {room}]) -> {record}\n    ensures {{ λ r. ⌜ {small} r ≡ fieldValues ({layout}) v ⌝ }}\n{{\n");
+    let (record, small, layout, width) = (m.record(), m.small(), m.layout(), m.direction.width());
+    let mut text = format!("pub fn {small}_of(v: [u64; {width}]) -> {record}\n    ensures {{ λ r. ⌜ {small} r ≡ fieldValues {layout} v ⌝ }}\n{{\n");
     let mut i = 0;
     let mut fields = vec![];
     for f in &m.fields {
@@ -215,13 +240,13 @@ fn bodies(table: &Table, direction: Direction, rows: &[&Message]) -> String {
     let has_empty = rows.iter().any(|m| m.is_empty());
     let mut text = bodies_head(table, direction, rows.len(), has_empty);
     if has_empty {
-        text += &no_values(direction.room());
+        text += &no_values(direction);
     }
     text + &read_flat(direction, rows, has_empty) + &write_flat(direction, rows)
 }
 
 fn bodies_head(table: &Table, direction: Direction, count: usize, has_empty: bool) -> String {
-    let (d, many) = (direction.letter(), direction.enums());
+    let (d, many, width) = (direction.letter(), direction.enums(), direction.width());
     let mut families = table.families(|_| true);
     families.sort();
     let families: String = families
@@ -235,25 +260,26 @@ fn bodies_head(table: &Table, direction: Direction, count: usize, has_empty: boo
     format!(
         "// The {count} {many}, read flat and written from flat values, by their type number.
 
-{families}use numbers::Place;
+{families}use flat::{width};
+use numbers::Place;
 use numbers::Refusal;
 ghost use mathlib.Core.Path.{{_≡_}};
-{list}ghost use Rattle.numbers.specs.declared.Place.the-variants.{{At}};
-ghost use Rattle.layouts.specs.Tables.{{lookup, table{d}}};
-ghost use Rattle.flat.specs.Flat.{{{flat}FlatRead, FlatWritten}};
+{list}ghost use Rattle.layouts.specs.Tables.{{lookup, table{d}}};
+ghost use Rattle.flat.specs.Flat.{{{flat}FlatRead, FlatWritten, width{d}}};
 "
     )
 }
 
-fn no_values(room: usize) -> String {
+fn no_values(direction: Direction) -> String {
+    let (d, width) = (direction.letter(), direction.width());
     format!(
         "
 // The values of a body that has none.
-fn no_values(next: Place, values: &mut [u64; {room}]) -> Place
+fn no_values(next: Place, values: &mut [u64; {width}]) -> Place
     ensures {{ λ r. ⌜ r ≡ next ⌝ }}
-    ensures {{ λ r. ⌜ now (values .exit) ≡ flat {room} [] ⌝ }}
+    ensures {{ λ r. ⌜ now (values .exit) ≡ flat width{d} [] ⌝ }}
 {{
-    *values = [0u64; {room}];
+    *values = [0u64; {width}];
     next
 }}
 "
@@ -261,28 +287,27 @@ fn no_values(next: Place, values: &mut [u64; {room}]) -> Place
 }
 
 fn read_flat(direction: Direction, rows: &[&Message], has_empty: bool) -> String {
-    let (d, small, room, enums) = (
+    let (d, small, width, enums) = (
         direction.letter(),
         direction.small(),
-        direction.room(),
+        direction.width(),
         direction.enums(),
     );
     let arms: String = rows.iter().map(|m| read_arm(m)).collect();
     let rest = match has_empty {
         true => "no_values(Place::Refused(Refusal::UnknownType), values),".to_string(),
         false => format!(
-            "{{\n            *values = [0u64; {room}];\n            Place::Refused(Refusal::UnknownType)\n        }}"
+            "{{\n            *values = [0u64; {width}];\n            Place::Refused(Refusal::UnknownType)\n        }}"
         ),
     };
     format!(
         "
-// A frame's body read flat: its values, 0 from a refused field on, go to where the caller has room for them; the place after its
+// A body read flat at a place: its values, 0 from a refused field on, go to where the caller has room for them; the place after its
 // fields is answered, or the refusal. The type decides the body, as in `{enums}::read_{small}message`; but its record goes flat at once, and
 // through no enum that would have to be told apart again.
-pub fn read_flat(s: &[u8], ty: u8, values: &mut [u64; {room}]) -> Place
-    ensures {{ λ r. ⌜ FlatRead {room} (lookup table{d} ty) (now (s .entry)) (At 7) (now (values .exit)) r ⌝ }}
+pub fn read_flat(s: &[u8], ty: u8, p: Place, values: &mut [u64; {width}]) -> Place
+    ensures {{ λ r. ⌜ FlatRead width{d} (lookup table{d} ty) (now (s .entry)) p (now (values .exit)) r ⌝ }}
 {{
-    let p = Place::At(7);
     match ty {{
 {arms}        _ => {rest}
     }}
@@ -292,13 +317,13 @@ pub fn read_flat(s: &[u8], ty: u8, values: &mut [u64; {room}]) -> Place
 }
 
 fn write_flat(direction: Direction, rows: &[&Message]) -> String {
-    let (d, room) = (direction.letter(), direction.room());
+    let (d, width) = (direction.letter(), direction.width());
     let arms: String = rows.iter().map(|m| write_arm(m)).collect();
     format!(
         "
 // A body written at a place from the values of its record, which lie flat: its fields' refusals in order, then 10, then 11; 3 where the
 // type is not known. A refusal leaves the output as it was.
-pub fn write_flat(out: &mut [u8], p: Place, lent: &[u8], ty: u8, values: &[u64; {room}]) -> Place
+pub fn write_flat(out: &mut [u8], p: Place, lent: &[u8], ty: u8, values: &[u64; {width}]) -> Place
     ensures {{ λ r. ⌜ FlatWritten (lookup table{d} ty) (now (lent .entry)) (now (values .entry)) (now (out .entry)) p (now (out .exit)) r ⌝ }}
 {{
     let v = *values;

@@ -1,7 +1,7 @@
 //! The records: their sources, what their values are, and the proofs of their readers and writers.
 
 use crate::names::{closed_short, quoted, uses, Occurrences, NOTHING};
-use crate::table::{Direction, Field, Kind, Message, Table};
+use crate::table::{Field, Kind, Message, Table};
 use crate::Files;
 use std::collections::BTreeSet;
 
@@ -64,13 +64,10 @@ pub fn type_uses(rows: &[&Message]) -> BTreeSet<String> {
         .collect()
 }
 
-/// The directions' layouts that are named.
+/// The names of the messages' layouts.
 pub fn layouts(rows: &[&Message]) -> String {
-    let directions = [(Direction::T, "layoutT"), (Direction::R, "layoutR")];
-    let named = directions
-        .iter()
-        .filter(|(d, _)| rows.iter().any(|m| m.direction == *d));
-    named.map(|(_, name)| *name).collect::<Vec<_>>().join(", ")
+    let names: Vec<String> = rows.iter().map(|m| m.layout()).collect();
+    names.join(", ")
 }
 
 fn source(table: &Table, krate: &str, family: &str, rows: &[&Message]) -> String {
@@ -149,7 +146,7 @@ fn is_plain(f: &Field) -> bool {
 fn reader(m: &Message) -> String {
     let (record, small, layout) = (m.record(), m.small(), m.layout());
     let mut text = format!(
-        "pub fn read_{small}(s: &[u8], p: Place) -> Read{record}\n    ensures {{ λ r. ⌜ Fields ({layout}) (now (s .entry)) p ({small} (r .value)) (r .next) ⌝ }}\n{{\n"
+        "pub fn read_{small}(s: &[u8], p: Place) -> Read{record}\n    ensures {{ λ r. ⌜ Fields {layout} (now (s .entry)) p ({small} (r .value)) (r .next) ⌝ }}\n{{\n"
     );
     let mut before = "p".to_string();
     let mut values = vec![];
@@ -182,7 +179,7 @@ fn reader(m: &Message) -> String {
 fn layer(m: &Message) -> String {
     let (record, small, layout) = (m.record(), m.small(), m.layout());
     let mut text = format!(
-        "fn lay_{small}(out: &mut [u8], p: Place, lent: &[u8], m: {record}, put: bool) -> Place\n    ensures {{ λ r. ⌜ Laid ({layout}) (now (lent .entry)) ({small} m) put (now (out .entry)) p (now (out .exit)) r ⌝ }}\n{{\n"
+        "fn lay_{small}(out: &mut [u8], p: Place, lent: &[u8], m: {record}, put: bool) -> Place\n    ensures {{ λ r. ⌜ Laid {layout} (now (lent .entry)) ({small} m) put (now (out .entry)) p (now (out .exit)) r ⌝ }}\n{{\n"
     );
     let mut before = "p".to_string();
     for (i, f) in m.fields.iter().enumerate() {
@@ -217,7 +214,7 @@ fn writer(m: &Message) -> String {
     let (record, small, layout) = (m.record(), m.small(), m.layout());
     format!(
         "pub fn write_{small}(out: &mut [u8], p: Place, lent: &[u8], m: {record}) -> Place
-    ensures {{ λ r. ⌜ Written ({layout}) (now (lent .entry)) ({small} m) (now (out .entry)) p (now (out .exit)) r ⌝ }}
+    ensures {{ λ r. ⌜ Written {layout} (now (lent .entry)) ({small} m) (now (out .entry)) p (now (out .exit)) r ⌝ }}
 {{
     let end = lay_{small}(out, p, lent, m, laying::CHECK);
     let start = laying::begun(p, end, out.len());
@@ -477,13 +474,13 @@ use Rattle.fields.specs.Layouts.{{q}}
 use Rattle.fields.specs.Values.{{val}}
 use Rattle.laying.specs.Laying.{{NumLaid, Laid}}
 use Rattle.laying.specs.LayingLaws.{{{}}}
-use Rattle.layouts.specs.Tables.{{layout{}}}
+use Rattle.layouts.specs.Tables.{{{}}}
 {}
 {law} : {{lent : List ℕ}} {{ps : Bool}} {{t v x {} : ℕ}} {{{} : List ℕ}} {{{} : Place}}
 ",
         m.record(),
         laying_laws(m),
-        m.direction.letter(),
+        m.layout(),
         uses(&m.dialect, &path(m, "lay")),
         numbers.iter().map(|i| format!("n{i}")).collect::<Vec<_>>().join(" "),
         list('o', 0),
@@ -509,7 +506,7 @@ use Rattle.layouts.specs.Tables.{{layout{}}}
     }
     let facts: Vec<String> = (1..=count).map(|i| format!("a{i}")).collect();
     text += &format!(
-        "    → Laid ({}) lent ({values}[]) ps o0 p0 o{count} p{count}\n",
+        "    → Laid {} lent ({values}[]) ps o0 p0 o{count} p{count}\n",
         m.layout()
     );
     text + &format!(

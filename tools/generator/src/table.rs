@@ -115,12 +115,9 @@ impl Direction {
         }
     }
 
-    /// How many values any body of the direction has.
-    pub fn room(self) -> usize {
-        match self {
-            Direction::T => 10,
-            Direction::R => 22,
-        }
+    /// The constant of crates/flat that says how many values hold any body of the direction.
+    pub fn width(self) -> String {
+        format!("WIDTH_{}", self.letter())
     }
 }
 
@@ -135,9 +132,9 @@ impl Message {
         self.record().to_lowercase()
     }
 
-    /// The layout's name in the definitions, as `layoutT 100`.
+    /// The layout's name in the definitions, as `layoutTversion`.
     pub fn layout(&self) -> String {
-        format!("layout{} {}", self.direction.letter(), self.number)
+        format!("layout{}", self.record())
     }
 
     /// The module that the record stands in, as `common::sessions`.

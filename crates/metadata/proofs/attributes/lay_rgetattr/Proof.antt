@@ -9,7 +9,7 @@ use Rattle.fields.specs.Layouts.{q}
 use Rattle.fields.specs.Values.{val}
 use Rattle.laying.specs.Laying.{NumLaid, Laid}
 use Rattle.laying.specs.LayingLaws.{lay-num, lay, lay-qid, laid-none, laid-length}
-use Rattle.layouts.specs.Tables.{layoutR}
+use Rattle.layouts.specs.Tables.{layoutRgetattr}
 use Rattle.metadata.proofs.attributes.lay_rgetattr.Statement.{statement}
 use Rattle.metadata.proofs.attributes.lay_rgetattr.Tie as tie
 
@@ -34,7 +34,7 @@ twenty : {lent : List ℕ} {ps : Bool} {t v x n1 n3 n4 n5 n6 n7 n8 n9 n10 n11 n1
     → NumLaid 8 n18 ps o17 p17 o18 p18
     → NumLaid 8 n19 ps o18 p18 o19 p19
     → NumLaid 8 n20 ps o19 p19 o20 p20
-    → Laid (layoutR 25) lent (val n1 ∷ val t ∷ val v ∷ val x ∷ val n3 ∷ val n4 ∷ val n5 ∷ val n6 ∷ val n7 ∷ val n8 ∷ val n9 ∷ val n10 ∷ val n11 ∷ val n12 ∷ val n13 ∷ val n14 ∷ val n15 ∷ val n16 ∷ val n17 ∷ val n18 ∷ val n19 ∷ val n20 ∷ []) ps o0 p0 o20 p20
+    → Laid layoutRgetattr lent (val n1 ∷ val t ∷ val v ∷ val x ∷ val n3 ∷ val n4 ∷ val n5 ∷ val n6 ∷ val n7 ∷ val n8 ∷ val n9 ∷ val n10 ∷ val n11 ∷ val n12 ∷ val n13 ∷ val n14 ∷ val n15 ∷ val n16 ∷ val n17 ∷ val n18 ∷ val n19 ∷ val n20 ∷ []) ps o0 p0 o20 p20
 twenty a1 a2 a3 a4 a5 a6 a7 a8 a9 a10 a11 a12 a13 a14 a15 a16 a17 a18 a19 a20 =
     lay (lay-num a1) (lay-qid a2 (lay (lay-num a3) (lay (lay-num a4) (lay (lay-num a5) (lay (lay-num a6) (lay (lay-num a7) (lay (lay-num a8) (lay (lay-num a9) (lay (lay-num a10) (lay (lay-num a11) (lay (lay-num a12) (lay (lay-num a13) (lay (lay-num a14) (lay (lay-num a15) (lay (lay-num a16) (lay (lay-num a17) (lay (lay-num a18) (lay (lay-num a19) (lay (lay-num a20) laid-none)))))))))))))))))))
 
