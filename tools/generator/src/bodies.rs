@@ -205,7 +205,7 @@ fn read_arm(m: &Message, d: char) -> String {
 fn views(direction: Direction, krate: &str, cases: &[&Message]) -> String {
     let d = direction.letter();
     let mut text = format!(
-        "-- For each case of `{d}message` this paper's number, its layout, and its values.\nuse Prim.Native.Nat.{{ℕ}}\nuse mathlib.Core.List.{{List, []}}\nuse Rattle.fields.specs.Layouts.{{Layout}}\nuse Rattle.fields.specs.Values.{{Value}}\nuse Rattle.layouts.specs.Tables.{{{}}}\n",
+        "-- For each case of `{d}message` its number (F3.2), its layout and its values.\nuse Prim.Native.Nat.{{ℕ}}\nuse mathlib.Core.List.{{List, []}}\nuse Rattle.fields.specs.Layouts.{{Layout}}\nuse Rattle.fields.specs.Values.{{Value}}\nuse Rattle.layouts.specs.Tables.{{{}}}\n",
         layouts(cases)
     );
     for from in ["common", "messages", "metadata"] {
