@@ -91,6 +91,18 @@ fn crossed((name, ty): Typed) -> Vec<Typed> {
     }
 }
 
+/// The library's text has the lengths of arrays in figures; Rust's has names for them.
+fn in_figures(text: &str) -> String {
+    let named = text
+        .lines()
+        .filter_map(|line| line.strip_prefix("pub const "));
+    named.fold(text.to_string(), |text, line| {
+        let (name, rest) = line.split_once(": usize = ").expect("a length has a type");
+        let length = format!("; {}]", rest.trim_end_matches(';'));
+        text.replace(&format!("; {name}]"), &length)
+    })
+}
+
 /// In Rust a count comes after its pointer, under any name.
 fn counts_named(functions: &mut BTreeMap<String, Vec<Typed>>, theirs: &Side) {
     for (name, parameters) in functions {
@@ -137,7 +149,8 @@ fn both() -> (Side, Side) {
         .split("macro_rules!")
         .next()
         .expect("a part before the macros");
-    declared(text, "pub fn ", |typed| vec![typed], &mut rust);
+    let text = in_figures(text);
+    declared(&text, "pub fn ", |typed| vec![typed], &mut rust);
     counts_named(&mut rust.functions, &library);
     (library, rust)
 }

@@ -1,4 +1,4 @@
 pub mod Answers
-pub mod Dirents
+pub mod Elements
 pub mod Walks
 pub mod Steps

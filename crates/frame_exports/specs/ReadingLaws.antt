@@ -1,7 +1,8 @@
--- A frame that is read flat is the definition's frame, laid flat.
+-- A frame that is read flat is the definition's frame, laid flat. Shown of any direction; requests and replies are two of them.
 use Prim.Native.Nat.{ℕ}
-use mathlib.Core.Path.{_≡_, refl, ap, _∙_}
-use mathlib.Core.Bool.{false}
+use native.Mathlib.Omega.{arith}
+use mathlib.Core.Path.{_≡_, refl, sym, ap, _∙_}
+use mathlib.Core.Bool.{true}
 use mathlib.Core.List.{List, []}
 use mathlib.Core.Option.{Option, none, some}
 use lib.ListN.{take}
@@ -12,73 +13,88 @@ use Rattle.numbers.specs.declared.Place.{Place}
 use Rattle.numbers.specs.declared.Place.the-variants.{At, Refused}
 use Rattle.fields.specs.Layouts.{Layout}
 use Rattle.fields.specs.Values.{Value}
-use Rattle.fields.specs.Fields.{valuesAt, pastFields}
+use Rattle.fields.specs.Fields.{valuesAt}
 use Rattle.layouts.specs.Tables.{Row, lookup, tableT, tableR}
-use Rattle.layouts.specs.Bodies.{Answer, accepted, refused, finishAt, bodyAt}
+use Rattle.layouts.specs.Bodies.{accepted, refused, finishAt, bodyAt}
 use Rattle.framing.specs.Frames.{Frame, headless, framed, readFrame, refusedWhole}
 use Rattle.framing.specs.Headers.{HeadIs}
 use Rattle.framing.specs.HeaderLaws.{head-yes, frame-is, frame-headless}
 use Rattle.framing.specs.declared.Head.{Head}
 use Rattle.framing.specs.declared.Head.the-variants as H
-use Rattle.flat.specs.Flat.{flat, FlatRead}
-use Rattle.frame_exports.specs.Flats.{refusedT, flatT, flatBodyT, refusedR, flatR, flatBodyR, valuesOf, valuesIn, kept}
+use Rattle.flat.specs.Flat.{flat, valuesIn as values, FlatRead}
+use Rattle.exports.specs.Answers.{outcomeOf, ended}
+use Rattle.exports.specs.declared.Outcome.{Outcome}
+use Rattle.frame_exports.specs.Flats.{frameOutcome, valuesIn, FrameRead}
+
+-- ---- a direction
+
+-- its rows, how many values it has room for, what a frame becomes whose body fails, and how that is told by the place after the body
+pub record Direction : Type 0 where
+  pub rows : List Row
+  pub width : ℕ
+  pub whole : Frame → Frame
+  pub fails : ℕ → Place → Outcome
+  pub none : (k : Refusal) → whole (headless k) ≡ headless k
+  pub good : (tag ty e : ℕ) (vs : List Value) → whole (framed tag (accepted ty vs e)) ≡ framed tag (accepted ty vs e)
+  pub told : (tag : ℕ) (k : Refusal) → fails tag (Refused k) ≡ frameOutcome (whole (framed tag (refused k)))
+  pub bare : (tag : ℕ) (k : Refusal) → [] ≡ valuesIn (whole (framed tag (refused k)))
+
+abbrev pub requests : Direction
+requests =
+    record {
+      rows = tableT;
+      width = 10;
+      whole = λ f. f;
+      fails = λ tag q. outcomeOf 0 tag true q;
+      none = λ k. refl;
+      good = λ tag ty e vs. refl;
+      told = λ tag k. refl;
+      bare = λ tag k. refl;
+    }
+
+abbrev pub replies : Direction
+replies =
+    record {
+      rows = tableR;
+      width = 22;
+      whole = refusedWhole;
+      fails = λ tag q. ended q;
+      none = λ k. refl;
+      good = λ tag ty e vs. refl;
+      told = λ tag k. refl;
+      bare = λ tag k. refl;
+    }
 
 -- ---- a body
 
--- What is answered is told by the body (`out`), and by the place after one that was read flat (`make`).
-module _ {A : Type 0} (ty : ℕ) (out : Answer → A) (make : Place → A) (no : (k : Refusal) → make (Refused k) ≡ out (refused k))
-    (yes : (vs : List Value) (e : ℕ) → make (At e) ≡ out (accepted ty vs e)) where
-  body-flat : {n : ℕ} {s ns : List ℕ} {p q : Place} (l : Option Layout) → FlatRead n l s p ns q → make q ≡ out (bodyAt l ty s p)
-  body-flat none f = rw (f .next) (no R.UnknownType)
-  body-flat {s = s} {p = p} (some l) f = rw (f .next) (go (pastFields l s p))
-    where
-      go : (x : Place) → make x ≡ out (finishAt ty (valuesAt l s p) x)
-      go (At e) = yes (valuesAt l s p) e
-      go (Refused k) = no k
+module _ (ty : ℕ) {n : ℕ} {s ns : List ℕ} {p q : Place} where
+  body-accepted : {e : ℕ} (l : Option Layout) → FlatRead n l s p ns q → q ≡ At e → accepted ty (values l s p) e ≡ bodyAt l ty s p
+  body-accepted none f h = absurd (let g = sym h ∙ f .next in let z : _≡_ {A = ℕ} 0 1 = cc g in omega arith)
+  body-accepted (some l) f h = ap (finishAt ty (valuesAt l s p)) (sym h ∙ f .next)
 
-body-kept : {n : ℕ} {s ns : List ℕ} {p q : Place} (ty : ℕ) (l : Option Layout) → FlatRead n l s p ns q → kept n q ns ≡ flat n (valuesOf (bodyAt l ty s p))
-body-kept {ns = ns} ty none f = rw (f .next)
-body-kept {n} {s} {ns} {p} ty (some l) f = rw (f .values, f .next) (go (pastFields l s p))
-  where
-    go : (x : Place) → kept n x (flat n (valuesAt l s p)) ≡ flat n (valuesOf (finishAt ty (valuesAt l s p) x))
-    go (At e) = refl
-    go (Refused k) = refl
+  body-refused : {k : Refusal} (l : Option Layout) → FlatRead n l s p ns q → q ≡ Refused k → refused k ≡ bodyAt l ty s p
+  body-refused {k} none f h = let g = sym h ∙ f .next in let j : k ≡ R.UnknownType = cc g in ap refused j
+  body-refused (some l) f h = ap (finishAt ty (valuesAt l s p)) (sym h ∙ f .next)
 
--- ---- a frame, of any table
+-- ---- a frame, of any direction
 
-module _ (rows : List Row) (s : List ℕ) {g : Head} where
-  head-is : {k : Refusal} → HeadIs s g → g ≡ H.Refused k → headless k ≡ readFrame rows s
-  unfolding HeadIs
-  head-is h e = frame-headless s rows (rw e at h)
+module _ (d : Direction) (s : List ℕ) where
+  read-as : {f g : Frame} {ns : List ℕ} {r : Outcome} → d .whole f ≡ g → f ≡ readFrame (d .rows) s → r ≡ frameOutcome g → ns ≡ flat (d .width) (valuesIn g)
+      → FrameRead (d .width) (d .whole (readFrame (d .rows) s)) ns r
+  read-as w e a v = let h = sym (ap (d .whole) e) ∙ w in rw h (record { is = record { answer = a; left = v } })
 
-  pub none-kept : {k : Refusal} (n : ℕ) → HeadIs s g → g ≡ H.Refused k → flat n [] ≡ flat n (valuesIn (readFrame rows s))
-  none-kept n h e = ap (λ f. flat n (valuesIn f)) (head-is h e)
+  module _ {g : Head} (h : HeadIs s g) where
+    pub headless-read : {k : Refusal} {ns : List ℕ} {r : Outcome} → g ≡ H.Refused k → r ≡ ended (Refused k) → ns ≡ flat (d .width) []
+        → FrameRead (d .width) (d .whole (readFrame (d .rows) s)) ns r
+    unfolding HeadIs
+    headless-read {k} e = read-as (d .none k) (frame-headless s (d .rows) (rw e at h))
 
-  pub frame-kept : {n ty tag m : ℕ} {ns : List ℕ} {q : Place} → Bytes s → HeadIs s g → g ≡ H.Held m ty tag → FlatRead n (lookup rows ty) (take m s) (At 7) ns q
-      → kept n q ns ≡ flat n (valuesIn (readFrame rows s))
-  frame-kept {n} {ty} bs h e f = body-kept ty (lookup rows ty) f ∙ ap (λ f. flat n (valuesIn f)) (frame-is rows bs (head-yes s h e))
+    module _ {n ty tag : ℕ} {ns : List ℕ} {q : Place} (b : Bytes s) (e : g ≡ H.Held n ty tag) (f : FlatRead (d .width) (lookup (d .rows) ty) (take n s) (At 7) ns q) where
+      pub frame-read : {a : ℕ} {r : Outcome} → q ≡ At a → r ≡ outcomeOf ty tag true q → FrameRead (d .width) (d .whole (readFrame (d .rows) s)) ns r
+      frame-read {a} i x =
+          let vs : List Value = values (lookup (d .rows) ty) (take n s) (At 7) in
+          read-as (d .good tag ty a vs) (ap (framed tag) (body-accepted ty (lookup (d .rows) ty) f i) ∙ frame-is (d .rows) b (head-yes s h e)) (x ∙ ap (outcomeOf ty tag true) i) (f .values)
 
--- ---- requests
-
-pub request-headless : (s : List ℕ) {g : Head} {k : Refusal} → HeadIs s g → g ≡ H.Refused k → refusedT k 0 false ≡ flatT (readFrame tableT s)
-request-headless s h e = ap flatT (head-is tableT s h e)
-
-pub request-flat : (s : List ℕ) {g : Head} {n ty tag : ℕ} {ns : List ℕ} {q : Place} → Bytes s → HeadIs s g → g ≡ H.Held n ty tag → FlatRead 10 (lookup tableT ty) (take n s) (At 7) ns q
-    → flatBodyT ty tag q ≡ flatT (readFrame tableT s)
-request-flat s {ty = ty} {tag} bs h e f =
-    body-flat ty (λ a. flatT (framed tag a)) (flatBodyT ty tag) (λ k. refl) (λ vs e. refl) (lookup tableT ty) f ∙ ap flatT (frame-is tableT bs (head-yes s h e))
-
--- ---- replies: a failed body refuses the frame, which laid flat is the same
-
-whole-flat : (f : Frame) → flatR f ≡ flatR (refusedWhole f)
-whole-flat (headless k) = refl
-whole-flat (framed tag (accepted ty vs n)) = refl
-whole-flat (framed tag (refused k)) = refl
-
-pub reply-headless : (s : List ℕ) {g : Head} {k : Refusal} → HeadIs s g → g ≡ H.Refused k → refusedR k ≡ flatR (refusedWhole (readFrame tableR s))
-reply-headless s h e = ap flatR (head-is tableR s h e) ∙ whole-flat (readFrame tableR s)
-
-pub reply-flat : (s : List ℕ) {g : Head} {n ty tag : ℕ} {ns : List ℕ} {q : Place} → Bytes s → HeadIs s g → g ≡ H.Held n ty tag → FlatRead 22 (lookup tableR ty) (take n s) (At 7) ns q
-    → flatBodyR ty tag q ≡ flatR (refusedWhole (readFrame tableR s))
-reply-flat s {ty = ty} {tag} bs h e f =
-    body-flat ty (λ a. flatR (framed tag a)) (flatBodyR ty tag) (λ k. refl) (λ vs e. refl) (lookup tableR ty) f ∙ ap flatR (frame-is tableR bs (head-yes s h e)) ∙ whole-flat (readFrame tableR s)
+      pub body-failed : {k : Refusal} {zs : List ℕ} {r : Outcome} → q ≡ Refused k → r ≡ d .fails tag q → zs ≡ flat (d .width) [] → FrameRead (d .width) (d .whole (readFrame (d .rows) s)) zs r
+      body-failed {k} i x z =
+          read-as refl (ap (framed tag) (body-refused ty (lookup (d .rows) ty) f i) ∙ frame-is (d .rows) b (head-yes s h e)) (x ∙ ap (d .fails tag) i ∙ d .told tag k) (z ∙ ap (flat (d .width)) (d .bare tag k))

@@ -5,7 +5,7 @@ use Rattle.frame_exports.proofs.sheafsledge_write_rframe.Statement.{sta
 use Rattle.frame_exports.proofs.sheafsledge_write_rframe.Tie as tie
 
 returns : tie.Need-returns
-returns c = holds-refusal (c .before .if1 .taken) (c .wrote-of .ensures)
+returns c = holds-refusal (c .before .if1 .taken) (c .ended .ensures)
 
 same-length : tie.Need-same-length
 same-length c = search needs
@@ -14,7 +14,7 @@ returns-2 : tie.Need-returns-2
 returns-2 c =
     let h = c .before .before .before in
     let b = h .before .before .before .before in
-    frame-wrote (b .before .before .if1 .left) (b .write-flat .ensures) (h .put-header .ensures) (c .wrote-of2 .ensures)
+    frame-wrote (b .before .before .if1 .left) (b .write-flat .ensures) (h .put-header .ensures) (c .ended2 .ensures)
 
 pub sheafsledge-write-rframe-spec : {M : Type 1} → statement M
 sheafsledge-write-rframe-spec = tie.close (tie.spec (λ _ _. tt) returns (λ _ _. tt) (λ _ _. tt) (λ _ _. tt) same-length returns-2)
