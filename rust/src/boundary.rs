@@ -1,5 +1,5 @@
-//! What the proved library's functions are to C: those of the crates `exports` and `frame_exports`,
-//! declared once for this crate and for the comparison.
+//! What the proved library's functions are to C: those of the crates `exports`, `request_exports` and
+//! `reply_exports`, declared once for this crate and for the comparison.
 //!
 //! Nothing joins the two texts but the names of the functions, so a difference would be read as
 //! other values. The layouts are held to C's at the end of this file, when it is compiled;

@@ -1,5 +1,5 @@
-// The functions that Rust calls, but for those of a whole frame, which stand in `frame_exports`. Nothing is decided in them: what the crates
-// below answer is taken apart and laid flat, and what they take is put together.
+// The functions that Rust calls, but for those of a whole frame, which stand in `request_exports` and `reply_exports`. Nothing is decided in
+// them: what the crates below answer is taken apart and laid flat, and what they take is put together.
 
 pub mod dirents;
 pub mod stretches;

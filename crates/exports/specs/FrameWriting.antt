@@ -12,9 +12,9 @@ use Rattle.layouts.specs.Tables.{Row, lookup}
 use Rattle.framing.specs.Writing.{frameOut, framePast, headOut, headPast, HeadPut}
 use Rattle.framing.specs.WritingLaws.{frame-written}
 use Rattle.flat.specs.Flat.{showsFrom, FlatWritten}
 use Rattle.exports.specs.Answers.{ended, Answered, wrote}
 use Rattle.exports.specs.declared.Outcome.{Outcome}
-use Rattle.frame_exports.specs.Flats.{FlatWrote}
+use Rattle.exports.specs.Frames.{FlatWrote}
 
 pub holds-refusal : {rows : List Row} {refusal ty tag : ℕ} {ns lent o : List ℕ} {r : Outcome} → (refusal ≡ 0 → ⊥) → r ≡ ended (Refused R.HoldsRefusal)
     → FlatWrote rows refusal ty tag ns lent o o r

@@ -22,9 +22,9 @@ use Rattle.framing.specs.HeaderLaws.{head-yes, frame-is, frame-headless}
 use Rattle.framing.specs.declared.Head.{Head}
 use Rattle.framing.specs.declared.Head.the-variants as H
 use Rattle.flat.specs.Flat.{flat, valuesIn as values, FlatRead}
 use Rattle.exports.specs.Answers.{outcomeOf, ended}
 use Rattle.exports.specs.declared.Outcome.{Outcome}
-use Rattle.frame_exports.specs.Flats.{frameOutcome, valuesIn, FrameRead}
+use Rattle.exports.specs.Frames.{frameOutcome, valuesIn, FrameRead}
 
 -- ---- a direction
 

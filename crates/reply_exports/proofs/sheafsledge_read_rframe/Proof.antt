@@ -3,9 +3,9 @@ use mathlib.Core.Path.{refl, sym}
 use lib.Seq.{length-take-le}
 use Rattle.numbers.specs.Numbers.{bytes-all}
 use Rattle.framing.specs.HeaderLaws.{head-yes}
-use Rattle.frame_exports.specs.ReadingLaws.{requests, headless-read, frame-read, body-failed}
-use Rattle.frame_exports.proofs.sheafsledge_read_tframe.Statement.{statement}
-use Rattle.frame_exports.proofs.sheafsledge_read_tframe.Tie as tie
+use Rattle.exports.specs.FrameReading.{replies, headless-read, frame-read, body-failed}
+use Rattle.reply_exports.proofs.sheafsledge_read_rframe.Statement.{statement}
+use Rattle.reply_exports.proofs.sheafsledge_read_rframe.Tie as tie
 
 enum-known-head : tie.Need-enum-known-head
 enum-known-head c = search needs
@@ -31,7 +31,7 @@ returns c =
     let d = f .before .before .before .before in
     let e = d .before .before in
     let b = bytes-all (e .before .before .args .bytes .now) (λ i. e .before .shared-slice-known .given i .fits) in
-    body-failed requests _ (e .read-header .ensures) b (d .head .given .1) (f .read-flat .ensures) (q .enum-told2 .given .1) (c .outcome-of .ensures) refl
+    body-failed replies _ (e .read-header .ensures) b (d .head .given .1) (f .read-flat .ensures) (q .enum-told2 .given .1) (c .ended .ensures) refl
 
 returns-2 : tie.Need-returns-2
 returns-2 c =
@@ -40,15 +40,15 @@ returns-2 c =
     let d = f .before .before .before .before in
     let e = d .before .before in
     let b = bytes-all (e .before .before .args .bytes .now) (λ i. e .before .shared-slice-known .given i .fits) in
-    frame-read requests _ (e .read-header .ensures) b (d .head .given .1) (f .read-flat .ensures) (q .enum-told .given .1) (c .outcome-of2 .ensures)
+    frame-read replies _ (e .read-header .ensures) b (d .head .given .1) (f .read-flat .ensures) (q .enum-told .given .1) (c .outcome-of .ensures)
 
 returns-3 : tie.Need-returns-3
 returns-3 c =
     let d = c .before .before .before in
-    headless-read requests _ (d .before .before .read-header .ensures) (d .head2 .given .1) (c .ended .ensures) refl
+    headless-read replies _ (d .before .before .read-header .ensures) (d .head2 .given .1) (c .ended2 .ensures) refl
 
-pub sheafsledge-read-tframe-spec : {M : Type 1} → statement M
-sheafsledge-read-tframe-spec =
+pub sheafsledge-read-rframe-spec : {M : Type 1} → statement M
+sheafsledge-read-rframe-spec =
     tie.close
     (tie.spec
     (λ _ _. tt)
