@@ -7,7 +7,7 @@ use std::time::SystemTime;
 use std::{env, fs};
 
 /// The crates that export, each with an archive of its own.
-const EXPORTING: [&str; 2] = ["exports", "frame_exports"];
+const EXPORTING: [&str; 3] = ["exports", "request_exports", "reply_exports"];
 
 fn main() {
     println!("cargo::rerun-if-env-changed=SHEAFSLEDGE_LIB");

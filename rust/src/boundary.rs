@@ -1,37 +1,29 @@
-//! What the proved library's functions are to C: those of the crates `exports` and `frame_exports`,
-//! declared once for this crate and for the comparison.
+//! What the proved library's functions are to C: those of the crates `exports`, `request_exports` and
+//! `reply_exports`, declared once for this crate and for the comparison.
 //!
 //! Nothing joins the two texts but the names of the functions, so a difference would be read as
 //! other values. The layouts are held to C's at the end of this file, when it is compiled;
 //! `tests/boundary.rs` holds the text to the library's, field by field and parameter by parameter.
 
-/// A request as it crosses the boundary. Its values are where the caller has room for them, and all
-/// 0 where it is refused.
+/// How many values cross with a request, a reply, a directory entry, a qid and an element of a walk.
+pub const T_VALUES: usize = 10;
+pub const R_VALUES: usize = 22;
+pub const ENTRY_VALUES: usize = 7;
+pub const QID_VALUES: usize = 3;
+pub const SPAN_VALUES: usize = 2;
+
+/// What the library answers for all that it reads or writes: 0 and the place after it, or the
+/// refusal. Of a frame there is a tag too, and a type where it is accepted or stands at a position;
+/// `held` says that there is one. Values go into the caller's room: where a frame is refused they
+/// are 0, where anything else is, they are as they were.
 #[repr(C)]
 #[derive(Clone, Copy, Debug, Default, PartialEq, Eq)]
-pub struct FlatT {
+pub struct Outcome {
     pub refusal: u8,
     pub ty: u8,
     pub tag: u16,
-    pub tagged: bool,
-    pub used: usize,
-}
-
-/// A reply as it crosses the boundary, in the same way.
-#[repr(C)]
-#[derive(Clone, Copy, Debug, Default, PartialEq, Eq)]
-pub struct FlatR {
-    pub refusal: u8,
-    pub ty: u8,
-    pub tag: u16,
-    pub used: usize,
-}
-
-#[repr(C)]
-#[derive(Clone, Copy, Debug, PartialEq, Eq)]
-pub struct Wrote {
-    pub refusal: u8,
-    pub len: usize,
+    pub held: bool,
+    pub place: usize,
 }
 
 /// What a server calls a file: 13 bytes on the wire.
@@ -43,51 +35,17 @@ pub struct Qid {
     pub path: u64,
 }
 
-/// A directory entry as it crosses the boundary. Its name is a span of the bytes that it was read
-/// from, or that are lent; `next` is the place after it.
-#[repr(C)]
-#[derive(Clone, Copy, Debug, Default, PartialEq, Eq)]
-pub struct FlatDirent {
-    pub refusal: u8,
-    pub ty: u8,
-    pub qid: Qid,
-    pub offset: u64,
-    pub start: usize,
-    pub len: usize,
-    pub next: usize,
-}
-
-#[repr(C)]
-#[derive(Clone, Copy, Debug, Default, PartialEq, Eq)]
-pub struct FlatSpan {
-    pub refusal: u8,
-    pub start: usize,
-    pub len: usize,
-}
-
-#[repr(C)]
-#[derive(Clone, Copy, Debug, Default, PartialEq, Eq)]
-pub struct FlatQid {
-    pub refusal: u8,
-    pub qid: Qid,
-}
-
-/// What is at a position of a stretch: a frame, up to the next position; the end; or a refusal.
-#[repr(C)]
-#[derive(Clone, Copy, Debug, Default, PartialEq, Eq)]
-pub struct FlatStep {
-    pub refusal: u8,
-    pub end: bool,
-    pub ty: u8,
-    pub tag: u16,
-    pub next: usize,
-}
-
 extern "C" {
-    pub fn sheafsledge_read_tframe(bytes: *const u8, count: usize, values: *mut [u64; 10])
-        -> FlatT;
-    pub fn sheafsledge_read_rframe(bytes: *const u8, count: usize, values: *mut [u64; 22])
-        -> FlatR;
+    pub fn sheafsledge_read_tframe(
+        bytes: *const u8,
+        count: usize,
+        values: *mut [u64; T_VALUES],
+    ) -> Outcome;
+    pub fn sheafsledge_read_rframe(
+        bytes: *const u8,
+        count: usize,
+        values: *mut [u64; R_VALUES],
+    ) -> Outcome;
     pub fn sheafsledge_write_tframe(
         out: *mut u8,
         room: usize,
@@ -96,8 +54,8 @@ extern "C" {
         refusal: u8,
         ty: u8,
         tag: u16,
-        values: *const [u64; 10],
-    ) -> Wrote;
+        values: *const [u64; T_VALUES],
+    ) -> Outcome;
     pub fn sheafsledge_write_rframe(
         out: *mut u8,
         room: usize,
@@ -106,17 +64,22 @@ extern "C" {
         refusal: u8,
         ty: u8,
         tag: u16,
-        values: *const [u64; 22],
-    ) -> Wrote;
-    pub fn sheafsledge_read_dirent(bytes: *const u8, count: usize, at: usize) -> FlatDirent;
+        values: *const [u64; R_VALUES],
+    ) -> Outcome;
+    pub fn sheafsledge_read_dirent(
+        bytes: *const u8,
+        count: usize,
+        at: usize,
+        values: *mut [u64; ENTRY_VALUES],
+    ) -> Outcome;
     pub fn sheafsledge_write_dirent(
         out: *mut u8,
         room: usize,
         at: usize,
         lent: *const u8,
         count: usize,
-        d: FlatDirent,
-    ) -> Wrote;
+        values: *const [u64; ENTRY_VALUES],
+    ) -> Outcome;
     pub fn sheafsledge_is_utf8(bytes: *const u8, count: usize) -> bool;
     pub fn sheafsledge_answers(
         request_ty: u8,
@@ -131,7 +94,8 @@ extern "C" {
         start: usize,
         len: usize,
         i: usize,
-    ) -> FlatSpan;
+        span: *mut [u64; SPAN_VALUES],
+    ) -> Outcome;
     pub fn sheafsledge_qid_at(
         lent: *const u8,
         lent_count: usize,
@@ -139,8 +103,14 @@ extern "C" {
         start: usize,
         len: usize,
         i: usize,
-    ) -> FlatSpan;
-    pub fn sheafsledge_read_qid(bytes: *const u8, count: usize, at: usize) -> FlatQid;
+        span: *mut [u64; SPAN_VALUES],
+    ) -> Outcome;
+    pub fn sheafsledge_read_qid(
+        bytes: *const u8,
+        count: usize,
+        at: usize,
+        values: *mut [u64; QID_VALUES],
+    ) -> Outcome;
     pub fn sheafsledge_write_twalk(
         out: *mut u8,
         room: usize,
@@ -151,15 +121,15 @@ extern "C" {
         newfid: u32,
         names: *const [usize; 2],
         names_count: usize,
-    ) -> Wrote;
+    ) -> Outcome;
     pub fn sheafsledge_write_rwalk(
         out: *mut u8,
         room: usize,
         tag: u16,
         qids: *const Qid,
         qids_count: usize,
-    ) -> Wrote;
-    pub fn sheafsledge_frame_at(bytes: *const u8, count: usize, position: usize) -> FlatStep;
+    ) -> Outcome;
+    pub fn sheafsledge_frame_at(bytes: *const u8, count: usize, position: usize) -> Outcome;
 }
 
 /// Holds a struct to its size, its alignment and the offset of each field, in bytes.
@@ -182,14 +152,8 @@ macro_rules! laid_out {
     };
 }
 
-laid_out!(FlatT: 16, 8; refusal 0, ty 1, tag 2, tagged 4, used 8);
-laid_out!(FlatR: 16, 8; refusal 0, ty 1, tag 2, used 8);
-laid_out!(Wrote: 16, 8; refusal 0, len 8);
+laid_out!(Outcome: 16, 8; refusal 0, ty 1, tag 2, held 4, place 8);
 laid_out!(Qid: 16, 8; ty 0, version 4, path 8);
-laid_out!(FlatDirent: 56, 8; refusal 0, ty 1, qid 8, offset 24, start 32, len 40, next 48);
-laid_out!(FlatSpan: 24, 8; refusal 0, start 8, len 16);
-laid_out!(FlatQid: 24, 8; refusal 0, qid 8);
-laid_out!(FlatStep: 16, 8; refusal 0, end 1, ty 2, tag 4, next 8);
 
 /// Holds a type without named fields to its size and alignment, in bytes.
 macro_rules! sized {
@@ -202,8 +166,11 @@ macro_rules! sized {
 }
 
 // The arrays that are lent. The library is compiled for 64 bits.
-sized!([u64; 10]: 80, 8);
-sized!([u64; 22]: 176, 8);
+sized!([u64; T_VALUES]: 80, 8);
+sized!([u64; R_VALUES]: 176, 8);
+sized!([u64; ENTRY_VALUES]: 56, 8);
+sized!([u64; QID_VALUES]: 24, 8);
+sized!([u64; SPAN_VALUES]: 16, 8);
 sized!([usize; 2]: 16, 8);
 sized!(usize: 8, 8);
 sized!(*const u8: 8, 8);

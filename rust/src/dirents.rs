@@ -1,7 +1,7 @@
 //! The entries of a directory, as an Rreaddir's data holds them one after the other.
 
-use crate::boundary::FlatDirent;
-use crate::fields::{lendable, shown};
+use crate::boundary::ENTRY_VALUES;
+use crate::fields::{Field, Filling, Put, Taken};
 use crate::{ffi, Qid, Refusal, Rreaddir};
 
 /// A directory entry: 24 bytes and its name on the wire.
@@ -31,36 +31,36 @@ pub struct Dirent<'a> {
 impl<'a> Dirent<'a> {
     /// Reads the entry at a place of some bytes, and answers the place after it too.
     pub fn decode(bytes: &'a [u8], at: usize) -> Result<(Self, usize), Refusal> {
-        let flat = ffi::read_dirent(bytes, at);
-        if let Some(refusal) = Refusal::of(flat.refusal) {
-            return Err(refusal);
-        }
-        let name = shown(bytes, flat.start, flat.len);
-        let entry = Self {
-            qid: flat.qid,
-            offset: flat.offset,
-            ty: flat.ty,
-            // SAFETY: the library accepts an entry only if its name is UTF-8 by RFC 3629
-            // (`layoutDirent`, whose last field is a string, and `readString` in the definitions).
-            name: unsafe { std::str::from_utf8_unchecked(name) },
-        };
-        Ok((entry, flat.next))
+        let mut values = [0; ENTRY_VALUES];
+        let next = ffi::read_dirent(bytes, at, &mut values)?;
+        let (values, frame) = (values.iter(), bytes);
+        Ok((Self::take(&mut Taken { values, frame }), next))
     }
 
     /// Writes the entry at a place of the output, and answers the place after it. Refused, the
     /// output is as it was: 11 where it ends before the entry does.
     pub fn encode(&self, out: &mut [u8], at: usize) -> Result<usize, Refusal> {
-        let lent = lendable(self.name);
-        let flat = FlatDirent {
-            refusal: 0,
-            ty: self.ty,
-            qid: self.qid,
-            offset: self.offset,
-            start: 0,
-            len: lent.len(),
-            next: 0,
-        };
-        ffi::write_dirent(out, at, lent, flat)
+        let Put { values, lent } = Put::of(self);
+        ffi::write_dirent(out, at, lent[0], &values)
+    }
+}
+
+/// In the layout's order, as a record's fields cross.
+impl<'a> Field<'a> for Dirent<'a> {
+    fn take(taken: &mut Taken<'a, '_>) -> Self {
+        Self {
+            qid: Field::take(taken),
+            offset: Field::take(taken),
+            ty: Field::take(taken),
+            name: Field::take(taken),
+        }
+    }
+
+    fn put<const N: usize>(&self, put: &mut Filling<'_, 'a, N>) {
+        self.qid.put(put);
+        self.offset.put(put);
+        self.ty.put(put);
+        self.name.put(put);
     }
 }
 

@@ -4,32 +4,39 @@ use crate::boundary::*;
 use crate::{Refusal, WalkHead};
 
 #[inline]
-pub fn read_t(bytes: &[u8], values: &mut [u64; 10]) -> FlatT {
+pub fn read_t(bytes: &[u8], values: &mut [u64; T_VALUES]) -> Outcome {
     // SAFETY: pointer and count are a slice's, and the values are borrowed alone. The library is
     // proved to touch nothing else, and keeps neither (its contract speaks of the two alone).
     unsafe { sheafsledge_read_tframe(bytes.as_ptr(), bytes.len(), values) }
 }
 
 #[inline]
-pub fn read_r(bytes: &[u8], values: &mut [u64; 22]) -> FlatR {
+pub fn read_r(bytes: &[u8], values: &mut [u64; R_VALUES]) -> Outcome {
     // SAFETY: as for `read_t`.
     unsafe { sheafsledge_read_rframe(bytes.as_ptr(), bytes.len(), values) }
 }
 
 #[inline]
-pub fn frame_at(bytes: &[u8], position: usize) -> FlatStep {
+pub fn frame_at(bytes: &[u8], position: usize) -> Outcome {
     // SAFETY: as for `read_t`; any position is answered.
     unsafe { sheafsledge_frame_at(bytes.as_ptr(), bytes.len(), position) }
 }
 
-pub fn read_dirent(bytes: &[u8], at: usize) -> FlatDirent {
+/// The place after the entry.
+pub fn read_dirent(
+    bytes: &[u8],
+    at: usize,
+    values: &mut [u64; ENTRY_VALUES],
+) -> Result<usize, Refusal> {
     // SAFETY: as for `read_t`; any place is answered.
-    unsafe { sheafsledge_read_dirent(bytes.as_ptr(), bytes.len(), at) }
+    unsafe { sheafsledge_read_dirent(bytes.as_ptr(), bytes.len(), at, values) }.told()
 }
 
-pub fn read_qid(bytes: &[u8], at: usize) -> FlatQid {
+pub fn read_qid(bytes: &[u8], at: usize) -> Result<[u64; QID_VALUES], Refusal> {
+    let mut values = [0; QID_VALUES];
     // SAFETY: as for `read_dirent`.
-    unsafe { sheafsledge_read_qid(bytes.as_ptr(), bytes.len(), at) }
+    let read = unsafe { sheafsledge_read_qid(bytes.as_ptr(), bytes.len(), at, &mut values) };
+    read.told().map(|_| values)
 }
 
 pub fn is_utf8(bytes: &[u8]) -> bool {
@@ -37,16 +44,20 @@ pub fn is_utf8(bytes: &[u8]) -> bool {
     unsafe { sheafsledge_is_utf8(bytes.as_ptr(), bytes.len()) }
 }
 
-/// Name `i` of a part that is all of the lent bytes.
-pub fn name_at(part: &[u8], count: u16, i: usize) -> FlatSpan {
+/// Where name `i` of a part that is all of the lent bytes starts, and its length.
+pub fn name_at(part: &[u8], count: u16, i: usize) -> Result<[u64; SPAN_VALUES], Refusal> {
+    let (from, len, mut span) = (part.as_ptr(), part.len(), [0; SPAN_VALUES]);
     // SAFETY: as for `read_t`.
-    unsafe { sheafsledge_name_at(part.as_ptr(), part.len(), count, 0, part.len(), i) }
+    let found = unsafe { sheafsledge_name_at(from, len, count, 0, len, i, &mut span) };
+    found.told().map(|_| span)
 }
 
-/// Qid `i` of a part that is all of the lent bytes.
-pub fn qid_at(part: &[u8], count: u16, i: usize) -> FlatSpan {
+/// The same of qid `i`.
+pub fn qid_at(part: &[u8], count: u16, i: usize) -> Result<[u64; SPAN_VALUES], Refusal> {
+    let (from, len, mut span) = (part.as_ptr(), part.len(), [0; SPAN_VALUES]);
     // SAFETY: as for `read_t`.
-    unsafe { sheafsledge_qid_at(part.as_ptr(), part.len(), count, 0, part.len(), i) }
+    let found = unsafe { sheafsledge_qid_at(from, len, count, 0, len, i, &mut span) };
+    found.told().map(|_| span)
 }
 
 pub fn answers(request_ty: u8, request_tag: u16, reply_ty: u8, reply_tag: u16) -> bool {
@@ -59,7 +70,7 @@ pub fn write_t(
     out: &mut [u8],
     lent: &[u8],
     (ty, tag): (u8, u16),
-    values: &[u64; 10],
+    values: &[u64; T_VALUES],
 ) -> Result<usize, Refusal> {
     let (to, room, from, count) = (out.as_mut_ptr(), out.len(), lent.as_ptr(), lent.len());
     // SAFETY: as for `read_t`; the output is borrowed alone, so that it overlaps nothing, and the
@@ -72,7 +83,7 @@ pub fn write_r(
     out: &mut [u8],
     lent: &[u8],
     (ty, tag): (u8, u16),
-    values: &[u64; 22],
+    values: &[u64; R_VALUES],
 ) -> Result<usize, Refusal> {
     let (to, room, from, count) = (out.as_mut_ptr(), out.len(), lent.as_ptr(), lent.len());
     // SAFETY: as for `write_t`.
@@ -83,11 +94,11 @@ pub fn write_dirent(
     out: &mut [u8],
     at: usize,
     lent: &[u8],
-    dirent: FlatDirent,
+    values: &[u64; ENTRY_VALUES],
 ) -> Result<usize, Refusal> {
     let (to, room) = (out.as_mut_ptr(), out.len());
     // SAFETY: as for `write_t`; any place is answered.
-    unsafe { sheafsledge_write_dirent(to, room, at, lent.as_ptr(), lent.len(), dirent) }.told()
+    unsafe { sheafsledge_write_dirent(to, room, at, lent.as_ptr(), lent.len(), values) }.told()
 }
 
 pub fn write_twalk(
@@ -112,8 +123,9 @@ pub fn write_rwalk(out: &mut [u8], tag: u16, qids: &[Qid]) -> Result<usize, Refu
     unsafe { sheafsledge_write_rwalk(to, room, tag, qids.as_ptr(), qids.len()) }.told()
 }
 
-impl Wrote {
+impl Outcome {
+    #[inline]
     fn told(self) -> Result<usize, Refusal> {
-        Refusal::of(self.refusal).map_or(Ok(self.len), Err)
+        Refusal::of(self.refusal).map_or(Ok(self.place), Err)
     }
 }

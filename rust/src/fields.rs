@@ -3,7 +3,8 @@
 use crate::walks::{Names, Qids};
 use crate::Qid;
 
-/// What was read: the values in the layout's order, and the frame that spans point into.
+/// What was read: the values in the layout's order, and the bytes that spans point into: a frame's, or
+/// those that a directory entry stands in.
 pub struct Taken<'a, 'v> {
     pub values: std::slice::Iter<'v, u64>,
     pub frame: &'a [u8],
@@ -123,7 +124,7 @@ impl<'a> Field<'a> for &'a str {
     #[inline(always)]
     fn take(taken: &mut Taken<'a, '_>) -> Self {
         let bytes = taken.span();
-        // SAFETY: the library accepts a frame only if its strings are UTF-8 by RFC 3629
+        // SAFETY: the library accepts a frame or an entry only if its strings are UTF-8 by RFC 3629
         // (`readString`, `utf8` in the definitions).
         unsafe { std::str::from_utf8_unchecked(bytes) }
     }

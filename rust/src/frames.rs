@@ -1,6 +1,7 @@
 //! One frame, read from bytes and written into bytes. Nothing is allocated, and what is read
 //! borrows from the bytes.
 
+use crate::boundary::{R_VALUES, T_VALUES};
 use crate::ffi;
 use crate::fields::{Taken, LONGEST_STRING};
 use crate::{Refusal, Rmessage, Tmessage};
@@ -54,15 +55,15 @@ impl<'a> Tframe<'a> {
         headless: impl FnOnce(Refusal) -> A,
         made: impl Fn(u16, Result<Tmessage<'a>, Refusal>, usize) -> A,
     ) -> A {
-        let mut values = [0; 10];
-        let flat = ffi::read_t(bytes, &mut values);
-        let made = |msg| made(flat.tag, msg, flat.used);
-        match Refusal::of(flat.refusal) {
-            Some(refusal) if !flat.tagged => headless(refusal),
+        let mut values = [0; T_VALUES];
+        let read = ffi::read_t(bytes, &mut values);
+        let made = |msg| made(read.tag, msg, read.place);
+        match Refusal::of(read.refusal) {
+            Some(refusal) if !read.held => headless(refusal),
             Some(refusal) => made(Err(refusal)),
             None => {
                 let (values, frame) = (values.iter(), bytes);
-                Tmessage::take(flat.ty, &mut Taken { values, frame }, made)
+                Tmessage::take(read.ty, &mut Taken { values, frame }, made)
             }
         }
     }
@@ -95,14 +96,14 @@ impl<'a> Rframe<'a> {
         bytes: &'a [u8],
         made: impl Fn(u16, Result<Rmessage<'a>, Refusal>, usize) -> A,
     ) -> A {
-        let mut values = [0; 22];
-        let flat = ffi::read_r(bytes, &mut values);
-        let made = |msg| made(flat.tag, msg, flat.used);
-        match Refusal::of(flat.refusal) {
+        let mut values = [0; R_VALUES];
+        let read = ffi::read_r(bytes, &mut values);
+        let made = |msg| made(read.tag, msg, read.place);
+        match Refusal::of(read.refusal) {
             Some(refusal) => made(Err(refusal)),
             None => {
                 let (values, frame) = (values.iter(), bytes);
-                Rmessage::take(flat.ty, &mut Taken { values, frame }, made)
+                Rmessage::take(read.ty, &mut Taken { values, frame }, made)
             }
         }
     }

@@ -94,13 +94,13 @@ impl<'a> Iterator for Stretch<'a> {
     fn next(&mut self) -> Option<Self::Item> {
         let at = self.position.take()?;
         let step = ffi::frame_at(self.bytes, at);
-        if step.end {
-            return None;
-        }
         if let Some(refusal) = Refusal::of(step.refusal) {
             return Some(Err(Stop { at, refusal }));
         }
-        let next = step.next;
+        if !step.held {
+            return None;
+        }
+        let next = step.place;
         self.position = Some(next);
         let frame = &self.bytes[at..next];
         let size = frame.len();

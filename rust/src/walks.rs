@@ -1,6 +1,6 @@
 //! The elements of walks: names and qids, as they stand on the wire.
 
-use crate::fields::shown;
+use crate::fields::{shown, Field, Taken};
 use crate::{ffi, Qid, Refusal};
 
 /// The names of a Twalk: a part of a frame that was read, or of a buffer that they were gathered in.
@@ -60,14 +60,11 @@ impl<'a> Names<'a> {
     /// # Ok::<(), Refusal>(())
     /// ```
     pub fn get(&self, i: usize) -> Result<&'a str, Refusal> {
-        let found = ffi::name_at(self.part, self.count, i);
-        let name = shown(self.part, found.start, found.len);
-        match Refusal::of(found.refusal) {
-            Some(refusal) => Err(refusal),
-            // SAFETY: an element is given only of a part whose names are all UTF-8 (`elementAt` in
-            // the definitions).
-            None => Ok(unsafe { std::str::from_utf8_unchecked(name) }),
-        }
+        let [start, len] = ffi::name_at(self.part, self.count, i)?;
+        let name = shown(self.part, start as usize, len as usize);
+        // SAFETY: an element is given only of a part whose names are all UTF-8 (`elementAt` in the
+        // definitions).
+        Ok(unsafe { std::str::from_utf8_unchecked(name) })
     }
 
     pub fn iter(&self) -> impl Iterator<Item = &'a str> {
@@ -117,12 +114,10 @@ impl<'a> Qids<'a> {
 
     /// Qid `i` from 0 on, by the library's own functions; refused with 15 where there is none.
     pub fn get(&self, i: usize) -> Result<Qid, Refusal> {
-        let found = ffi::qid_at(self.part, self.count, i);
-        if let Some(refusal) = Refusal::of(found.refusal) {
-            return Err(refusal);
-        }
-        let read = ffi::read_qid(self.part, found.start);
-        Refusal::of(read.refusal).map_or(Ok(read.qid), Err)
+        let [start, _] = ffi::qid_at(self.part, self.count, i)?;
+        let values = ffi::read_qid(self.part, start as usize)?;
+        let (values, frame) = (values.iter(), self.part);
+        Ok(Qid::take(&mut Taken { values, frame }))
     }
 
     pub fn iter(&self) -> impl Iterator<Item = Qid> + 'a {

@@ -91,6 +91,18 @@ fn crossed((name, ty): Typed) -> Vec<Typed> {
     }
 }
 
+/// Both sides have names for the lengths of arrays; here they are in figures.
+fn in_figures(text: &str, names: &str) -> String {
+    let named = names
+        .lines()
+        .filter_map(|line| line.strip_prefix("pub const "))
+        .filter_map(|line| line.split_once(": usize = "));
+    named.fold(text.to_string(), |text, (name, rest)| {
+        let length = format!("; {}]", rest.trim_end_matches(';'));
+        text.replace(&format!("; {name}]"), &length)
+    })
+}
+
 /// In Rust a count comes after its pointer, under any name.
 fn counts_named(functions: &mut BTreeMap<String, Vec<Typed>>, theirs: &Side) {
     for (name, parameters) in functions {
@@ -128,8 +140,11 @@ fn boundary() -> String {
 fn both() -> (Side, Side) {
     let here = Path::new(env!("CARGO_MANIFEST_DIR"));
     let (mut library, mut rust) = (Side::default(), Side::default());
-    for path in sources(&here.join("..")) {
-        let text = fs::read_to_string(&path).expect("a source is text");
+    let read = |path: &PathBuf| fs::read_to_string(path).expect("a source is text");
+    let texts: Vec<String> = sources(&here.join("..")).iter().map(read).collect();
+    let names = texts.join("\n");
+    for text in &texts {
+        let text = in_figures(text, &names);
         declared(&text, "pub extern \"C\" fn ", crossed, &mut library);
     }
     let text = boundary();
@@ -137,7 +152,8 @@ fn both() -> (Side, Side) {
         .split("macro_rules!")
         .next()
         .expect("a part before the macros");
-    declared(text, "pub fn ", |typed| vec![typed], &mut rust);
+    let text = in_figures(text, text);
+    declared(&text, "pub fn ", |typed| vec![typed], &mut rust);
     counts_named(&mut rust.functions, &library);
     (library, rust)
 }

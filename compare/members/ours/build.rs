@@ -5,7 +5,7 @@ use std::env;
 use std::path::PathBuf;
 
 /// The crates that export, each with an archive of its own.
-const EXPORTING: [&str; 2] = ["exports", "frame_exports"];
+const EXPORTING: [&str; 3] = ["exports", "request_exports", "reply_exports"];
 
 fn main() {
     let here = env::var_os("CARGO_MANIFEST_DIR").expect("cargo sets it");

@@ -73,26 +73,32 @@ fn text(s: &[u8]) {
     outputs::write(b'e', 32, Place::At(0), &n, s);
 }
 
-// Name or qid I of a vector.
+// By value: of an array that was lent no length is known, and a parameter has its type's.
+fn two(span: [u64; 2]) {
+    questions::list(&span);
+}
+
+// Name or qid I of a vector. The two numbers were 238.
 fn element(kind: u8, n: &[u64; 16], s: &[u8]) {
     let i = n[0] as usize;
     let count = (n[1] % 65536) as u16;
     let start = n[2] as usize;
     let len = n[3] as usize;
+    let mut span = [238u64; 2];
     let e = if kind == b'N' {
-        walks::sheafsledge_name_at(s, count, start, len, i)
+        walks::sheafsledge_name_at(s, count, start, len, i, &mut span)
     } else {
-        walks::sheafsledge_qid_at(s, count, start, len, i)
+        walks::sheafsledge_qid_at(s, count, start, len, i, &mut span)
     };
-    questions::at(e.refusal, e.start);
-    questions::figure(e.len as u64);
+    questions::at(e.refusal, e.place);
+    two(span);
 }
 
 // What is at a position of a stretch.
 fn step(position: usize, s: &[u8]) {
     let f = stretches::sheafsledge_frame_at(s, position);
-    questions::at(f.refusal, f.next);
-    questions::list(&[f.end as u64, f.ty as u64, f.tag as u64]);
+    questions::at(f.refusal, f.place);
+    questions::list(&[f.held as u64, f.ty as u64, f.tag as u64]);
 }
 
 fn pairs(n: &[u64; 16]) {

@@ -31,7 +31,7 @@ fn names(out: &mut [u8], n: &[u64; 16], s: &[u8]) {
     rows[1] = [n[4] as usize, n[5] as usize];
     rows[2] = [n[6] as usize, n[7] as usize];
     let w = walks::sheafsledge_write_twalk(out, s, 3, 1, 2, first(&rows, n[0] as usize));
-    questions::at(w.refusal, w.len);
+    questions::at(w.refusal, w.place);
 }
 
 // A qid from three numbers.
@@ -72,24 +72,21 @@ fn qids(out: &mut [u8], n: &[u64; 16]) -> Place {
     rwalk(out, tag, rows, count)
 }
 
-// A directory entry at a position, every field of it, and written again there.
+// By value, as `answers::two`.
+fn seven(values: [u64; 7]) {
+    questions::list(&values);
+}
+
+// A directory entry at a position, every value of it, and written again there if there is one. The values were all 238.
 fn entry(out: &mut [u8], at: usize, s: &[u8]) {
-    let d = dirents::sheafsledge_read_dirent(s, at);
-    let qid = d.qid;
-    questions::at(d.refusal, d.next);
-    questions::list(
-        &[
-            qid.ty as u64,
-            qid.version as u64,
-            qid.path,
-            d.offset,
-            d.ty as u64,
-            d.start as u64,
-            d.len as u64,
-        ],
-    );
-    let w = dirents::sheafsledge_write_dirent(out, at, s, d);
-    questions::at(w.refusal, w.len);
+    let mut values = [238u64; 7];
+    let d = dirents::sheafsledge_read_dirent(s, at, &mut values);
+    questions::at(d.refusal, d.place);
+    seven(values);
+    if d.refusal == 0 {
+        let w = dirents::sheafsledge_write_dirent(out, at, s, &values);
+        questions::at(w.refusal, w.place);
+    }
 }
 
 fn put(kind: u8, out: &mut [u8], p: Place, n: &[u64; 16], s: &[u8]) {

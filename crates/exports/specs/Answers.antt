@@ -1,36 +1,68 @@
--- What the flat answers have in common: of a function that writes, what it leaves and answers; of one that reads, the values of its fields.
+-- What crosses to Rust for all that is read or written: one outcome, and the room that was lent, which a reader fills and a writer writes into.
 use Prim.Native.Nat.{ℕ}
-use mathlib.Core.Path.{_≡_, ap, ap₂, _∙_}
+use mathlib.Core.Path.{_≡_, refl, ap, ap₂, _∙_}
+use mathlib.Core.Bool.{Bool, false}
 use mathlib.Core.List.{List}
 use Rattle.numbers.specs.PlaceLaws.{one-answer}
 use Rattle.numbers.specs.Refusals.{numberOf}
+use Rattle.numbers.specs.declared.Refusal.{Refusal}
 use Rattle.numbers.specs.declared.Place.{Place}
 use Rattle.numbers.specs.declared.Place.the-variants.{At, Refused}
 use Rattle.fields.specs.Layouts.{Layout}
-use Rattle.fields.specs.Values.{Value}
+use Rattle.fields.specs.Values.{Value, shows}
 use Rattle.fields.specs.Fields.{Fields, valuesAt, pastFields}
-use Rattle.flat.specs.Flat.{flatValues}
-use Rattle.exports.specs.declared.Wrote.{Wrote}
+use Rattle.laying.specs.Laying.{writtenOut, writtenPast, Written}
+use Rattle.flat.specs.Flat.{flat, fieldValues}
+use Rattle.exports.specs.declared.Outcome.{Outcome}
 
-abbrev pub wroteOf : Place → Wrote
-wroteOf (At n) = record { refusal = 0; len = n }
-wroteOf (Refused k) = record { refusal = numberOf k; len = 0 }
+-- F4.7: a refusal is told by its number, and no bytes count as used. The tag stands beside it where a request's header was read
+abbrev pub outcomeOf : ℕ → ℕ → Bool → Place → Outcome
+outcomeOf ty tag held (At n) = record { refusal = 0; ty = ty; tag = tag; held = held; place = n }
+outcomeOf ty tag held (Refused k) = record { refusal = numberOf k; ty = 0; tag = tag; held = held; place = 0 }
 
--- the output that is left, and the place that is answered
-pub record Leaves (out : List ℕ) (past : Place) (o' : List ℕ) (w : Wrote) : Type 0 where
-  pub bytes : o' ≡ out
-  pub wrote : w ≡ wroteOf past
+-- where there is no frame to tell of
+abbrev pub ended : Place → Outcome
+ended p = outcomeOf 0 0 false p
 
-pub leaves : {out o' : List ℕ} {past q : Place} {w : Wrote} → o' ≡ out → q ≡ past → w ≡ wroteOf q → Leaves out past o' w
-leaves b n e = record { bytes = b; wrote = e ∙ ap wroteOf n }
+-- the outcome, and what the lent room holds afterwards
+pub record Answered (outcome : Outcome) (room room' : List ℕ) (r : Outcome) : Type 0 where
+  pub answer : r ≡ outcome
+  pub left : room' ≡ room
 
 -- any two answers that the promise allows are equal
-pub leaves-one : {out o1 o2 : List ℕ} {past : Place} {w w' : Wrote} → Leaves out past o1 w → Leaves out past o2 w' → (o1 ≡ o2) × (w ≡ w')
-leaves-one a b = (one-answer (a .bytes) (b .bytes), one-answer (a .wrote) (b .wrote))
+pub answered-one : {outcome r r' : Outcome} {room o1 o2 : List ℕ} → Answered outcome room o1 r → Answered outcome room o2 r' → (o1 ≡ o2) × (r ≡ r')
+answered-one a b = (one-answer (a .left) (b .left), one-answer (a .answer) (b .answer))
 
--- what is made of the place after the fields of a layout, and of their numbers
-abbrev pub readAs : {A : Type 0} → (Place → List ℕ → A) → Layout → List ℕ → Place → A
-readAs f l s p = f (pastFields l s p) (flatValues (valuesAt l s p))
+-- ---- writing
 
-pub read-as : {A : Type 0} (f : Place → List ℕ → A) {l : Layout} {s : List ℕ} {p e : Place} {vs : List Value} {r : A} → r ≡ f e (flatValues vs) → Fields l s p vs e → r ≡ readAs f l s p
-read-as f x h = x ∙ ap₂ (λ e (vs : List Value). f e (flatValues vs)) (h .next) (h .values)
+pub wrote : {out o' : List ℕ} {past q : Place} {r : Outcome} → o' ≡ out → q ≡ past → r ≡ ended q → Answered (ended past) out o' r
+wrote b n e = record { answer = e ∙ ap ended n; left = b }
+
+-- the fields of a layout, from flat values: refused, the output is as it was
+pub record FieldsWritten (l : Layout) (lent ns o : List ℕ) (p : Place) (o' : List ℕ) (r : Outcome) : Type 0 where
+  pub is : Answered (ended (writtenPast (shows l lent (fieldValues l ns)) o p)) (writtenOut (shows l lent (fieldValues l ns)) o p) o' r
+
+pub fields-written : {l : Layout} {lent ns o o' : List ℕ} {vs : List Value} {p q : Place} {r : Outcome} → vs ≡ fieldValues l ns → Written l lent vs o p o' q → r ≡ ended q
+    → FieldsWritten l lent ns o p o' r
+fields-written v w e = let x = rw v at w in record { is = wrote (x .bytes) (x .next) e }
+
+-- ---- reading
+
+-- what the room holds: what was read; refused, what it held before
+abbrev pub filled : Place → List ℕ → List ℕ → List ℕ
+filled (At e) ns before = ns
+filled (Refused k) ns before = before
+
+-- the values of a layout's fields, flat in n places
+pub record FieldsRead (n : ℕ) (l : Layout) (s : List ℕ) (p : Place) (before after : List ℕ) (r : Outcome) : Type 0 where
+  pub is : Answered (ended (pastFields l s p)) (filled (pastFields l s p) (flat n (valuesAt l s p)) before) after r
+
+module _ {n : ℕ} {l : Layout} {s before after : List ℕ} {p e : Place} {vs : List Value} {r : Outcome} (f : Fields l s p vs e) (x : r ≡ ended e) where
+  told : after ≡ filled e (flat n vs) before → FieldsRead n l s p before after r
+  told g = record { is = record { answer = x ∙ ap ended (f .next); left = g ∙ ap₂ (λ e (vs : List Value). filled e (flat n vs) before) (f .next) (f .values) } }
+
+  pub fields-read : {a : ℕ} → e ≡ At a → after ≡ flat n vs → FieldsRead n l s p before after r
+  fields-read h g = told (rw h g)
+
+  pub fields-refused : {k : Refusal} → e ≡ Refused k → after ≡ before → FieldsRead n l s p before after r
+  fields-refused h g = told (rw h g)

@@ -1,4 +1,7 @@
 pub mod Answers
-pub mod Dirents
+pub mod Elements
 pub mod Walks
 pub mod Steps
+pub mod Frames
+pub mod FrameReading
+pub mod FrameWriting

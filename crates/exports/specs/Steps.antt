@@ -2,24 +2,23 @@
 use Prim.Native.Nat.{ℕ, _-_}
 use native.Mathlib.Omega.{arith}
 use mathlib.Core.Path.{_≡_, refl, sym, ap, ap₂, _∙_}
-use mathlib.Core.Bool.{Bool, true, false}
+use mathlib.Core.Bool.{true}
 use mathlib.Core.List.{List}
-use Rattle.numbers.specs.Refusals.{numberOf}
+use Rattle.numbers.specs.declared.Place.the-variants.{At, Refused}
 use Rattle.layouts.specs.Tables.{tableT, tableR}
 use Rattle.layouts.specs.Bodies.{Answer}
 use Rattle.framing.specs.Frames.{readFrame}
 use Rattle.framing.specs.Stretch.{tableFor, answerIn, answerOf, tailIn, Step, frame, end, stop, frameAt}
 use Rattle.framing.specs.Cuts.{between, WholeAt}
 use Rattle.framing.specs.CutLaws.{length-whole, frame-same}
-use Rattle.exports.specs.declared.stretches.FlatStep.{FlatStep}
+use Rattle.exports.specs.Answers.{outcomeOf, ended}
+use Rattle.exports.specs.declared.Outcome.{Outcome}
 
-abbrev pub stopped : ℕ → Bool → FlatStep
-stopped refusal ends = record { refusal = refusal; end = ends; ty = 0; tag = 0; next = 0 }
-
-abbrev pub flatStep : Step → FlatStep
-flatStep (frame at size ty tag a tail next) = record { refusal = 0; end = false; ty = ty; tag = tag; next = next }
-flatStep (end at) = stopped 0 true
-flatStep (stop k at) = stopped (numberOf k) false
+-- a frame is told by its type, its tag and the place after it; the end by its own place, and no frame
+abbrev pub stepOutcome : Step → Outcome
+stepOutcome (frame at size ty tag a tail next) = outcomeOf ty tag true (At next)
+stepOutcome (end at) = ended (At at)
+stepOutcome (stop k at) = ended (Refused k)
 
 -- ---- a whole frame
 
@@ -37,5 +36,5 @@ module _ {s : List ℕ} {p ty tag e : ℕ} (w : WholeAt s p ty tag e) where
       let a : said ≡ answerOf tableT tableR (between p e s) = rw (w .ty) in
       frame-same refl (sym z) (w .ty) (w .tag) a (ap₂ tailIn (sym z) a) (omega arith) ∙ w .is tableT tableR
 
-  pub step-there : record { refusal = 0; end = false; ty = ty; tag = tag; next = e } ≡ flatStep (frameAt tableT tableR s p)
-  step-there = ap flatStep listed-there
+  pub step-there : outcomeOf ty tag true (At e) ≡ stepOutcome (frameAt tableT tableR s p)
+  step-there = ap stepOutcome listed-there

@@ -1,102 +1,81 @@
-// Directory entries: one read at a position of the caller's bytes into a flat answer, and one written from such a record.
+// Directory entries, as flat values in the layout's order: the qid's type, version and path, the offset, the type, and the name's span. One
+// is read at a position of the caller's bytes, and one is written from such values.
 
-use crate::Wrote;
+use crate::Outcome;
+use flat::U8;
+use flat::U32;
 use layouts::dirents;
 use layouts::dirents::Dirent;
 use layouts::qids::Qid;
 use numbers::Place;
-use numbers::Refusal;
 use strings::Span;
 ghost use mathlib.Core.Path.{_≡_};
 ghost use Rattle.numbers.specs.declared.Place.the-variants.{At};
 ghost use Rattle.layouts.specs.Tables.{layoutDirent};
 ghost use Rattle.layouts.specs.Records.{dirent};
-ghost use Rattle.flat.specs.Flat.{flatValues};
-ghost use Rattle.exports.specs.Answers.{readAs};
-ghost use Rattle.exports.specs.Dirents.{flatDirent, DirentWritten};
+ghost use Rattle.flat.specs.Flat.{flat, fieldValues};
+ghost use Rattle.exports.specs.Answers.{FieldsRead, FieldsWritten};
 
-// An entry: 0 with its fields, its name's span and the place after it; or its refusal, and all else 0.
-#[repr(C)]
-pub struct FlatDirent {
-    pub refusal: u8,
-    pub ty: u8,
-    pub qid: Qid,
-    pub offset: u64,
-    pub start: usize,
-    pub len: usize,
-    pub next: usize,
+fn flat_dirent(d: Dirent) -> [u64; 7]
+    ensures { λ r. ⌜ r ≡ flat 7 (dirent d) ⌝ }
+{
+    let qid = d.qid;
+    let name = d.name;
+    [
+        qid.ty as u64,
+        qid.version as u64,
+        qid.path,
+        d.offset,
+        d.ty as u64,
+        name.start as u64,
+        name.len as u64,
+    ]
 }
 
-fn flat_dirent(d: Dirent, p: Place) -> FlatDirent
-    ensures { λ r. ⌜ r ≡ flatDirent p (flatValues (dirent d)) ⌝ }
+fn dirent_of(v: [u64; 7]) -> Dirent
+    ensures { λ r. ⌜ dirent r ≡ fieldValues layoutDirent v ⌝ }
 {
-    match p {
-        Place::At(next) => {
-            let qid = d.qid;
-            let name = d.name;
-            FlatDirent {
-                refusal: 0,
-                ty: d.ty,
-                qid,
-                offset: d.offset,
-                start: name.start,
-                len: name.len,
-                next,
-            }
-        }
-        Place::Refused(k) => {
-            let refusal = numbers::number(k);
-            let qid = Qid {
-                ty: 0,
-                version: 0,
-                path: 0,
-            };
-            FlatDirent {
-                refusal,
-                ty: 0,
-                qid,
-                offset: 0,
-                start: 0,
-                len: 0,
-                next: 0,
-            }
-        }
+    let qid = Qid {
+        ty: (v[0] % U8) as u8,
+        version: (v[1] % U32) as u32,
+        path: v[2],
+    };
+    let name = Span {
+        start: v[5] as usize,
+        len: v[6] as usize,
+    };
+    Dirent {
+        qid,
+        offset: v[3],
+        ty: (v[4] % U8) as u8,
+        name,
     }
 }
 
+// Refused, the values are as they were.
 #[no_mangle]
-pub extern "C" fn sheafsledge_read_dirent(bytes: &[u8], at: usize) -> FlatDirent
-    ensures { λ r. ⌜ r ≡ readAs flatDirent layoutDirent (now (bytes .entry)) (At at) ⌝ }
+pub extern "C" fn sheafsledge_read_dirent(bytes: &[u8], at: usize, values: &mut [u64; 7]) -> Outcome
+    ensures { λ r. ⌜ FieldsRead 7 layoutDirent (now (bytes .entry)) (At at) (now (values .entry)) (now (values .exit)) r ⌝ }
 {
     let r = dirents::read_dirent(bytes, Place::At(at));
-    let value = r.value;
     let next = r.next;
-    flat_dirent(value, next)
+    let Place::At(_) = next else {
+        return crate::ended(next);
+    };
+    *values = flat_dirent(r.value);
+    crate::ended(next)
 }
 
-// 16 if it holds a refusal; else as its record is written. The answer is the place after the entry; `next` is not looked at.
+// The place that is answered is the one after the entry.
 #[no_mangle]
 pub extern "C" fn sheafsledge_write_dirent(
     out: &mut [u8],
     at: usize,
     lent: &[u8],
-    d: FlatDirent,
-) -> Wrote
-    ensures { λ r. ⌜ DirentWritten (now (lent .entry)) d (now (out .entry)) (At at) (now (out .exit)) r ⌝ }
+    values: &[u64; 7],
+) -> Outcome
+    ensures { λ r. ⌜ FieldsWritten layoutDirent (now (lent .entry)) (now (values .entry)) (now (out .entry)) (At at) (now (out .exit)) r ⌝ }
 {
-    if d.refusal != 0 {
-        return crate::wrote_of(Place::Refused(Refusal::HoldsRefusal));
-    }
-    let qid = d.qid;
-    let name = Span {
-        start: d.start,
-        len: d.len,
-    };
-    let m = Dirent {
-        qid,
-        offset: d.offset,
-        ty: d.ty,
-        name,
-    };
-    crate::wrote_of(dirents::write_dirent(out, Place::At(at), lent, m))
+    let d = dirent_of(*values);
+    crate::ended(dirents::write_dirent(out, Place::At(at), lent, d))
 }

@@ -1,5 +1,5 @@
-// The functions that Rust calls, but for those of a whole frame, which stand in `frame_exports`. Nothing is decided in them: what the crates
-// below answer is taken apart and laid flat, and what they take is put together.
+// The functions that Rust calls, but for those of a whole frame, which stand in `request_exports` and `reply_exports`. Nothing is decided in
+// them: what the crates below answer is taken apart and laid flat, and what they take is put together.
 
 pub mod dirents;
 pub mod stretches;
@@ -8,24 +8,46 @@ pub mod walks;
 
 use numbers::Place;
 ghost use mathlib.Core.Path.{_≡_};
-ghost use Rattle.exports.specs.Answers.{wroteOf};
+ghost use Rattle.exports.specs.Answers.{outcomeOf, ended};
 
-// What writing answers: 0 and how far it is written; or the refusal.
+// What crosses to Rust for all that is read or written: 0 and the place after it, or the refusal and no place. A frame also has a tag, and
+// a type where it was accepted or stands at a position; `held` says that there is one. Values go into room that the caller lends.
 #[repr(C)]
-pub struct Wrote {
+pub struct Outcome {
     pub refusal: u8,
-    pub len: usize,
+    pub ty: u8,
+    pub tag: u16,
+    pub held: bool,
+    pub place: usize,
 }
 
-// What a place comes to, as Rust has it.
-pub fn wrote_of(p: Place) -> Wrote
-    ensures { λ r. ⌜ r ≡ wroteOf p ⌝ }
+pub fn outcome_of(ty: u8, tag: u16, held: bool, p: Place) -> Outcome
+    ensures { λ r. ⌜ r ≡ outcomeOf ty tag held p ⌝ }
 {
     match p {
-        Place::At(len) => Wrote { refusal: 0, len },
+        Place::At(place) => Outcome {
+            refusal: 0,
+            ty,
+            tag,
+            held,
+            place,
+        },
         Place::Refused(k) => {
             let refusal = numbers::number(k);
-            Wrote { refusal, len: 0 }
+            Outcome {
+                refusal,
+                ty: 0,
+                tag,
+                held,
+                place: 0,
+            }
         }
     }
+}
+
+// Where there is no frame to tell of.
+pub fn ended(p: Place) -> Outcome
+    ensures { λ r. ⌜ r ≡ ended p ⌝ }
+{
+    outcome_of(0, 0, false, p)
 }

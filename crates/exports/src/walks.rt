@@ -1,6 +1,6 @@
 // Walks: the elements of a vector that was read, a qid, and walks written from tables that the caller lends.
 
-use crate::Wrote;
+use crate::Outcome;
 use fields::Part;
 use laying::elements::Element;
 use layouts::ids::Fid;
@@ -15,42 +15,22 @@ ghost use Rattle.fields.specs.Layouts.{q, strs, quids};
 ghost use Rattle.fields.specs.Values.{part};
 ghost use Rattle.laying.specs.Elements.{elementAt, viewElement};
 ghost use Rattle.layouts.specs.Records.{qid};
-ghost use Rattle.flat.specs.Flat.{flatValues};
-ghost use Rattle.exports.specs.Answers.{readAs};
-ghost use Rattle.exports.specs.Walks.{flatSpan, flatQid, twalkOf, rwalkOf, TableWrote};
+ghost use Rattle.flat.specs.Flat.{flat};
+ghost use Rattle.exports.specs.Answers.{FieldsRead};
+ghost use Rattle.exports.specs.Elements.{Ends, Spanned};
+ghost use Rattle.exports.specs.Walks.{twalkOf, rwalkOf, TableWrote};
 
-// Where an element stands among the lent bytes; or its refusal.
-#[repr(C)]
-pub struct FlatSpan {
-    pub refusal: u8,
-    pub start: usize,
-    pub len: usize,
-}
-
-// A qid; or its refusal, and all else 0.
-#[repr(C)]
-pub struct FlatQid {
-    pub refusal: u8,
-    pub qid: Qid,
-}
-
-fn flat_span(e: Element) -> FlatSpan
-    ensures { λ r. ⌜ r ≡ flatSpan (viewElement e) ⌝ }
+// An element's start and length, and the place after it. Refused, the two numbers are as they were.
+fn spanned(e: Element, span: &mut [u64; 2]) -> Outcome
+    requires { ⌜ Ends (viewElement e) ⌝ }
+    ensures { λ r. ⌜ Spanned (viewElement e) (now (span .entry)) (now (span .exit)) r ⌝ }
 {
     match e {
-        Element::Found(s) => FlatSpan {
-            refusal: 0,
-            start: s.start,
-            len: s.len,
-        },
-        Element::Refused(k) => {
-            let refusal = numbers::number(k);
-            FlatSpan {
-                refusal,
-                start: 0,
-                len: 0,
-            }
+        Element::Found(s) => {
+            *span = [s.start as u64, s.len as u64];
+            crate::ended(Place::At(s.start + s.len))
         }
+        Element::Refused(k) => crate::ended(Place::Refused(k)),
     }
 }
 
@@ -62,12 +42,13 @@ pub extern "C" fn sheafsledge_name_at(
     start: usize,
     len: usize,
     i: usize,
-) -> FlatSpan
-    ensures { λ r. ⌜ r ≡ flatSpan (elementAt strs (now (lent .entry)) (part count start len) i) ⌝ }
+    span: &mut [u64; 2],
+) -> Outcome
+    ensures { λ r. ⌜ Spanned (elementAt strs (now (lent .entry)) (part count start len) i) (now (span .entry)) (now (span .exit)) r ⌝ }
 {
     let elements = Span { start, len };
     let v = Part { count, elements };
-    flat_span(laying::elements::name_at(lent, v, i))
+    spanned(laying::elements::name_at(lent, v, i), span)
 }
 
 // Qid `i` of a vector of qids, whole.
@@ -78,39 +59,33 @@ pub extern "C" fn sheafsledge_qid_at(
     start: usize,
     len: usize,
     i: usize,
-) -> FlatSpan
-    ensures { λ r. ⌜ r ≡ flatSpan (elementAt quids (now (lent .entry)) (part count start len) i) ⌝ }
+    span: &mut [u64; 2],
+) -> Outcome
+    ensures { λ r. ⌜ Spanned (elementAt quids (now (lent .entry)) (part count start len) i) (now (span .entry)) (now (span .exit)) r ⌝ }
 {
     let elements = Span { start, len };
     let v = Part { count, elements };
-    flat_span(laying::elements::qid_at(lent, v, i))
+    spanned(laying::elements::qid_at(lent, v, i), span)
 }
 
-fn flat_qid(v: Qid, p: Place) -> FlatQid
-    ensures { λ r. ⌜ r ≡ flatQid p (flatValues (qid v)) ⌝ }
+fn flat_qid(v: Qid) -> [u64; 3]
+    ensures { λ r. ⌜ r ≡ flat 3 (qid v) ⌝ }
 {
-    match p {
-        Place::At(_) => FlatQid { refusal: 0, qid: v },
-        Place::Refused(k) => {
-            let refusal = numbers::number(k);
-            let qid = Qid {
-                ty: 0,
-                version: 0,
-                path: 0,
-            };
-            FlatQid { refusal, qid }
-        }
-    }
+    [v.ty as u64, v.version as u64, v.path]
 }
 
+// Refused, the values are as they were.
 #[no_mangle]
-pub extern "C" fn sheafsledge_read_qid(bytes: &[u8], at: usize) -> FlatQid
-    ensures { λ r. ⌜ r ≡ readAs flatQid q (now (bytes .entry)) (At at) ⌝ }
+pub extern "C" fn sheafsledge_read_qid(bytes: &[u8], at: usize, values: &mut [u64; 3]) -> Outcome
+    ensures { λ r. ⌜ FieldsRead 3 q (now (bytes .entry)) (At at) (now (values .entry)) (now (values .exit)) r ⌝ }
 {
     let r = qids::read_qid(bytes, Place::At(at));
-    let value = r.value;
     let next = r.next;
-    flat_qid(value, next)
+    let Place::At(_) = next else {
+        return crate::ended(next);
+    };
+    *values = flat_qid(r.value);
+    crate::ended(next)
 }
 
 // A Twalk whose names are spans of the lent bytes: a row of the table is a start and a length.
@@ -122,19 +97,19 @@ pub extern "C" fn sheafsledge_write_twalk(
     fid: u32,
     newfid: u32,
     names: &[[usize; 2]],
-) -> Wrote
+) -> Outcome
     ensures { λ r. ⌜ TableWrote 110 tag (twalkOf fid newfid (now (lent .entry)) (now (names .entry))) (now (out .entry)) (now (out .exit)) r ⌝ }
 {
     let tag = Tag(tag);
     let fid = Fid(fid);
     let newfid = Fid(newfid);
-    crate::wrote_of(tables::write_twalk(out, tag, fid, newfid, lent, names))
+    crate::ended(tables::write_twalk(out, tag, fid, newfid, lent, names))
 }
 
 // An Rwalk whose qids are a table of structs. It has no branch: a slice of structs is walked by hand.
 #[no_mangle]
-pub extern "C" fn sheafsledge_write_rwalk(out: &mut [u8], tag: u16, qids: &[Qid]) -> Wrote
+pub extern "C" fn sheafsledge_write_rwalk(out: &mut [u8], tag: u16, qids: &[Qid]) -> Outcome
     ensures { λ r. ⌜ TableWrote 111 tag (rwalkOf (now (qids .entry))) (now (out .entry)) (now (out .exit)) r ⌝ }
 {
-    crate::wrote_of(tables::write_rwalk(out, Tag(tag), qids))
+    crate::ended(tables::write_rwalk(out, Tag(tag), qids))
 }

@@ -56,17 +56,17 @@ fieldValues l ns = valuesFrom 0 l ns
 
 -- ---- a body read flat: the values of the type's row in n places, as far as they could be read, and the place after its fields
 
-abbrev pub valuesIn : Option Layout → List ℕ → Place → List Value
-valuesIn none s p = []
-valuesIn (some l) s p = valuesAt l s p
+abbrev pub rowValues : Option Layout → List ℕ → Place → List Value
+rowValues none s p = []
+rowValues (some l) s p = valuesAt l s p
 
-abbrev pub pastIn : Option Layout → List ℕ → Place → Place
-pastIn none s p = Refused R.UnknownType
-pastIn (some l) s p = pastFields l s p
+abbrev pub rowPast : Option Layout → List ℕ → Place → Place
+rowPast none s p = Refused R.UnknownType
+rowPast (some l) s p = pastFields l s p
 
 pub record FlatRead (n : ℕ) (l : Option Layout) (s : List ℕ) (p : Place) (ns : List ℕ) (q : Place) : Type 0 where
-  pub values : ns ≡ flat n (valuesIn l s p)
-  pub next : q ≡ pastIn l s p
+  pub values : ns ≡ flat n (rowValues l s p)
+  pub next : q ≡ rowPast l s p
 
 -- ---- a body written from such a run of numbers, by the layout of the type's row: 3 where it has none
 

@@ -41,9 +41,9 @@ FitsField dat v = lenOf v < suc most
 FitsField strs v = countOf v < 65536
 FitsField quids v = countOf v < 65536
 
-abbrev pub Fits : Layout → List Value → Type 0
-Fits [] vs = Unit {0}
-Fits (f ∷ fs) vs = FitsField f (firstOf vs) × Fits fs (othersOf vs)
+abbrev pub Readable : Layout → List Value → Type 0
+Readable [] vs = Unit {0}
+Readable (f ∷ fs) vs = FitsField f (firstOf vs) × Readable fs (othersOf vs)
 
 -- ---- what is shown can stand in a frame
 
@@ -91,7 +91,7 @@ shown-good quids lent v {i} b g e =
     let f : qids (countOf v) bs ≡ i = cc d in
     rw (← f) (refl, (g, k ∙ eqb-true (lenOf v) (13 * countOf v) (u .0))))
 
-pub shows-good : (fs : Layout) (lent : List ℕ) (vs : List Value) {is : List Item} {r : List ℕ} → Bytes lent → Fits fs vs → shows fs lent vs ≡ ok is r → (map kind is ≡ fs) × Goods is
+pub shows-good : (fs : Layout) (lent : List ℕ) (vs : List Value) {is : List Item} {r : List ℕ} → Bytes lent → Readable fs vs → shows fs lent vs ≡ ok is r → (map kind is ≡ fs) × Goods is
 unfolding shows
 shows-good [] lent vs {is} b g e = let f : [] ≡ is = cc e in rw (← f) (refl, tt)
 shows-good (f ∷ fs) lent vs {is} b (g, gs) e =
@@ -145,7 +145,7 @@ pub record Back (rows : List Row) (fs : Layout) (ty tag : ℕ) (lent : List ℕ)
   pub before : shows fs lent vs ≡ ok items left
   pub after : shows fs o' values ≡ ok items []
 
-pub read-back : (rows : List Row) {fs : Layout} {ty tag n : ℕ} {lent o o' : List ℕ} {vs : List Value} → lookup rows ty ≡ some fs → ty < 256 ^ 1 → tag < 256 ^ 2 → Bytes lent → Fits fs vs
+pub read-back : (rows : List Row) {fs : Layout} {ty tag n : ℕ} {lent o o' : List ℕ} {vs : List Value} → lookup rows ty ≡ some fs → ty < 256 ^ 1 → tag < 256 ^ 2 → Bytes lent → Readable fs vs
     → FrameWritten fs ty tag lent vs o o' (At n) → Back rows fs ty tag lent vs o' n
 read-back rows {fs} {ty} {tag} {n} {lent} {o} {o'} {vs} k t g b f w =
     let W = wrote (shows fs lent vs) ty tag (w .bytes) (w .next) in

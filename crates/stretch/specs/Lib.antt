@@ -3,5 +3,6 @@ pub mod StepLaws
 pub mod One
 pub mod Examples
 pub mod Known
+pub mod Dialects
 pub mod Functions
 pub mod TablesBack

@@ -9,7 +9,7 @@ mod texts;
 use std::hint::black_box;
 use std::process::ExitCode;
 
-use ours::{CrossedR, CrossedT, Crossing, Wrote};
+use ours::{CrossedR, CrossedT, Crossing};
 use p9::protocol::{Rframe, Tframe, WireFormat};
 use sheafsledge::{Rframe as Reply, Tframe as Request};
 
@@ -44,11 +44,8 @@ fn rows<'a, Ours: Crossing, InRust: in_rust::Frame<'a>, Theirs: WireFormat>(
     flat.read(frame);
     let mut out = vec![0; frame.len()];
     let wrote = flat.write(&mut out, frame);
-    let whole = Wrote {
-        refusal: 0,
-        len: frame.len(),
-    };
-    let same = in_rust::same::<InRust>(frame).filter(|_| wrote == whole && out == frame);
+    let whole = (wrote.refusal, wrote.place) == (0, frame.len());
+    let same = in_rust::same::<InRust>(frame).filter(|_| whole && out == frame);
     let Some(in_rust) = same else {
         eprintln!("bench: the proved library does not read {name} and write it again");
         return false;

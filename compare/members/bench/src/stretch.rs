@@ -49,21 +49,21 @@ fn ours(bytes: &[u8]) -> usize {
     let (mut request, mut reply) = (CrossedT::default(), CrossedR::default());
     loop {
         let step = ours::frame_at(bytes, at);
-        if step.end || step.refusal != 0 {
+        if !step.held {
             return accepted;
         }
-        let frame = &bytes[at..step.next];
+        let frame = &bytes[at..step.place];
         accepted += usize::from(match step.ty % 2 {
             0 => {
                 request.read(frame);
-                black_box(&request).answer.refusal == 0
+                black_box(&request).outcome.refusal == 0
             }
             _ => {
                 reply.read(frame);
-                black_box(&reply).answer.refusal == 0
+                black_box(&reply).outcome.refusal == 0
             }
         });
-        at = step.next;
+        at = step.place;
     }
 }
 

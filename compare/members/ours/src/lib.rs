@@ -6,41 +6,46 @@ mod boundary;
 use boundary::*;
 use judge::Direction;
 
-pub use boundary::{FlatDirent, FlatQid, FlatR, FlatSpan, FlatStep, FlatT, Qid, Wrote};
+pub use boundary::{Outcome, Qid, ENTRY_VALUES, QID_VALUES, R_VALUES, SPAN_VALUES};
+
+/// What the library answers, and the values that it leaves beside it.
+pub type Told<const N: usize> = (Outcome, [u64; N]);
+
+/// What lent values are before a reading, so that one which is not written is seen.
+pub const UNWRITTEN: u64 = u64::MAX;
 
 /// An answer of either direction. A request has 10 values and a reply 22; what is after them is 0.
 #[derive(Clone, Debug, Default, PartialEq, Eq)]
 pub struct Flat {
-    pub refusal: u8,
-    pub ty: u8,
-    pub tag: u16,
-    pub tagged: bool,
-    pub used: usize,
-    pub values: [u64; 22],
+    pub outcome: Outcome,
+    pub values: [u64; R_VALUES],
 }
 
-/// A frame of one direction: the library's answer, and the values beside it.
-#[derive(Clone, Copy, Default)]
-pub struct Crossed<Answer, const N: usize>
-where
-    [u64; N]: Default,
-{
-    pub answer: Answer,
+/// A frame of one direction.
+#[derive(Clone, Copy)]
+pub struct Crossed<const N: usize> {
+    pub outcome: Outcome,
     pub values: [u64; N],
 }
 
-pub type CrossedT = Crossed<FlatT, 10>;
-pub type CrossedR = Crossed<FlatR, 22>;
+pub type CrossedT = Crossed<T_VALUES>;
+pub type CrossedR = Crossed<R_VALUES>;
 
-impl<Answer: Default, const N: usize> Crossed<Answer, N>
-where
-    [u64; N]: Default,
-{
+impl<const N: usize> Crossed<N> {
     /// As if another frame had been read there: each value has to be set anew.
     fn used() -> Self {
         Self {
-            answer: Answer::default(),
-            values: [u64::MAX; N],
+            outcome: Outcome::default(),
+            values: [UNWRITTEN; N],
+        }
+    }
+}
+
+impl<const N: usize> Default for Crossed<N> {
+    fn default() -> Self {
+        Self {
+            outcome: Outcome::default(),
+            values: [0; N],
         }
     }
 }
@@ -49,7 +54,7 @@ where
 /// nothing else is in their time.
 pub trait Crossing: Copy + Default {
     fn read(&mut self, bytes: &[u8]);
-    fn write(&self, out: &mut [u8], lent: &[u8]) -> Wrote;
+    fn write(&self, out: &mut [u8], lent: &[u8]) -> Outcome;
 }
 
 macro_rules! crossing {
@@ -59,15 +64,15 @@ macro_rules! crossing {
             fn read(&mut self, bytes: &[u8]) {
                 // SAFETY: the pointer and the count are a slice's, which the library reads and
                 // does not keep; the values are borrowed alone, and as many as the function takes.
-                self.answer = unsafe { $read(bytes.as_ptr(), bytes.len(), &mut self.values) };
+                self.outcome = unsafe { $read(bytes.as_ptr(), bytes.len(), &mut self.values) };
             }
 
             #[inline]
-            fn write(&self, out: &mut [u8], lent: &[u8]) -> Wrote {
+            fn write(&self, out: &mut [u8], lent: &[u8]) -> Outcome {
                 let (to, room, from, count) =
                     (out.as_mut_ptr(), out.len(), lent.as_ptr(), lent.len());
-                let (answer, values) = (&self.answer, &self.values);
-                let (refusal, ty, tag) = (answer.refusal, answer.ty, answer.tag);
+                let (outcome, values) = (&self.outcome, &self.values);
+                let (refusal, ty, tag) = (outcome.refusal, outcome.ty, outcome.tag);
                 // SAFETY: as in reading; the output is borrowed alone, so it overlaps nothing.
                 unsafe { $write(to, room, from, count, refusal, ty, tag, values) }
             }
@@ -93,7 +98,7 @@ pub fn read(direction: Direction, bytes: &[u8]) -> Flat {
     }
 }
 
-pub fn write(direction: Direction, out: &mut [u8], lent: &[u8], frame: &Flat) -> Wrote {
+pub fn write(direction: Direction, out: &mut [u8], lent: &[u8], frame: &Flat) -> Outcome {
     match direction {
         Direction::T => CrossedT::from(frame).write(out, lent),
         Direction::R => CrossedR::from(frame).write(out, lent),
@@ -101,26 +106,31 @@ pub fn write(direction: Direction, out: &mut [u8], lent: &[u8], frame: &Flat) ->
 }
 
 #[inline]
-pub fn frame_at(bytes: &[u8], position: usize) -> FlatStep {
+pub fn frame_at(bytes: &[u8], position: usize) -> Outcome {
     // SAFETY: as in reading a frame.
     unsafe { sheafsledge_frame_at(bytes.as_ptr(), bytes.len(), position) }
 }
 
-fn widened(values: &[u64; 10]) -> [u64; 22] {
-    let mut wide = [0; 22];
-    wide[..10].copy_from_slice(values);
-    wide
+/// Calls a function that fills values, and gives both.
+fn told<const N: usize>(read: impl FnOnce(&mut [u64; N]) -> Outcome) -> Told<N> {
+    let mut values = [UNWRITTEN; N];
+    (read(&mut values), values)
 }
 
-pub fn read_dirent(bytes: &[u8], at: usize) -> FlatDirent {
+pub fn read_dirent(bytes: &[u8], at: usize) -> Told<ENTRY_VALUES> {
     // SAFETY: as in reading a frame.
-    unsafe { sheafsledge_read_dirent(bytes.as_ptr(), bytes.len(), at) }
+    told(|values| unsafe { sheafsledge_read_dirent(bytes.as_ptr(), bytes.len(), at, values) })
 }
 
-pub fn write_dirent(out: &mut [u8], at: usize, lent: &[u8], dirent: FlatDirent) -> Wrote {
+pub fn write_dirent(
+    out: &mut [u8],
+    at: usize,
+    lent: &[u8],
+    values: &[u64; ENTRY_VALUES],
+) -> Outcome {
     let (to, room) = (out.as_mut_ptr(), out.len());
     // SAFETY: as in writing a frame.
-    unsafe { sheafsledge_write_dirent(to, room, at, lent.as_ptr(), lent.len(), dirent) }
+    unsafe { sheafsledge_write_dirent(to, room, at, lent.as_ptr(), lent.len(), values) }
 }
 
 pub fn is_utf8(bytes: &[u8]) -> bool {
@@ -136,27 +146,27 @@ pub struct Part {
     pub len: usize,
 }
 
-pub fn name_at(lent: &[u8], part: Part, i: usize) -> FlatSpan {
-    let Part { count, start, len } = part;
+pub fn name_at(lent: &[u8], part: Part, i: usize) -> Told<SPAN_VALUES> {
+    let (from, all, Part { count, start, len }) = (lent.as_ptr(), lent.len(), part);
     // SAFETY: as in reading a frame.
-    unsafe { sheafsledge_name_at(lent.as_ptr(), lent.len(), count, start, len, i) }
+    told(|span| unsafe { sheafsledge_name_at(from, all, count, start, len, i, span) })
 }
 
-pub fn qid_at(lent: &[u8], part: Part, i: usize) -> FlatSpan {
-    let Part { count, start, len } = part;
+pub fn qid_at(lent: &[u8], part: Part, i: usize) -> Told<SPAN_VALUES> {
+    let (from, all, Part { count, start, len }) = (lent.as_ptr(), lent.len(), part);
     // SAFETY: as in reading a frame.
-    unsafe { sheafsledge_qid_at(lent.as_ptr(), lent.len(), count, start, len, i) }
+    told(|span| unsafe { sheafsledge_qid_at(from, all, count, start, len, i, span) })
 }
 
-pub fn read_qid(bytes: &[u8], at: usize) -> FlatQid {
+pub fn read_qid(bytes: &[u8], at: usize) -> Told<QID_VALUES> {
     // SAFETY: as in reading a frame.
-    unsafe { sheafsledge_read_qid(bytes.as_ptr(), bytes.len(), at) }
+    told(|values| unsafe { sheafsledge_read_qid(bytes.as_ptr(), bytes.len(), at, values) })
 }
 
 /// The tag, the fid and the new fid of a Twalk.
 pub type Head = (u16, u32, u32);
 
-pub fn write_twalk(out: &mut [u8], lent: &[u8], head: Head, names: &[[usize; 2]]) -> Wrote {
+pub fn write_twalk(out: &mut [u8], lent: &[u8], head: Head, names: &[[usize; 2]]) -> Outcome {
     let (to, room, from, count) = (out.as_mut_ptr(), out.len(), lent.as_ptr(), lent.len());
     let (tag, fid, newfid) = head;
     let (rows, rows_count) = (names.as_ptr(), names.len());
@@ -164,7 +174,7 @@ pub fn write_twalk(out: &mut [u8], lent: &[u8], head: Head, names: &[[usize; 2]]
     unsafe { sheafsledge_write_twalk(to, room, from, count, tag, fid, newfid, rows, rows_count) }
 }
 
-pub fn write_rwalk(out: &mut [u8], tag: u16, qids: &[Qid]) -> Wrote {
+pub fn write_rwalk(out: &mut [u8], tag: u16, qids: &[Qid]) -> Outcome {
     let (to, room) = (out.as_mut_ptr(), out.len());
     // SAFETY: as in writing a frame; the table is a slice's too.
     unsafe { sheafsledge_write_rwalk(to, room, tag, qids.as_ptr(), qids.len()) }
@@ -176,59 +186,19 @@ pub fn answers(request: (u8, u16), reply: (u8, u16)) -> bool {
     unsafe { sheafsledge_answers(request.0, request.1, reply.0, reply.1) }
 }
 
-impl From<CrossedT> for Flat {
-    fn from(frame: CrossedT) -> Self {
-        let answer = frame.answer;
-        Self {
-            refusal: answer.refusal,
-            ty: answer.ty,
-            tag: answer.tag,
-            tagged: answer.tagged,
-            used: answer.used,
-            values: widened(&frame.values),
-        }
+impl<const N: usize> From<Crossed<N>> for Flat {
+    fn from(frame: Crossed<N>) -> Self {
+        let mut values = [0; R_VALUES];
+        values[..N].copy_from_slice(&frame.values);
+        let outcome = frame.outcome;
+        Self { outcome, values }
     }
 }
 
-impl From<CrossedR> for Flat {
-    fn from(frame: CrossedR) -> Self {
-        let answer = frame.answer;
-        Self {
-            refusal: answer.refusal,
-            ty: answer.ty,
-            tag: answer.tag,
-            tagged: false,
-            used: answer.used,
-            values: frame.values,
-        }
-    }
-}
-
-impl From<&Flat> for CrossedT {
+impl<const N: usize> From<&Flat> for Crossed<N> {
     fn from(frame: &Flat) -> Self {
-        Self {
-            answer: FlatT {
-                refusal: frame.refusal,
-                ty: frame.ty,
-                tag: frame.tag,
-                tagged: frame.tagged,
-                used: frame.used,
-            },
-            values: *frame.values.first_chunk().expect("10 of 22"),
-        }
-    }
-}
-
-impl From<&Flat> for CrossedR {
-    fn from(frame: &Flat) -> Self {
-        Self {
-            answer: FlatR {
-                refusal: frame.refusal,
-                ty: frame.ty,
-                tag: frame.tag,
-                used: frame.used,
-            },
-            values: frame.values,
-        }
+        let values = *frame.values.first_chunk().expect("no more than a reply's");
+        let outcome = frame.outcome;
+        Self { outcome, values }
     }
 }

@@ -2,7 +2,7 @@
 
 use judge::cases::{sized, wraps};
 use judge::Direction;
-use ours::{Flat, Wrote};
+use ours::Flat;
 use p9::draw::Draws;
 use p9::flat::Value;
 use p9::show::hex;
@@ -33,7 +33,7 @@ impl Outcome {
 /// What a writing answers, and the output afterwards.
 #[derive(PartialEq, Eq)]
 struct Written {
-    wrote: Wrote,
+    wrote: ours::Outcome,
     out: Vec<u8>,
 }
 
@@ -84,7 +84,7 @@ fn read(direction: Direction, bytes: &[u8]) -> Outcome {
         return known(bytes, &ours, &theirs);
     }
     if ours != theirs.flat || !theirs.shown {
-        return differs(format!("{ours:?}"), told(&theirs));
+        return differs(format!("{ours:?}"), read_by(&theirs));
     }
     match &theirs.again {
         None => Outcome::Refused,
@@ -99,20 +99,26 @@ fn read(direction: Direction, bytes: &[u8]) -> Outcome {
 
 /// The Rust answers as though there were no size.
 fn known(bytes: &[u8], ours: &Flat, theirs: &Theirs) -> Outcome {
-    let refused = Flat {
-        refusal: 2,
-        ..Flat::default()
-    };
+    let refused = theirs::refused(2);
     let unlimited = theirs::read(Direction::R, &sized(bytes.to_vec(), u32::MAX));
-    match *ours == refused && *theirs == unlimited {
+    match *ours == refused.flat && *theirs == unlimited {
         true => Outcome::Known,
-        false => differs(format!("{ours:?}"), told(theirs)),
+        false => differs(format!("{ours:?}"), read_by(theirs)),
+    }
+}
+
+/// What is answered where there is no frame to tell of.
+pub fn told(refusal: u8, place: usize) -> ours::Outcome {
+    ours::Outcome {
+        refusal,
+        place,
+        ..ours::Outcome::default()
     }
 }
 
 fn untouched(refusal: u8, room: usize) -> Written {
     Written {
-        wrote: Wrote { refusal, len: 0 },
+        wrote: told(refusal, 0),
         out: vec![BLANK; room],
     }
 }
@@ -138,7 +144,7 @@ fn text(bytes: &[u8]) -> Outcome {
     }
 }
 
-fn told(theirs: &Theirs) -> String {
+fn read_by(theirs: &Theirs) -> String {
     match theirs.shown {
         true => format!("{:?}", theirs.flat),
         false => format!("{:?}, with other bytes there", theirs.flat),
@@ -162,11 +168,13 @@ fn write_anew(direction: Direction, bytes: &[u8], record: &[Value], draws: &mut 
     let pieces = pieces(record);
     let (lent, places) = lent(&pieces, draws);
     let frame = Flat {
-        refusal: 0,
-        ty: bytes[4],
-        tag: u16::from_le_bytes([bytes[5], bytes[6]]),
-        tagged: true,
-        used: draws.below(usize::MAX),
+        outcome: ours::Outcome {
+            refusal: 0,
+            ty: bytes[4],
+            tag: u16::from_le_bytes([bytes[5], bytes[6]]),
+            held: true,
+            place: draws.below(usize::MAX),
+        },
         values: values(&pieces, &places),
     };
     in_rooms(0, bytes, draws, |out| {
@@ -181,7 +189,7 @@ pub fn in_rooms(
     before: usize,
     bytes: &[u8],
     draws: &mut Draws,
-    write: impl Fn(&mut [u8]) -> Wrote,
+    write: impl Fn(&mut [u8]) -> ours::Outcome,
 ) -> Outcome {
     let len = before + bytes.len();
     let short = [len - 1, draws.below(len)].map(|room| untouched(11, room));
@@ -192,12 +200,16 @@ pub fn in_rooms(
 }
 
 /// A writing that is refused.
-pub fn refused(refusal: u8, room: usize, write: impl Fn(&mut [u8]) -> Wrote) -> Outcome {
+pub fn refused(refusal: u8, room: usize, write: impl Fn(&mut [u8]) -> ours::Outcome) -> Outcome {
     in_a_room(room, Err(refusal), write)
 }
 
 /// A writing into an output of that length, beside the frame that must come of it, or the refusal.
-pub fn in_a_room(room: usize, theirs: Again, write: impl Fn(&mut [u8]) -> Wrote) -> Outcome {
+pub fn in_a_room(
+    room: usize,
+    theirs: Again,
+    write: impl Fn(&mut [u8]) -> ours::Outcome,
+) -> Outcome {
     let theirs = match theirs {
         Ok(bytes) => front(0, &bytes, room - bytes.len()),
         Err(refusal) => untouched(refusal, room),
@@ -205,7 +217,7 @@ pub fn in_a_room(room: usize, theirs: Again, write: impl Fn(&mut [u8]) -> Wrote)
     put_beside(theirs, write)
 }
 
-fn put_beside(theirs: Written, write: impl Fn(&mut [u8]) -> Wrote) -> Outcome {
+fn put_beside(theirs: Written, write: impl Fn(&mut [u8]) -> ours::Outcome) -> Outcome {
     let mut out = vec![BLANK; theirs.out.len()];
     let wrote = write(&mut out);
     beside(Written { wrote, out }, theirs)
@@ -215,7 +227,7 @@ fn put_beside(theirs: Written, write: impl Fn(&mut [u8]) -> Wrote) -> Outcome {
 fn front(before: usize, bytes: &[u8], spare: usize) -> Written {
     let len = before + bytes.len();
     Written {
-        wrote: Wrote { refusal: 0, len },
+        wrote: told(0, len),
         out: [&vec![BLANK; before], bytes, &vec![BLANK; spare]].concat(),
     }
 }

@@ -1,14 +1,14 @@
 //! The elements of a walk, each asked for by its number.
 
 use judge::Direction;
-use ours::{FlatQid, FlatSpan, Part};
+use ours::{Part, Told, QID_VALUES, SPAN_VALUES, UNWRITTEN};
 use p9::flat::Value;
 use p9::protocol::Qid;
 
-use crate::compare::{differs, Outcome};
-use crate::theirs::{self, with_values};
+use crate::compare::{differs, told, Outcome};
+use crate::theirs::with_values;
 
-type Find = fn(&[u8], Part, usize) -> FlatSpan;
+type Find = fn(&[u8], Part, usize) -> Told<SPAN_VALUES>;
 
 /// A frame of a walk that the seller wrote.
 pub fn elements(direction: Direction, frame: &[u8]) -> Outcome {
@@ -51,13 +51,9 @@ fn found(frame: &[u8], find: Find, widths: &[usize], before: usize) -> Outcome {
     }
     let mut start = part.start;
     for (i, width) in widths.iter().enumerate() {
-        let span = FlatSpan {
-            refusal: 0,
-            start: start + before,
-            len: width - before,
-        };
-        asked.push((part, i, span));
+        let span = [start + before, width - before].map(|n| n as u64);
         start += width;
+        asked.push((part, i, (told(0, start), span)));
     }
     all_equal(
         asked
@@ -66,29 +62,21 @@ fn found(frame: &[u8], find: Find, widths: &[usize], before: usize) -> Outcome {
     )
 }
 
-fn none(refusal: u8) -> FlatSpan {
-    FlatSpan {
-        refusal,
-        ..FlatSpan::default()
-    }
+/// Refused, the lent values are as they were.
+fn none<const N: usize>(refusal: u8) -> Told<N> {
+    (told(refusal, 0), [UNWRITTEN; N])
 }
 
 /// The qids that end a frame.
 fn read(frame: &[u8], qids: &[Qid]) -> Outcome {
     let start = frame.len() - 13 * qids.len();
-    let short = FlatQid {
-        refusal: 1,
-        ..FlatQid::default()
-    };
     // Too near the end, at it, and after it.
     let ends = [frame.len().saturating_sub(12), frame.len(), usize::MAX];
-    let cut = ends.map(|at| (ours::read_qid(frame, at), short));
+    let cut = ends.map(|at| (ours::read_qid(frame, at), none(1)));
     let all = qids.iter().enumerate().map(|(i, qid)| {
-        let (refusal, qid) = (0, theirs::qid(qid));
-        (
-            ours::read_qid(frame, start + 13 * i),
-            FlatQid { refusal, qid },
-        )
+        let at = start + 13 * i;
+        let values: [u64; QID_VALUES] = [qid.ty.into(), qid.version.into(), qid.path];
+        (ours::read_qid(frame, at), (told(0, at + 13), values))
     });
     all_equal(all.chain(cut))
 }

@@ -4,7 +4,7 @@
 //! them is put together here as document 01 says it, since the seller's records have no spans.
 
 use judge::Direction;
-use ours::Flat;
+use ours::{Flat, R_VALUES};
 use p9::flat::Value;
 
 use crate::compare::{in_a_room, Outcome};
@@ -21,7 +21,7 @@ struct Raw<'a> {
 /// What some bytes come to as a record: any bytes are one.
 pub fn raw(direction: Direction, bytes: &[u8]) -> Outcome {
     let Raw { frame, room, lent } = taken(bytes);
-    let theirs = match frame.refusal {
+    let theirs = match frame.outcome.refusal {
         0 => written(direction, &frame, lent),
         _ => Err(16),
     };
@@ -45,19 +45,20 @@ fn taken(bytes: &[u8]) -> Raw<'_> {
         wide[..front.len()].copy_from_slice(front);
         u64::from_le_bytes(wide)
     };
-    let mut frame = Flat {
+    let outcome = ours::Outcome {
         ty: number(1) as u8,
         tag: number(2) as u16,
-        tagged: true,
+        held: true,
         // One in 256 holds a refusal, of any number.
         refusal: match number(1) {
             255 => number(1) as u8,
             _ => 0,
         },
-        ..Flat::default()
+        place: 0,
     };
     let room = number(2) as usize;
-    for value in &mut frame.values {
+    let mut values = [0; R_VALUES];
+    for value in &mut values {
         *value = match number(1) {
             small @ 0..=249 => small,
             250 | 251 => number(2),
@@ -67,17 +68,17 @@ fn taken(bytes: &[u8]) -> Raw<'_> {
             _ => break,
         };
     }
-    let lent = rest;
+    let (frame, lent) = (Flat { outcome, values }, rest);
     Raw { frame, room, lent }
 }
 
 fn written(direction: Direction, frame: &Flat, lent: &[u8]) -> Result<Vec<u8>, u8> {
-    let fields = layout(direction, frame.ty).ok_or(3)?;
+    let fields = layout(direction, frame.outcome.ty).ok_or(3)?;
     let mut values = frame.values.iter().copied();
     let mut next = || values.next().unwrap_or(0);
     let mut out = vec![0; 4];
-    out.push(frame.ty);
-    out.extend(frame.tag.to_le_bytes());
+    out.push(frame.outcome.ty);
+    out.extend(frame.outcome.tag.to_le_bytes());
     for field in fields {
         match field {
             Value::Number(_, width) => out.extend(&next().to_le_bytes()[..*width]),

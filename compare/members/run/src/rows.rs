@@ -81,11 +81,9 @@ fn qids() -> Outcome {
 /// The zeros are not looked at, and take no memory.
 fn rread(count: usize, refusal: u8) -> Outcome {
     let lent = vec![0; count];
-    let mut frame = Flat {
-        ty: 117,
-        tag: 1,
-        ..Flat::default()
-    };
+    let mut frame = Flat::default();
+    frame.outcome.ty = 117;
+    frame.outcome.tag = 1;
     frame.values[1] = count as u64;
     refused(refusal, ROOM, |out| {
         ours::write(Direction::R, out, &lent, &frame)

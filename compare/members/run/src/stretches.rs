@@ -3,10 +3,10 @@
 use judge::cases::unknown;
 use judge::stretch::whole;
 use judge::Direction;
-use ours::{Flat, FlatStep};
+use ours::{Flat, Outcome as Told};
 use p9::draw::Draws;
 
-use crate::compare::{differs, Outcome};
+use crate::compare::{differs, told, Outcome};
 use crate::theirs;
 
 /// From 0 on to the end or a refusal, and then at a few positions where no frame need start.
@@ -18,10 +18,10 @@ pub fn stretch(bytes: &[u8], draws: &mut Draws) -> Outcome {
             return outcome;
         }
         let theirs = theirs.0;
-        if theirs.end || theirs.refusal != 0 {
+        if !theirs.held {
             break;
         }
-        position = theirs.next;
+        position = theirs.place;
         if let Some(outcome) = pairs(theirs.ty, theirs.tag) {
             return outcome;
         }
@@ -39,11 +39,11 @@ pub fn stretch(bytes: &[u8], draws: &mut Draws) -> Outcome {
 }
 
 /// What is at a position, and what a frame there comes to in its direction.
-type Step = (FlatStep, Option<Flat>);
+type Step = (Told, Option<Flat>);
 
 fn beside(bytes: &[u8], position: usize, theirs: &Step) -> Option<Outcome> {
     let step = ours::frame_at(bytes, position);
-    let frame = bytes.get(position..step.next).filter(|_| step.next != 0);
+    let frame = bytes.get(position..step.place).filter(|_| step.held);
     let ours = (step, frame.map(|f| ours::read(way(step.ty), f)));
     (ours != *theirs).then(|| differs(format!("{ours:?}"), format!("{theirs:?}")))
 }
@@ -74,19 +74,18 @@ fn pairs(ty: u8, tag: u16) -> Option<Outcome> {
 }
 
 fn step(bytes: &[u8], at: usize) -> Step {
-    let none = FlatStep::default();
     if at == bytes.len() {
-        return (FlatStep { end: true, ..none }, None);
+        return (told(0, at), None);
     }
     match whole(bytes.get(at..).unwrap_or_default()) {
-        Err(refusal) => (FlatStep { refusal, ..none }, None),
+        Err(refusal) => (told(refusal, 0), None),
         Ok(frame) => {
             let ty = frame[4];
-            let step = FlatStep {
+            let step = Told {
                 ty,
                 tag: u16::from_le_bytes([frame[5], frame[6]]),
-                next: at + frame.len(),
-                ..none
+                held: true,
+                ..told(0, at + frame.len())
             };
             (step, Some(theirs::read(way(ty), frame).flat))
         }

@@ -6,11 +6,12 @@ use std::sync::LazyLock;
 use judge::cases::{drawn, types, DIRECTIONS};
 use judge::refusal::number;
 use judge::{written, Direction};
-use ours::Flat;
+use ours::{Flat, Outcome, R_VALUES};
 use p9::draw::Draws;
 use p9::flat::Value;
 use p9::protocol::{Qid, Rframe, Tframe, WireFormat};
 
+use crate::compare;
 use crate::pieces::{in_a_frame, pieces, shown, values};
 
 /// The frame written again, or the number of the refusal.
@@ -29,20 +30,20 @@ pub fn read(direction: Direction, bytes: &[u8]) -> Theirs {
     let mut rest = bytes;
     match direction {
         Direction::T => match Tframe::decode(&mut rest) {
-            Err(error) => refused(&error),
+            Err(error) => refused(refusal(&error)),
             Ok(frame) => match &frame.msg {
                 Err(error) => tagged(error, &frame),
                 Ok(msg) => {
                     let theirs = accepted(bytes, rest, &listed(msg), &frame);
-                    with_tag(theirs, frame.tag, true)
+                    with_tag(theirs, frame.tag)
                 }
             },
         },
         Direction::R => match Rframe::decode(&mut rest) {
-            Err(error) => refused(&error),
+            Err(error) => refused(refusal(&error)),
             Ok(frame) => {
                 let theirs = accepted(bytes, rest, &listed(&frame.msg), &frame);
-                with_tag(theirs, frame.tag, false)
+                with_tag(theirs, frame.tag)
             }
         },
     }
@@ -133,12 +134,11 @@ pub fn refusal(error: &io::Error) -> u8 {
     number(error).unwrap_or(u8::MAX)
 }
 
-fn refused(error: &io::Error) -> Theirs {
+/// No frame, and no tag.
+pub fn refused(refusal: u8) -> Theirs {
+    let (outcome, values) = (compare::told(refusal, 0), [0; R_VALUES]);
     Theirs {
-        flat: Flat {
-            refusal: refusal(error),
-            ..Flat::default()
-        },
+        flat: Flat { outcome, values },
         shown: true,
         again: None,
     }
@@ -151,14 +151,14 @@ fn again(frame: &impl WireFormat) -> Again {
 fn tagged(error: &io::Error, frame: &Tframe) -> Theirs {
     let theirs = Theirs {
         again: Some(again(frame)),
-        ..refused(error)
+        ..refused(refusal(error))
     };
-    with_tag(theirs, frame.tag, true)
+    with_tag(theirs, frame.tag)
 }
 
-fn with_tag(mut theirs: Theirs, tag: u16, tagged: bool) -> Theirs {
-    theirs.flat.tag = tag;
-    theirs.flat.tagged = tagged;
+fn with_tag(mut theirs: Theirs, tag: u16) -> Theirs {
+    theirs.flat.outcome.tag = tag;
+    theirs.flat.outcome.held = true;
     theirs
 }
 
@@ -168,10 +168,11 @@ fn accepted(bytes: &[u8], rest: &[u8], record: &[Value], frame: &impl WireFormat
     let again = again(frame);
     Theirs {
         flat: Flat {
-            ty: again.as_ref().map_or(0, |frame| frame[4]),
-            used: bytes.len() - rest.len(),
+            outcome: Outcome {
+                ty: again.as_ref().map_or(0, |frame| frame[4]),
+                ..compare::told(0, bytes.len() - rest.len())
+            },
             values: values(&pieces, &places),
-            ..Flat::default()
         },
         shown: shown(&pieces, &places, bytes),
         again: Some(again),

@@ -39,25 +39,25 @@ use denote.Exit.{yes}
 use Rattle.layouts.specs.declared.qids.Qid.{Qid}
 use Rattle.layouts.specs.declared.ids.Tag.{Tag}
 use Rattle.numbers.specs.declared.Place.{Place}
-use Rattle.exports.specs.declared.Wrote.{Wrote}
+use Rattle.exports.specs.declared.Outcome.{Outcome}
 use Rattle.tables.specs.Tables.{RwalkWritten}
-use Rattle.exports.specs.Answers.{wroteOf}
+use Rattle.exports.specs.Answers.{ended}
 use Rattle.exports.specs.Walks.{table-wrote}
 use Rattle.layouts.proofs.qids.Qid as T
 use Rattle.layouts.proofs.ids.Tag as G
 use Rattle.layouts.proofs.ids.Tag.Laws as G′
 use Rattle.numbers.proofs.Place as O
 use Rattle.numbers.proofs.Place.Laws as O′
-use Rattle.exports.proofs.Wrote as An
-use Rattle.exports.proofs.Wrote.Laws as An′
+use Rattle.exports.proofs.Outcome as An
+use Rattle.exports.proofs.Outcome.Laws as An′
 use Rattle.tables.proofs.write_rwalk as puts
 use Rattle.tables.proofs.write_rwalk.Symbol as puts-def
 use Rattle.tables.proofs.write_rwalk.Symbol.{name as #write-rwalk}
 use Rattle.tables.proofs.write_rwalk.Met as puts-thm
-use Rattle.exports.proofs.wrote_of as ans
-use Rattle.exports.proofs.wrote_of.Symbol as ans-def
-use Rattle.exports.proofs.wrote_of.Symbol.{name as #wrote-of}
-use Rattle.exports.proofs.wrote_of.Met as ans-thm
+use Rattle.exports.proofs.ended as ans
+use Rattle.exports.proofs.ended.Symbol as ans-def
+use Rattle.exports.proofs.ended.Symbol.{name as #ended}
+use Rattle.exports.proofs.ended.Met as ans-thm
 use Rattle.exports.proofs.walks.sheafsledge_write_rwalk.Key.{name as #self}
 use Rattle.exports.proofs.walks.sheafsledge_write_rwalk as f
 use Rattle.exports.proofs.walks.sheafsledge_write_rwalk.Statement as stated
@@ -74,8 +74,8 @@ module _ {M : Type 1} (𝓤 : URA M) (H : Heap 𝓤) (A : Atoms 𝓤) (mem : Mem
   abbrev Ans : Contract 𝓤
   Ans = tripleOf 𝓤 H A ans.signature (ans.spec 𝓤 H A mem run)
 
-  answered : (p : Place) (r : Wrote) → ent 𝓤 (ensured 𝓤 H A ans.ended (ans.clauses 𝓤 H A mem run) tt (p, tt) tt r) (fact 𝓤 (r ≡ wroteOf p))
-  answered p r = exE 𝓤 _ (λ ws. snd∗ 𝓤 (sem 𝓤 H A (lasts ans.ended tt (p, tt) ws)) (fact 𝓤 (r ≡ wroteOf p)))
+  answered : (p : Place) (r : Outcome) → ent 𝓤 (ensured 𝓤 H A ans.ended (ans.clauses 𝓤 H A mem run) tt (p, tt) tt r) (fact 𝓤 (r ≡ ended p))
+  answered p r = exE 𝓤 _ (λ ws. snd∗ 𝓤 (sem 𝓤 H A (lasts ans.ended tt (p, tt) ws)) (fact 𝓤 (r ≡ ended p)))
 
 module _ {M : Type 1} (𝓤 : URA M) (H : Heap 𝓤) (A : Atoms 𝓤) (W : Given 𝓤 H A) (mem : Memory → SProp 𝓤) (run : Routine → Fun 𝓤) (κ κ′ : Lft) (q q′ : Share) (b o : ℕ) (γ : GName) (xs : List ℕ) (t : ℕ) (tab : RefT (List Qid)) where
   abbrev out : RefT (List ℕ)
@@ -130,14 +130,14 @@ module _ {M : Type 1} (𝓤 : URA M) (H : Heap 𝓤) (A : Atoms 𝓤) (W : Given
   goes-ans : (p : Place) (w : Val) → ent 𝓤 (sem 𝓤 H A (O.the-row .own p (w ∷ []))) (Ans 𝓤 H A mem run .pre (to-ans p w))
   goes-ans p w = qed W (‵ (O.the-row .own p (w ∷ [])) ∷ []) ∵ nothing ! $ move ! (1 ∷ 0 ∷ []) $ fjoin ! $ nothing ! $ join ! $ frame ! $ done !
 
-  exits : (p : Place) (r : Wrote) (v : Val) (zs : List ℕ) → RwalkWritten t (tab .now) xs zs p → r ≡ wroteOf p → length zs ≡ length xs
+  exits : (p : Place) (r : Outcome) (v : Val) (zs : List ℕ) → RwalkWritten t (tab .now) xs zs p → r ≡ ended p → length zs ≡ length xs
       → ent 𝓤 (⋆ 𝓤 H A (‵ (An.the-row .own r (v ∷ [])) ∷ (‵ (flft κ q) ⊛ ‵ (flft κ′ q′) ⊛ ‵ ftrue) ∷ ‵ (finally u8 γ zs) ∷ [])) (Post v)
   exits p r v zs d e l =
       qed W (‵ (An.the-row .own r (v ∷ [])) ∷ (‵ (flft κ q) ⊛ ‵ (flft κ′ q′) ⊛ ‵ ftrue) ∷ ‵ (finally u8 γ zs) ∷ []) ∵
       suffices ! _ (ends-at 𝓤 H A f.ended stayed (f.clauses 𝓤 H A mem run) W (((κ, (κ′, tt)), (q, (q′, tt)), tt, x, vss), tt) v r (zs, (tt, (tt, tt))) (l, (tt, (tt, tt)))) $ says ! (table-wrote (d .is) e) $
       move ! (1 ∷ []) $ frame ! $ nothing ! $ nothing ! $ fjoin ! $ nothing ! $ fjoin ! $ move ! (2 ∷ 0 ∷ []) $ fjoin ! $ frame ! $ done !
 
-  module _ (C : Calls 𝓤 H) (Λ : Loops 𝓤 H) (fm : FmC 𝓤 H (W .laws) C) (known-puts : Triple 𝓤 (C #write-rwalk) (Puts 𝓤 H A mem run)) (known-ans : Triple 𝓤 (C #wrote-of) (Ans 𝓤 H A mem run)) where
+  module _ (C : Calls 𝓤 H) (Λ : Loops 𝓤 H) (fm : FmC 𝓤 H (W .laws) C) (known-puts : Triple 𝓤 (C #write-rwalk) (Puts 𝓤 H A mem run)) (known-ans : Triple 𝓤 (C #ended) (Ans 𝓤 H A mem run)) where
     walk : Room u8 (length xs) → t < 2 ^ 16 → Room T.the-row (length (tab .now)) → ent 𝓤 (onEntry 𝓤 H A f.signature (κ, (κ′, tt)) (q, (q′, tt)) x vss) (WpFn 𝓤 H C Λ code.function (sv ∷ vint w16 t ∷ tv ∷ []) Post)
     walk go gt gn =
         qed W ((‵ (flft κ q) ⊛ ‵ (flft κ′ q′) ⊛ ‵ ftrue) ∷ ‵ (owns (MutSlice (named 0) κ u8 ∷ u16 ∷ ShrSlice (named 1) κ′ T.the-row ∷ []) x vss) ∷ []) ∵ enter ! C Λ code.function (sv ∷ vint w16 t ∷ tv ∷ []) _ $
@@ -161,8 +161,8 @@ module _ {M : Type 1} (𝓤 : URA M) (H : Heap 𝓤) (A : Atoms 𝓤) (W : Given
         land ! (from ! (stop !)) (init ! 10 refl (EL.lawful O.the-type O′.the-laws 𝓤 H A W tt .typed p _ is .0)) $
         use1 W (raw (Ans 𝓤 H A mem run .pre (to-ans p w))) (goes-ans p w) $
         calls-at ! fm (Ans 𝓤 H A mem run) known-ans (to-ans p w) (and-then ! (load ! (from ! (stop !)) (look ! 10 refl)) (no-more !)) (λ v.
-        use1 W (later (some (λ (r : Wrote). (‵ ftrue ⊛ ‵ (An.the-row .own r (v ∷ []))) ⊛ raw (ensured 𝓤 H A ans.ended (ans.clauses 𝓤 H A mem run) tt (p, tt) tt r)))) (id⊢ 𝓤 _) $ await ! tt $ pick ! (λ r.
-        split ! $ move ! (1 ∷ []) $ use1 W (raw (fact 𝓤 (r ≡ wroteOf p))) (answered 𝓤 H A mem run p r) $ heard ! (r ≡ wroteOf p) (λ e. split ! $ drop ! $
+        use1 W (later (some (λ (r : Outcome). (‵ ftrue ⊛ ‵ (An.the-row .own r (v ∷ []))) ⊛ raw (ensured 𝓤 H A ans.ended (ans.clauses 𝓤 H A mem run) tt (p, tt) tt r)))) (id⊢ 𝓤 _) $ await ! tt $ pick ! (λ r.
+        split ! $ move ! (1 ∷ []) $ use1 W (raw (fact 𝓤 (r ≡ ended p))) (answered 𝓤 H A mem run p r) $ heard ! (r ≡ ended p) (λ e. split ! $ drop ! $
         peeks ! An.the-row (Is An.the-row) (shows 𝓤 H A An.the-row) r (v ∷ []) (λ made-is.
         land ! (from ! (stop !)) (init ! 18 refl (LL.lawful An.the-type An′.the-laws 𝓤 H A W .typed r _ made-is .0)) $
         returns ! (look ! 18 refl) $ forget ! 4 refl $ forget ! 6 refl $ forget ! 8 refl $ forget ! 10 refl $ forget ! 12 refl $ forget ! 14 refl $ forget ! 16 refl $ forget ! 18 refl $
@@ -171,13 +171,13 @@ module _ {M : Type 1} (𝓤 : URA M) (H : Heap 𝓤) (A : Atoms 𝓤) (W : Given
         keep ! (0 ∷ 1 ∷ 2 ∷ []) $ by ! (exits p r v (zs .0) d e l)))))))))))))))))))
 
 module _ {M : Type 1} (𝓤 : URA M) (H : Heap 𝓤) (A : Atoms 𝓤) (W : Given 𝓤 H A) (mem : Memory → SProp 𝓤) (run : Routine → Fun 𝓤) where
-  rwalk-walks : (C : Calls 𝓤 H) (Λ : Loops 𝓤 H) → FmC 𝓤 H (W .laws) C → Triple 𝓤 (C #write-rwalk) (Puts 𝓤 H A mem run) → Triple 𝓤 (C #wrote-of) (Ans 𝓤 H A mem run) → Walks 𝓤 H A f.ended stayed (WpFn 𝓤 H C Λ code.function) (f.clauses 𝓤 H A mem run)
+  rwalk-walks : (C : Calls 𝓤 H) (Λ : Loops 𝓤 H) → FmC 𝓤 H (W .laws) C → Triple 𝓤 (C #write-rwalk) (Puts 𝓤 H A mem run) → Triple 𝓤 (C #ended) (Ans 𝓤 H A mem run) → Walks 𝓤 H A f.ended stayed (WpFn 𝓤 H C Λ code.function) (f.clauses 𝓤 H A mem run)
   rwalk-walks C Λ fm k₁ k₂ = walked 𝓤 H A f.ended stayed (f.clauses 𝓤 H A mem run) (WpFn 𝓤 H C Λ code.function) (λ κs. (slice-vals, (uint-vals w16, (slice-vals, tt)))) (λ κs. (mut-slice-tells (named 0) (κs .0) u8, (uint-tells w16, (shr-slice-tells (named 1) (κs .1 .0) T.the-row, tt))))
       (λ κs qs bounds a g are. via 𝓤 _ (fst∗ 𝓤 _ (emp 𝓤))
       (walk 𝓤 H A W mem run (κs .0) (κs .1 .0) (qs .0) (qs .1 .0) (a .0 .ptr .0) (a .0 .ptr .1) (a .0 .name) (a .0 .now) (a .1 .0) (a .1 .1 .0) C Λ fm k₁ k₂ (are .0 .0 .1) (are .1 .0 .1) (are .1 .1 .0 .0 .1)))
 
 rwalk-meets : {M : Type 1} (𝓤 : URA M) (H : Heap 𝓤) (A : Atoms 𝓤) (W : Given 𝓤 H A) (mem : Memory → SProp 𝓤) (run : Routine → Fun 𝓤) (𝓣 : Tables 𝓤 H)
-    → Triple 𝓤 (𝓣 .C #write-rwalk) (Puts 𝓤 H A mem run) → Triple 𝓤 (𝓣 .C #wrote-of) (Ans 𝓤 H A mem run) → Meets 𝓤 H A f.signature (WpFn 𝓤 H (𝓣 .C) (𝓣 .Λ) code.function) (f.spec 𝓤 H A mem run)
+    → Triple 𝓤 (𝓣 .C #write-rwalk) (Puts 𝓤 H A mem run) → Triple 𝓤 (𝓣 .C #ended) (Ans 𝓤 H A mem run) → Meets 𝓤 H A f.signature (WpFn 𝓤 H (𝓣 .C) (𝓣 .Λ) code.function) (f.spec 𝓤 H A mem run)
 rwalk-meets 𝓤 H A W mem run 𝓣 k₁ k₂ = walk-meets 𝓤 H A f.ended stayed W (goes-gave-slice 𝓤 H A W 2 0 tt (plain (λ _. u8)), (goes-dropped 𝓤 H A W 2 (plain (λ _. u16)) yes (λ κs x f. refl), (goes-dropped 𝓤 H A W 2 (shrSliceOf (1 ∷ []) tt (plain (λ _. T.the-row))) yes (λ κs x f. refl), tt))) (f.clauses 𝓤 H A mem run)
     (WpFn 𝓤 H (𝓣 .C) (𝓣 .Λ) code.function) (WpFn-mono 𝓤 H (W .laws) 𝓣 code.function) (rwalk-walks 𝓤 H A W mem run (𝓣 .C) (𝓣 .Λ) (fmOf 𝓤 H (W .laws) 𝓣) k₁ k₂)
 
@@ -188,4 +188,4 @@ sheafsledge-write-rwalk-spec 𝓤 H 𝓜 𝓖 𝓡 =
     (tables 𝓤 H 𝓜 𝓡 code.env .C) (tables 𝓤 H 𝓜 𝓡 code.env .Λ) #self code.function (code.unfolded 𝓤 H 𝓜 𝓡)
     (rwalk-meets 𝓤 H (𝓖 .A) (givenOf 𝓤 H 𝓜 𝓖) (𝓜 .mem) (𝓡 .run) (tablesOf 𝓤 H 𝓜 (tables 𝓤 H 𝓜 𝓡 code.env))
     (cited 𝓤 H (Puts 𝓤 H (𝓖 .A) (𝓜 .mem) (𝓡 .run)) 𝓜 𝓡 code.env #write-rwalk puts-def.routine code.calls-tables·write-rwalk (puts-thm.met 𝓤 H 𝓜 𝓖 𝓡))
-    (cited 𝓤 H (Ans 𝓤 H (𝓖 .A) (𝓜 .mem) (𝓡 .run)) 𝓜 𝓡 code.env #wrote-of ans-def.routine code.calls-exports·wrote-of (ans-thm.met 𝓤 H 𝓜 𝓖 𝓡)))
+    (cited 𝓤 H (Ans 𝓤 H (𝓖 .A) (𝓜 .mem) (𝓡 .run)) 𝓜 𝓡 code.env #ended ans-def.routine code.calls-exports·ended (ans-thm.met 𝓤 H 𝓜 𝓖 𝓡)))

@@ -7,7 +7,7 @@ same-length : tie.Need-same-length
 same-length c = search needs
 
 returns : tie.Need-returns
-returns c = table-wrote (c .before .before .before .write-twalk .ensures .is) (c .wrote-of .ensures)
+returns c = table-wrote (c .before .before .before .write-twalk .ensures .is) (c .ended .ensures)
 
 pub sheafsledge-write-twalk-spec : {M : Type 1} → statement M
 sheafsledge-write-twalk-spec = tie.close (tie.spec (λ _ _. tt) (λ _ _. tt) same-length returns)

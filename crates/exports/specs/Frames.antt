@@ -1,0 +1,51 @@
+-- What crosses to Rust for a frame: its outcome, its values in the room that is lent for them, and what writing one from such values leaves.
+use Prim.Native.Nat.{ℕ}
+use mathlib.Core.Bool.{true, cond}
+use mathlib.Core.List.{List, []}
+use lib.Dec.{eqb}
+use Rattle.numbers.specs.Reading.{Result, bad}
+use Rattle.numbers.specs.declared.Refusal.the-variants as R
+use Rattle.numbers.specs.declared.Place.the-variants.{At, Refused}
+use Rattle.fields.specs.Layouts.{Item}
+use Rattle.fields.specs.Values.{Value}
+use Rattle.layouts.specs.Tables.{Row, lookup}
+use Rattle.layouts.specs.Bodies.{Answer, accepted, refused}
+use Rattle.framing.specs.Frames.{Frame, headless, framed}
+use Rattle.framing.specs.Writing.{frameOut, framePast}
+use Rattle.flat.specs.Flat.{flat, showsFrom}
+use Rattle.exports.specs.Answers.{outcomeOf, ended, Answered}
+use Rattle.exports.specs.declared.Outcome.{Outcome}
+
+-- ---- reading
+
+-- the tag stands beside a message and beside a body's refusal (F4.5); a reply whose body fails has none, since it fails whole (F4.6)
+abbrev pub bodyOutcome : ℕ → Answer → Outcome
+bodyOutcome tag (accepted ty vs n) = outcomeOf ty tag true (At n)
+bodyOutcome tag (refused k) = outcomeOf 0 tag true (Refused k)
+
+abbrev pub frameOutcome : Frame → Outcome
+frameOutcome (headless k) = ended (Refused k)
+frameOutcome (framed tag a) = bodyOutcome tag a
+
+-- the values of an accepted body; a refused frame has none
+abbrev pub valuesOf : Answer → List Value
+valuesOf (accepted ty vs n) = vs
+valuesOf (refused k) = []
+
+abbrev pub valuesIn : Frame → List Value
+valuesIn (headless k) = []
+valuesIn (framed tag a) = valuesOf a
+
+-- refused, all n values are 0
+pub record FrameRead (n : ℕ) (f : Frame) (ns : List ℕ) (r : Outcome) : Type 0 where
+  pub is : Answered (frameOutcome f) (flat n (valuesIn f)) ns r
+
+-- ---- writing
+
+-- what a frame shows: 16 where it holds a refusal
+abbrev pub flatShows : List Row → ℕ → ℕ → List ℕ → List ℕ → Result (List Item)
+flatShows rows refusal ty lent ns = cond (eqb refusal 0) (showsFrom (lookup rows ty) lent ns) (bad R.HoldsRefusal)
+
+-- refused, the output is as it was; else the frame stands at its front
+pub record FlatWrote (rows : List Row) (refusal ty tag : ℕ) (ns lent o o' : List ℕ) (r : Outcome) : Type 0 where
+  pub is : Answered (ended (framePast ty tag (flatShows rows refusal ty lent ns) o)) (frameOut ty tag (flatShows rows refusal ty lent ns) o) o' r

@@ -1,3 +1,0 @@
-pub mod Flats
-pub mod ReadingLaws
-pub mod WritingLaws

@@ -1,0 +1,55 @@
+// The two functions of a request that Rust calls. Nothing is decided in them: what the crates below answer is taken apart and laid flat, and
+// what they take is put together. They have a crate, and an archive, of their own, since they reach every request.
+
+use exports::Outcome;
+use flat::WIDTH_T;
+use framing::Head;
+use numbers::Place;
+use numbers::Refusal;
+ghost use Rattle.layouts.specs.Tables.{tableT};
+ghost use Rattle.framing.specs.Frames.{readFrame};
+ghost use Rattle.flat.specs.Flat.{widthT};
+ghost use Rattle.exports.specs.Frames.{FrameRead, FlatWrote};
+
+// What `frames::read_tframe` answers. A record goes flat in the arm that reads it, and through no enum; where the frame is refused, all its
+// values are 0. If its body is, it still has its tag.
+#[no_mangle]
+pub extern "C" fn sheafsledge_read_tframe(bytes: &[u8], values: &mut [u64; WIDTH_T]) -> Outcome
+    ensures { λ r. ⌜ FrameRead widthT (readFrame tableT (now (bytes .entry))) (now (values .exit)) r ⌝ }
+{
+    let head = framing::read_header(bytes);
+    match head {
+        Head::Held(n, ty, tag) => {
+            let next = flat_requests::read_flat(&bytes[..n], ty, Place::At(framing::BODY), values);
+            let Place::At(_) = next else {
+                *values = [0u64; WIDTH_T];
+                return exports::outcome_of(0, tag, true, next);
+            };
+            exports::outcome_of(ty, tag, true, next)
+        }
+        Head::Refused(k) => {
+            *values = [0u64; WIDTH_T];
+            exports::ended(Place::Refused(k))
+        }
+    }
+}
+
+// Written from the values of its record, which are lent, not handed over: C would copy them for each call. 16 if it holds a refusal, 3 if
+// its type is unknown; else as its record is written.
+#[no_mangle]
+pub extern "C" fn sheafsledge_write_tframe(
+    out: &mut [u8],
+    lent: &[u8],
+    refusal: u8,
+    ty: u8,
+    tag: u16,
+    values: &[u64; WIDTH_T],
+) -> Outcome
+    ensures { λ r. ⌜ FlatWrote tableT refusal ty tag (now (values .entry)) (now (lent .entry)) (now (out .entry)) (now (out .exit)) r ⌝ }
+{
+    if refusal != 0 {
+        return exports::ended(Place::Refused(Refusal::HoldsRefusal));
+    }
+    let end = flat_requests::write_flat(out, Place::At(framing::BODY), lent, ty, values);
+    exports::ended(framing::put_header(out, end, ty, tag))
+}
