@@ -5,9 +5,9 @@ use lib.ListN.{length}
 use Rattle.listing.specs.declared.input.Input.{Input}
 use Rattle.listing.specs.declared.input.Input.the-variants as I
 
-abbrev pub Fits : List ℕ → Input → Type 0
-Fits buf (I.Read n) = n ≤ length buf
-Fits buf I.Failed = Unit {0}
+abbrev pub InBuffer : List ℕ → Input → Type 0
+InBuffer buf (I.Read n) = n ≤ length buf
+InBuffer buf I.Failed = Unit {0}
 
 pub record Holds (buf : List ℕ) (r : Input) : Type 0 where
-  pub is : Fits buf r
+  pub is : InBuffer buf r
