@@ -1,6 +1,7 @@
 // A question's answer, in one line.
 
 use crate::outputs;
+use crate::request;
 use crate::sweeps;
 use exports::stretches;
 use exports::texts;
@@ -130,6 +131,7 @@ fn small(kind: u8, p: Place, n: &[u64; 16], s: &[u8]) {
 
 fn ask(kind: u8, p: Place, n: &[u64; 16], s: &[u8]) {
     match kind {
+        b'T' | b'B' => request::ask(kind, p, n, s),
         b'W' => outputs::write(kind, 170000, p, n, s),
         b'p' | b'b' | b'e' | b'm' | b'k' | b'd' => outputs::write(kind, n[1], p, n, s),
         _ => small(kind, p, n, s),

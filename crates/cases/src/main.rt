@@ -1,9 +1,10 @@
-// Answers questions about the library, but for whole frames: those are asked of `request_cases` and `reply_cases`, and, as Rust calls them, in
-// rust/tests/cases.rs. Standard input has a question a line, and standard output gets an answer a line; the file `stdout` beside `src` has
+// Answers questions about the library, but for replies and the lister's text: those are asked of `reply_cases`; what Rust calls with a frame
+// is asked in rust/tests/cases.rs. Standard input has a question a line, and standard output gets an answer a line; the file `stdout` beside `src` has
 // what each is owed. The headings say what is asked, and what is answered; `questions` says how.
 
 mod answers;
 mod outputs;
+mod request;
 mod sweeps;
 
 fn main() {

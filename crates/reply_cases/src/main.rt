@@ -52,10 +52,10 @@ fn question(kind: u8, line: &[u8]) {
             questions::again(&out, end);
         }
         b'l' => listed::list(n[0] as usize, n[1] as usize, s),
-        b'b' => {
+        b'B' => {
             let room = n[2] as usize;
-            let ty = (n[0] % 256) as u8;
-            let p = questions::place(n[1], q.marked);
+            let ty = (n[1] % 256) as u8;
+            let p = questions::place(n[0], q.marked);
             let end = body(questions::front(&mut out, room), ty, p, s);
             questions::placed(end);
             questions::print(questions::part(&out, 0, room));
