@@ -1,3 +1,4 @@
+-- The place says whether it is a refusal.
 use borrow.Author.Needs.{needs}
 use Rattle.exports.proofs.outcome_of.Statement.{statement}
 use Rattle.exports.proofs.outcome_of.Tie as tie

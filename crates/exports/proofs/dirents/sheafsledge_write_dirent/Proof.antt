@@ -1,3 +1,4 @@
+-- The entry is put together from its values, and written by its own writer.
 use borrow.Author.Needs.{needs}
 use Rattle.exports.specs.Answers.{fields-written}
 use Rattle.exports.proofs.dirents.sheafsledge_write_dirent.Statement.{statement}

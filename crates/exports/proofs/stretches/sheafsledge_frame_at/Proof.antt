@@ -1,3 +1,4 @@
+-- A whole frame, the end, or a refusal, as the cut says.
 use borrow.Author.Needs.{needs}
 use mathlib.Core.Path.{ap, _∙_}
 use Rattle.layouts.specs.Tables.{tableT, tableR}

@@ -1,3 +1,4 @@
+-- What the table's writer leaves and answers.
 use borrow.Author.Needs.{needs}
 use Rattle.exports.specs.Walks.{table-wrote}
 use Rattle.exports.proofs.walks.sheafsledge_write_twalk.Statement.{statement}

@@ -1,3 +1,4 @@
+-- An element's span is laid flat; refused, the room is as it was.
 use borrow.Author.Needs.{needs}
 use native.Mathlib.Omega.{arith}
 use mathlib.Core.Path.{refl}
