@@ -1,4 +1,5 @@
-//! Frames read and written through the boundary itself, held to answers that are none of ours.
+//! What crosses the boundary, asked through the boundary itself, and held to answers that are none
+//! of ours.
 //!
 //! cases/questions has a question a line, and the same line of cases/answers what is owed for it,
 //! byte for byte. A line that begins with `#` is a heading, the same in both: the headings say what
@@ -12,47 +13,22 @@
 // Has the archives linked.
 use sheafsledge as _;
 
-// Four of its functions are asked.
+// All but two of its functions are asked: the crate's other tests call those.
 #[allow(dead_code)]
 #[path = "../src/boundary.rs"]
 mod boundary;
+#[path = "cases/frames.rs"]
+mod frames;
+#[path = "cases/others.rs"]
+mod others;
 
-use boundary::*;
+use boundary::Outcome;
 
 const QUESTIONS: &str = include_str!("cases/questions");
 const ANSWERS: &str = include_str!("cases/answers");
 
 /// As many bytes, and as much room, as a question may want.
 const MOST: u64 = 170_000;
-
-/// What lent values hold before, so that one that is not written is seen.
-const UNWRITTEN: u64 = 0xeeee_eeee_eeee_eeee;
-
-fn read_t(bytes: &[u8], values: &mut [u64; T_VALUES]) -> Outcome {
-    // SAFETY: pointer and count are a slice's, and the values are borrowed alone. The library is
-    // proved to touch nothing else, and keeps neither.
-    unsafe { sheafsledge_read_tframe(bytes.as_ptr(), bytes.len(), values) }
-}
-
-fn read_r(bytes: &[u8], values: &mut [u64; R_VALUES]) -> Outcome {
-    // SAFETY: as for `read_t`.
-    unsafe { sheafsledge_read_rframe(bytes.as_ptr(), bytes.len(), values) }
-}
-
-/// A refusal or 0, the type and the tag.
-type Head = (u8, u8, u16);
-
-fn write_t(out: &mut [u8], lent: &[u8], (k, ty, tag): Head, values: &[u64; T_VALUES]) -> Outcome {
-    let (to, room, from, count) = (out.as_mut_ptr(), out.len(), lent.as_ptr(), lent.len());
-    // SAFETY: as for `read_t`; the output is borrowed alone, so that it overlaps nothing.
-    unsafe { sheafsledge_write_tframe(to, room, from, count, k, ty, tag, values) }
-}
-
-fn write_r(out: &mut [u8], lent: &[u8], (k, ty, tag): Head, values: &[u64; R_VALUES]) -> Outcome {
-    let (to, room, from, count) = (out.as_mut_ptr(), out.len(), lent.as_ptr(), lent.len());
-    // SAFETY: as for `write_t`.
-    unsafe { sheafsledge_write_rframe(to, room, from, count, k, ty, tag, values) }
-}
 
 fn spelt(hex: &str) -> Option<Vec<u8>> {
     let digit = |c: u8| char::from(c).to_digit(16);
@@ -94,15 +70,6 @@ fn ended(wrote: Outcome) -> String {
     }
 }
 
-/// What was read, with the tag where there is one.
-fn head(read: Outcome) -> String {
-    match (read.refusal, read.held) {
-        (0, _) => format!("accepted {} {} {}", read.ty, read.tag, read.place),
-        (k, true) => format!("refused {k} {}", read.tag),
-        (k, false) => format!("refused {k} -"),
-    }
-}
-
 fn shown(bytes: &[u8]) -> String {
     let run = |run: &[u8]| match run.len() {
         1 => format!("{:02x}", run[0]),
@@ -114,40 +81,6 @@ fn shown(bytes: &[u8]) -> String {
     }
 }
 
-/// A request read, and written from what was read.
-fn request(out: &mut [u8], bytes: &[u8]) -> String {
-    let mut values = [UNWRITTEN; T_VALUES];
-    let r = read_t(bytes, &mut values);
-    let wrote = write_t(out, bytes, (r.refusal, r.ty, r.tag), &values);
-    format!("{} {} {}", head(r), listed(&values), ended(wrote))
-}
-
-/// A reply, in the same way; where it is refused, there is no tag.
-fn reply(out: &mut [u8], bytes: &[u8]) -> String {
-    let mut values = [UNWRITTEN; R_VALUES];
-    let r = read_r(bytes, &mut values);
-    let wrote = write_r(out, bytes, (r.refusal, r.ty, r.tag), &values);
-    format!("{} {} {}", head(r), listed(&values), ended(wrote))
-}
-
-/// A frame from its first values, the others 0: a request where the type is even.
-fn frame(out: &mut [u8], ty: u64, tag: u64, given: &[u64], lent: &[u8]) -> Option<String> {
-    let head = (0, u8::try_from(ty).ok()?, u16::try_from(tag).ok()?);
-    let mut values = [0; R_VALUES];
-    let room = values[..T_VALUES].get_mut(..given.len())?;
-    room.copy_from_slice(given);
-    let wrote = match ty % 2 {
-        0 => write_t(out, lent, head, values.first_chunk()?),
-        _ => write_r(out, lent, head, &values),
-    };
-    Some(ended(wrote))
-}
-
-/// A Tversion of so many letters. One more is lent than a string may have.
-fn letters(out: &mut [u8], count: u64) -> Option<String> {
-    frame(out, 100, 65_535, &[8192, 0, count], &[b'a'; 65_536])
-}
-
 /// A heading is said again. `None` if the question is malformed.
 fn answer(line: &str) -> Option<String> {
     if line.starts_with('#') {
@@ -155,18 +88,34 @@ fn answer(line: &str) -> Option<String> {
     }
     let (kind, numbers, bytes) = parsed(line)?;
     let room = match (kind, &numbers[..]) {
-        ("t" | "r", &[room]) | ("w", &[_, room, _, ..]) => room,
-        ("S", &[_]) => MOST,
+        ("t" | "r", &[room]) | ("w" | "d" | "m" | "k", &[_, room, ..]) => room,
+        ("S" | "W", &[_]) => MOST,
+        ("N" | "Q" | "f" | "a", _) => 0,
         _ => return None,
     };
     let mut out = (room <= MOST).then(|| vec![0xee; room as usize])?;
-    let said = match kind {
-        "t" => request(&mut out, &bytes),
-        "r" => reply(&mut out, &bytes),
-        "w" => frame(&mut out, numbers[0], numbers[2], &numbers[3..], &bytes)?,
-        _ => return Some(format!("S {}", letters(&mut out, numbers[0])?)),
+    let said = match (kind, &numbers[..]) {
+        ("t", _) => frames::request(&mut out, &bytes),
+        ("r", _) => frames::reply(&mut out, &bytes),
+        ("w", &[ty, _, tag, ref given @ ..]) => frames::frame(&mut out, ty, tag, given, &bytes)?,
+        ("S", &[count]) => frames::letters(&mut out, count)?,
+        ("d", &[at, _]) => others::entry(&mut out, at as usize, &bytes),
+        ("m" | "W", &[count, ref given @ ..]) => others::names(&mut out, count, given, &bytes),
+        ("k", &[count, _, ref given @ ..]) => others::qids(&mut out, count, given),
+        ("N" | "Q", &[i, count, start, len]) => {
+            others::element(kind, i, count, (start, len), &bytes)
+        }
+        ("f", &[at]) => others::step(at as usize, &bytes),
+        ("a", &[asked, asked_tag, given, given_tag]) => {
+            others::pairs((asked, asked_tag), (given, given_tag))
+        }
+        _ => return None,
     };
-    let all = format!("{kind} {said} {}", shown(&out));
+    let shown = match kind {
+        "S" | "W" => String::new(),
+        _ => shown(&out),
+    };
+    let all = format!("{kind} {said} {shown}");
     Some(all.trim_end().to_string())
 }
 
@@ -196,5 +145,5 @@ fn questions_and_answers_stand_side_by_side() {
     assert_eq!(asked, owed, "lines of questions, and of answers");
     let questions = lines(QUESTIONS).filter(|line| !line.starts_with('#'));
     let count = questions.count();
-    assert!(count > 1600, "only {count} questions");
+    assert!(count > 2200, "only {count} questions");
 }

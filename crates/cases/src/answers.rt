@@ -3,9 +3,6 @@
 use crate::outputs;
 use crate::request;
 use crate::sweeps;
-use exports::stretches;
-use exports::texts;
-use exports::walks;
 use numbers::Place;
 use strings::Span;
 
@@ -61,7 +58,7 @@ fn span(p: Place, start: u64, len: u64, s: &[u8]) {
         len: shown.len(),
     };
     questions::placed(strings::check_str(shown, all, p));
-    questions::figure(texts::sheafsledge_is_utf8(shown) as u64);
+    questions::figure(utf8::is_utf8(shown) as u64);
     questions::print(shown);
 }
 
@@ -72,43 +69,6 @@ fn text(s: &[u8]) {
     string(Place::At(0), s);
     let n = [0, 0, 2, len, 0, 0, 0, 0, 0, 0, 0, 0, 0, 0, 0, 0];
     outputs::write(b'e', 32, Place::At(0), &n, s);
-}
-
-// By value: of an array that was lent no length is known, and a parameter has its type's.
-fn two(span: [u64; 2]) {
-    questions::list(&span);
-}
-
-// Name or qid I of a vector. The two numbers were 238.
-fn element(kind: u8, n: &[u64; 16], s: &[u8]) {
-    let i = n[0] as usize;
-    let count = (n[1] % 65536) as u16;
-    let start = n[2] as usize;
-    let len = n[3] as usize;
-    let mut span = [238u64; 2];
-    let e = if kind == b'N' {
-        walks::sheafsledge_name_at(s, count, start, len, i, &mut span)
-    } else {
-        walks::sheafsledge_qid_at(s, count, start, len, i, &mut span)
-    };
-    questions::at(e.refusal, e.place);
-    two(span);
-}
-
-// What is at a position of a stretch.
-fn step(position: usize, s: &[u8]) {
-    let f = stretches::sheafsledge_frame_at(s, position);
-    questions::at(f.refusal, f.place);
-    questions::list(&[f.held as u64, f.ty as u64, f.tag as u64]);
-}
-
-fn pairs(n: &[u64; 16]) {
-    let asked = (n[0] % 256) as u8;
-    let asked_tag = (n[1] % 65536) as u16;
-    let given = (n[2] % 256) as u8;
-    let given_tag = (n[3] % 65536) as u16;
-    let yes = stretches::sheafsledge_answers(asked, asked_tag, given, given_tag);
-    questions::figure(yes as u64);
 }
 
 // The questions that want no output.
@@ -122,9 +82,6 @@ fn small(kind: u8, p: Place, n: &[u64; 16], s: &[u8]) {
         b's' => span(p, n[1], n[2], s),
         b'u' => text(s),
         b'v' => sweeps::sweep(s),
-        b'N' | b'Q' => element(kind, n, s),
-        b'f' => step(at, s),
-        b'a' => pairs(n),
         _ => questions::word(b" malformed"),
     }
 }
@@ -132,8 +89,7 @@ fn small(kind: u8, p: Place, n: &[u64; 16], s: &[u8]) {
 fn ask(kind: u8, p: Place, n: &[u64; 16], s: &[u8]) {
     match kind {
         b'T' | b'B' => request::ask(kind, p, n, s),
-        b'W' => outputs::write(kind, 170000, p, n, s),
-        b'p' | b'b' | b'e' | b'm' | b'k' | b'd' => outputs::write(kind, n[1], p, n, s),
+        b'p' | b'b' | b'e' => outputs::write(kind, n[1], p, n, s),
         _ => small(kind, p, n, s),
     }
 }

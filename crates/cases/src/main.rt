@@ -1,6 +1,7 @@
-// Answers questions about the library, but for replies and the lister's text: those are asked of `reply_cases`; what Rust calls with a frame
-// is asked in rust/tests/cases.rs. Standard input has a question a line, and standard output gets an answer a line; the file `stdout` beside `src` has
-// what each is owed. The headings say what is asked, and what is answered; `questions` says how.
+// Answers questions about numbers, text and strings, and about requests as the functions over records have them; replies and the lister's
+// text are asked of `reply_cases`, and what Rust calls in rust/tests/cases.rs. Standard input has a question a line, and standard output
+// gets an answer a line; the file `stdout` beside `src` has what each is owed. The headings say what is asked, and what is answered;
+// `questions` says how.
 
 mod answers;
 mod outputs;
