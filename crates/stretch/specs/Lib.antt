@@ -6,3 +6,4 @@ pub mod Known
 pub mod Dialects
 pub mod Functions
 pub mod TablesBack
+pub mod TableExamples
