@@ -1,6 +1,7 @@
 pub mod Views
 pub mod StepLaws
 pub mod One
+pub mod Records
 pub mod Examples
 pub mod Known
 pub mod Dialects

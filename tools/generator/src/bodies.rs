@@ -22,6 +22,7 @@ pub fn write(table: &Table, files: &mut Files) {
             format!("crates/{krate}/specs/Views.antt"),
             views(direction, krate, &cases),
         );
+        files.put(format!("crates/{krate}/specs/Made.antt"), made(&cases));
         files.put(
             format!("crates/{krate}/specs/Built.antt"),
             built(direction, krate, &rows, &cases),
@@ -202,12 +203,9 @@ fn read_arm(m: &Message, d: char) -> String {
 
 // ---- definitions
 
-fn views(direction: Direction, krate: &str, cases: &[&Message]) -> String {
-    let d = direction.letter();
-    let mut text = format!(
-        "-- For each case of `{d}message` its number (F3.2), its layout and its values.\nuse Prim.Native.Nat.{{ℕ}}\nuse mathlib.Core.List.{{List, []}}\nuse Rattle.fields.specs.Layouts.{{Layout}}\nuse Rattle.fields.specs.Values.{{Value}}\nuse Rattle.layouts.specs.Tables.{{{}}}\n",
-        layouts(cases)
-    );
+/// The `use` lines of the records' values.
+fn values_uses(cases: &[&Message]) -> String {
+    let mut text = String::new();
     for from in ["common", "messages", "metadata"] {
         let values: Vec<String> = cases
             .iter()
@@ -219,6 +217,16 @@ fn views(direction: Direction, krate: &str, cases: &[&Message]) -> String {
             values.join(", ")
         );
     }
+    text
+}
+
+fn views(direction: Direction, krate: &str, cases: &[&Message]) -> String {
+    let d = direction.letter();
+    let mut text = format!(
+        "-- For each case of `{d}message` its number (F3.2), its layout and its values.\nuse Prim.Native.Nat.{{ℕ}}\nuse mathlib.Core.List.{{List, []}}\nuse Rattle.fields.specs.Layouts.{{Layout}}\nuse Rattle.fields.specs.Values.{{Value}}\nuse Rattle.layouts.specs.Tables.{{{}}}\n",
+        layouts(cases)
+    );
+    text += &values_uses(cases);
     text += "use Rattle.layouts.specs.Bodies.{Answer, accepted, refused}\n";
     text += &declared(krate, d);
     text += &format!("\nabbrev pub type{d} : {d}message → ℕ\n");
@@ -279,16 +287,53 @@ fn rebuilt(f: &Field, i: usize) -> String {
     format!("{} = {value}", quoted(&f.name))
 }
 
-fn message(m: &Message) -> String {
+/// A record made of its values, and that they determine it.
+fn remade(m: &Message) -> String {
     let mut i = 0;
     let mut fields = vec![];
     for f in &m.fields {
         fields.push(rebuilt(f, i));
         i += if f.kind == Kind::Qid { 3 } else { 1 };
     }
+    let (record, small) = (m.record(), m.small());
+    format!(
+        "
+abbrev pub made{record} : List Value → {record}
+made{record} vs = record {{ {} }}
+
+pub one-{small} : (m m' : {record}) → {small} m ≡ {small} m' → m ≡ m'
+one-{small} m m' e = ap made{record} e
+",
+        fields.join("; ")
+    )
+}
+
+fn made(cases: &[&Message]) -> String {
+    let mut text = "-- A record is determined by its values: it can be made of them again.
+use Prim.Native.Nat.{ℕ}
+use mathlib.Core.Path.{_≡_, ap}
+use mathlib.Core.List.{List}
+use lib.ListN.{getD}
+use Rattle.fields.specs.Values.{Value, val, numOf, startOf, lenOf, countOf}
+"
+    .to_string();
+    let records: Vec<_> = cases.iter().filter(|m| !m.is_empty()).collect();
+    text += &values_uses(cases);
+    for m in &records {
+        let record = m.record();
+        text += &format!(
+            "use Rattle.{}.specs.declared.{}.{record}.{{{record}}}\n",
+            m.dialect, m.family
+        );
+    }
+    text += "\nabbrev nth : ℕ → List Value → Value\nnth i vs = getD vs i (val 0)\n";
+    text + &records.iter().map(|m| remade(m)).collect::<String>()
+}
+
+fn message(m: &Message) -> String {
     match m.is_empty() {
         true => format!("M.{}", m.case),
-        false => format!("M.{} (record {{ {} }})", m.case, fields.join("; ")),
+        false => format!("M.{} (made{} vs)", m.case, m.record()),
     }
 }
 
@@ -311,17 +356,22 @@ use Prim.Native.Nat.{ℕ}
 use mathlib.Core.Path.{_≡_, refl, sym, ap, ap₂, _∙_}
 use mathlib.Core.Bool.{true, false}
 use mathlib.Core.List.{List}
-use lib.ListN.{getD}
 use lib.Dec.{eqb}
-use Rattle.fields.specs.Values.{Value, val, numOf, startOf, lenOf, countOf}
+use Rattle.fields.specs.Values.{Value}
 use Rattle.layouts.specs.Bodies.{Answer, accepted, refused}
 "
     .to_string();
+    let made: Vec<String> = cases
+        .iter()
+        .filter(|m| !m.is_empty())
+        .map(|m| format!("made{}", m.record()))
+        .collect();
     text += &format!(
-        "use Rattle.{krate}.specs.Views.{{type{d}, values{d}, view{d}}}\n{}",
+        "use Rattle.{krate}.specs.Views.{{type{d}, values{d}, view{d}}}\nuse Rattle.{krate}.specs.Made.{{{}}}\n{}",
+        made.join(", "),
         declared(krate, d)
     );
-    text += &format!("\nabbrev nth : ℕ → List Value → Value\nnth i vs = getD vs i (val 0)\n\nunfoldable pub built : ℕ → List Value → {d}message\nbuilt ty vs =\n");
+    text += &format!("\nunfoldable pub built : ℕ → List Value → {d}message\nbuilt ty vs =\n");
     text += &tests(rows, 0)
         .lines()
         .map(|line| format!("    {line}\n"))
