@@ -4,6 +4,9 @@ pub mod One
 pub mod Records
 pub mod Examples
 pub mod Known
+pub mod Limits
+pub mod Held
+pub mod Fitting
 pub mod Dialects
 pub mod Functions
 pub mod TablesBack

@@ -42,6 +42,10 @@ pub fn write(table: &Table, files: &mut Files) {
     }
     files.put("crates/stretch/specs/Known.antt".to_string(), known(table));
     files.put(
+        "crates/stretch/specs/Fitting.antt".to_string(),
+        fitting(table),
+    );
+    files.put(
         "crates/pairs/src/known.rt".to_string(),
         known_request(table),
     );
@@ -413,6 +417,66 @@ fn known(table: &Table) -> String {
         + between
         + &rows(Direction::R, "row-of-reply", "Q.")
         + end
+}
+
+/// What the machine value of a record says of the values of a field: `at` is the path to the field, `limit` to the data's limit.
+fn field_fits(f: &Field, at: &str, limit: &str) -> Vec<String> {
+    match f.kind {
+        Kind::Number(_) => vec![format!("{at} .fits")],
+        Kind::Qid => ["", " .1", " .1 .1"]
+            .iter()
+            .map(|rest| format!("{at}{rest} .0 .fits"))
+            .collect(),
+        Kind::Str => vec!["tt".to_string()],
+        Kind::Data => vec![limit.to_string()],
+        _ => vec![format!("{at} .0 .fits")],
+    }
+}
+
+/// That the values of a case fit: the case holds its record after its tag, and the record its fields in order.
+fn case_fits(m: &Message, law: &str) -> String {
+    let mut parts: Vec<String> = vec![];
+    for (i, f) in m.fields.iter().enumerate() {
+        let at = format!("g .1 .0{} .0", " .1".repeat(i));
+        let limit = format!("l{} .0", " .1".repeat(parts.len()));
+        parts.extend(field_fits(f, &at, &limit));
+    }
+    let all = parts
+        .iter()
+        .rev()
+        .fold("tt".to_string(), |rest, part| format!("({part}, {rest})"));
+    format!("{law} {} g l = {all}\n", pattern(m))
+}
+
+/// That the values of a record fit, whose machine value is one.
+fn fitting(table: &Table) -> String {
+    let mut text = "-- A record's numbers fit their fields where its machine value is well typed (`WT`), as that of what a program holds is (`Held.antt`).
+use mir.Val.{WT}
+use Rattle.framing.specs.ReadBack.{Readable}
+use Rattle.stretch.specs.Limits.{Limited}
+"
+    .to_string();
+    for (direction, letter) in [(Direction::T, 'M'), (Direction::R, 'Q')] {
+        let (krate, d) = (direction.enums(), direction.letter());
+        text += &format!(
+            "use Rattle.{krate}.specs.Views.{{layout{d}, values{d}}}
+use Rattle.{krate}.specs.declared.{d}message.{{{d}message}}
+use Rattle.{krate}.specs.declared.{d}message.the-variants as {letter}
+use Rattle.{krate}.proofs.{d}message.Laws.{{lowered as lowered{d}}}
+"
+        );
+    }
+    for (direction, law, letter) in [
+        (Direction::T, "request-fits", "M."),
+        (Direction::R, "reply-fits", "Q."),
+    ] {
+        let d = direction.letter();
+        text += &format!("\npub {law} : (m : {d}message) → WT (lowered{d} m) → Limited (layout{d} m) (values{d} m) → Readable (layout{d} m) (values{d} m)\nunfolding layout{d} values{d}\n");
+        for m in table.by_case(direction) {
+            text += &case_fits(m, law).replace("M.", letter);
+        }
+    }
+    text
 }
 
 fn known_request(table: &Table) -> String {
