@@ -4,74 +4,71 @@ use Prim.Native.Nat.{ℕ}
 use mathlib.Core.Path.{_≡_, refl, sym, ap, ap₂, _∙_}
 use mathlib.Core.Bool.{true, false}
 use mathlib.Core.List.{List}
-use lib.ListN.{getD}
 use lib.Dec.{eqb}
-use Rattle.fields.specs.Values.{Value, val, numOf, startOf, lenOf, countOf}
+use Rattle.fields.specs.Values.{Value}
 use Rattle.layouts.specs.Bodies.{Answer, accepted, refused}
 use Rattle.replies.specs.Views.{typeR, valuesR, viewR}
+use Rattle.replies.specs.Made.{madeRversion, madeRwalk, madeRread, madeRwrite, madeRattach, madeRauth, madeRstatfs, madeRlopen, madeRlcreate, madeRsymlink, madeRmknod, madeRreadlink, madeRgetattr, madeRxattrwalk, madeRreaddir, madeRlock, madeRgetlock, madeRmkdir, madeRlerror}
 use Rattle.replies.specs.declared.Rmessage.{Rmessage}
 use Rattle.replies.specs.declared.Rmessage.the-variants as M
 use Rattle.replies.specs.declared.Rbody.{Rbody}
 use Rattle.replies.specs.declared.Rbody.the-variants as B
 
-abbrev nth : ℕ → List Value → Value
-nth i vs = getD vs i (val 0)
-
 unfoldable pub built : ℕ → List Value → Rmessage
 built ty vs =
     elim (eqb ty 7) [
-      | true ↦ M.Lerror (record { ecode = numOf (nth 0 vs) })
+      | true ↦ M.Lerror (madeRlerror vs)
       | false ↦
           elim (eqb ty 9) [
-            | true ↦ M.Statfs (record { ty = numOf (nth 0 vs); bsize = numOf (nth 1 vs); blocks = numOf (nth 2 vs); bfree = numOf (nth 3 vs); bavail = numOf (nth 4 vs); files = numOf (nth 5 vs); ffree = numOf (nth 6 vs); fsid = numOf (nth 7 vs); namelen = numOf (nth 8 vs) })
+            | true ↦ M.Statfs (madeRstatfs vs)
             | false ↦
                 elim (eqb ty 13) [
-                  | true ↦ M.Lopen (record { qid = record { ty = numOf (nth 0 vs); version = numOf (nth 1 vs); path = numOf (nth 2 vs) }; iounit = numOf (nth 3 vs) })
+                  | true ↦ M.Lopen (madeRlopen vs)
                   | false ↦
                       elim (eqb ty 15) [
-                        | true ↦ M.Lcreate (record { qid = record { ty = numOf (nth 0 vs); version = numOf (nth 1 vs); path = numOf (nth 2 vs) }; iounit = numOf (nth 3 vs) })
+                        | true ↦ M.Lcreate (madeRlcreate vs)
                         | false ↦
                             elim (eqb ty 17) [
-                              | true ↦ M.Symlink (record { qid = record { ty = numOf (nth 0 vs); version = numOf (nth 1 vs); path = numOf (nth 2 vs) } })
+                              | true ↦ M.Symlink (madeRsymlink vs)
                               | false ↦
                                   elim (eqb ty 19) [
-                                    | true ↦ M.Mknod (record { qid = record { ty = numOf (nth 0 vs); version = numOf (nth 1 vs); path = numOf (nth 2 vs) } })
+                                    | true ↦ M.Mknod (madeRmknod vs)
                                     | false ↦
                                         elim (eqb ty 21) [
                                           | true ↦ M.Rename
                                           | false ↦
                                               elim (eqb ty 23) [
-                                                | true ↦ M.Readlink (record { target = record { start = startOf (nth 0 vs); len = lenOf (nth 0 vs) } })
+                                                | true ↦ M.Readlink (madeRreadlink vs)
                                                 | false ↦
                                                     elim (eqb ty 25) [
-                                                      | true ↦ M.GetAttr (record { valid = numOf (nth 0 vs); qid = record { ty = numOf (nth 1 vs); version = numOf (nth 2 vs); path = numOf (nth 3 vs) }; mode = numOf (nth 4 vs); uid = numOf (nth 5 vs); gid = record { 0 = numOf (nth 6 vs) }; nlink = numOf (nth 7 vs); rdev = numOf (nth 8 vs); size = numOf (nth 9 vs); blksize = numOf (nth 10 vs); blocks = numOf (nth 11 vs); «atime_sec» = numOf (nth 12 vs); «atime_nsec» = numOf (nth 13 vs); «mtime_sec» = numOf (nth 14 vs); «mtime_nsec» = numOf (nth 15 vs); «ctime_sec» = numOf (nth 16 vs); «ctime_nsec» = numOf (nth 17 vs); «btime_sec» = numOf (nth 18 vs); «btime_nsec» = numOf (nth 19 vs); «gen_» = numOf (nth 20 vs); «data_version» = numOf (nth 21 vs) })
+                                                      | true ↦ M.GetAttr (madeRgetattr vs)
                                                       | false ↦
                                                           elim (eqb ty 27) [
                                                             | true ↦ M.SetAttr
                                                             | false ↦
                                                                 elim (eqb ty 31) [
-                                                                  | true ↦ M.XattrWalk (record { size = numOf (nth 0 vs) })
+                                                                  | true ↦ M.XattrWalk (madeRxattrwalk vs)
                                                                   | false ↦
                                                                       elim (eqb ty 33) [
                                                                         | true ↦ M.XattrCreate
                                                                         | false ↦
                                                                             elim (eqb ty 41) [
-                                                                              | true ↦ M.Readdir (record { «data» = record { start = startOf (nth 0 vs); len = lenOf (nth 0 vs) } })
+                                                                              | true ↦ M.Readdir (madeRreaddir vs)
                                                                               | false ↦
                                                                                   elim (eqb ty 51) [
                                                                                     | true ↦ M.Fsync
                                                                                     | false ↦
                                                                                         elim (eqb ty 53) [
-                                                                                          | true ↦ M.Lock (record { status = numOf (nth 0 vs) })
+                                                                                          | true ↦ M.Lock (madeRlock vs)
                                                                                           | false ↦
                                                                                               elim (eqb ty 55) [
-                                                                                                | true ↦ M.GetLock (record { «type_» = numOf (nth 0 vs); start = numOf (nth 1 vs); length = numOf (nth 2 vs); «proc_id» = numOf (nth 3 vs); «client_id» = record { start = startOf (nth 4 vs); len = lenOf (nth 4 vs) } })
+                                                                                                | true ↦ M.GetLock (madeRgetlock vs)
                                                                                                 | false ↦
                                                                                                     elim (eqb ty 71) [
                                                                                                       | true ↦ M.Link
                                                                                                       | false ↦
                                                                                                           elim (eqb ty 73) [
-                                                                                                            | true ↦ M.Mkdir (record { qid = record { ty = numOf (nth 0 vs); version = numOf (nth 1 vs); path = numOf (nth 2 vs) } })
+                                                                                                            | true ↦ M.Mkdir (madeRmkdir vs)
                                                                                                             | false ↦
                                                                                                                 elim (eqb ty 75) [
                                                                                                                   | true ↦ M.RenameAt
@@ -80,25 +77,25 @@ built ty vs =
                                                                                                                         | true ↦ M.UnlinkAt
                                                                                                                         | false ↦
                                                                                                                             elim (eqb ty 101) [
-                                                                                                                              | true ↦ M.Version (record { msize = numOf (nth 0 vs); version = record { start = startOf (nth 1 vs); len = lenOf (nth 1 vs) } })
+                                                                                                                              | true ↦ M.Version (madeRversion vs)
                                                                                                                               | false ↦
                                                                                                                                   elim (eqb ty 103) [
-                                                                                                                                    | true ↦ M.Auth (record { aqid = record { ty = numOf (nth 0 vs); version = numOf (nth 1 vs); path = numOf (nth 2 vs) } })
+                                                                                                                                    | true ↦ M.Auth (madeRauth vs)
                                                                                                                                     | false ↦
                                                                                                                                         elim (eqb ty 105) [
-                                                                                                                                          | true ↦ M.Attach (record { qid = record { ty = numOf (nth 0 vs); version = numOf (nth 1 vs); path = numOf (nth 2 vs) } })
+                                                                                                                                          | true ↦ M.Attach (madeRattach vs)
                                                                                                                                           | false ↦
                                                                                                                                               elim (eqb ty 109) [
                                                                                                                                                 | true ↦ M.Flush
                                                                                                                                                 | false ↦
                                                                                                                                                     elim (eqb ty 111) [
-                                                                                                                                                      | true ↦ M.Walk (record { wqids = record { count = countOf (nth 0 vs); elements = record { start = startOf (nth 0 vs); len = lenOf (nth 0 vs) } } })
+                                                                                                                                                      | true ↦ M.Walk (madeRwalk vs)
                                                                                                                                                       | false ↦
                                                                                                                                                           elim (eqb ty 117) [
-                                                                                                                                                            | true ↦ M.Read (record { «data» = record { start = startOf (nth 0 vs); len = lenOf (nth 0 vs) } })
+                                                                                                                                                            | true ↦ M.Read (madeRread vs)
                                                                                                                                                             | false ↦
                                                                                                                                                                 elim (eqb ty 119) [
-                                                                                                                                                                  | true ↦ M.Write (record { count = numOf (nth 0 vs) })
+                                                                                                                                                                  | true ↦ M.Write (madeRwrite vs)
                                                                                                                                                                   | false ↦
                                                                                                                                                                       elim (eqb ty 121) [
                                                                                                                                                                         | true ↦ M.Clunk

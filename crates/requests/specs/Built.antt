@@ -4,103 +4,100 @@ use Prim.Native.Nat.{ℕ}
 use mathlib.Core.Path.{_≡_, refl, sym, ap, ap₂, _∙_}
 use mathlib.Core.Bool.{true, false}
 use mathlib.Core.List.{List}
-use lib.ListN.{getD}
 use lib.Dec.{eqb}
-use Rattle.fields.specs.Values.{Value, val, numOf, startOf, lenOf, countOf}
+use Rattle.fields.specs.Values.{Value}
 use Rattle.layouts.specs.Bodies.{Answer, accepted, refused}
 use Rattle.requests.specs.Views.{typeT, valuesT, viewT}
+use Rattle.requests.specs.Made.{madeTversion, madeTflush, madeTwalk, madeTread, madeTwrite, madeTclunk, madeTremove, madeTattach, madeTauth, madeTstatfs, madeTlopen, madeTlcreate, madeTsymlink, madeTmknod, madeTrename, madeTreadlink, madeTgetattr, madeTsetattr, madeTxattrwalk, madeTxattrcreate, madeTreaddir, madeTfsync, madeTlock, madeTgetlock, madeTlink, madeTmkdir, madeTrenameat, madeTunlinkat}
 use Rattle.requests.specs.declared.Tmessage.{Tmessage}
 use Rattle.requests.specs.declared.Tmessage.the-variants as M
 use Rattle.requests.specs.declared.Tbody.{Tbody}
 use Rattle.requests.specs.declared.Tbody.the-variants as B
 
-abbrev nth : ℕ → List Value → Value
-nth i vs = getD vs i (val 0)
-
 unfoldable pub built : ℕ → List Value → Tmessage
 built ty vs =
     elim (eqb ty 8) [
-      | true ↦ M.Statfs (record { fid = record { 0 = numOf (nth 0 vs) } })
+      | true ↦ M.Statfs (madeTstatfs vs)
       | false ↦
           elim (eqb ty 12) [
-            | true ↦ M.Lopen (record { fid = record { 0 = numOf (nth 0 vs) }; flags = numOf (nth 1 vs) })
+            | true ↦ M.Lopen (madeTlopen vs)
             | false ↦
                 elim (eqb ty 14) [
-                  | true ↦ M.Lcreate (record { fid = record { 0 = numOf (nth 0 vs) }; name = record { start = startOf (nth 1 vs); len = lenOf (nth 1 vs) }; flags = numOf (nth 2 vs); mode = numOf (nth 3 vs); gid = record { 0 = numOf (nth 4 vs) } })
+                  | true ↦ M.Lcreate (madeTlcreate vs)
                   | false ↦
                       elim (eqb ty 16) [
-                        | true ↦ M.Symlink (record { fid = record { 0 = numOf (nth 0 vs) }; name = record { start = startOf (nth 1 vs); len = lenOf (nth 1 vs) }; symtgt = record { start = startOf (nth 2 vs); len = lenOf (nth 2 vs) }; gid = record { 0 = numOf (nth 3 vs) } })
+                        | true ↦ M.Symlink (madeTsymlink vs)
                         | false ↦
                             elim (eqb ty 18) [
-                              | true ↦ M.Mknod (record { dfid = record { 0 = numOf (nth 0 vs) }; name = record { start = startOf (nth 1 vs); len = lenOf (nth 1 vs) }; mode = numOf (nth 2 vs); major = numOf (nth 3 vs); minor = numOf (nth 4 vs); gid = record { 0 = numOf (nth 5 vs) } })
+                              | true ↦ M.Mknod (madeTmknod vs)
                               | false ↦
                                   elim (eqb ty 20) [
-                                    | true ↦ M.Rename (record { fid = record { 0 = numOf (nth 0 vs) }; dfid = record { 0 = numOf (nth 1 vs) }; name = record { start = startOf (nth 2 vs); len = lenOf (nth 2 vs) } })
+                                    | true ↦ M.Rename (madeTrename vs)
                                     | false ↦
                                         elim (eqb ty 22) [
-                                          | true ↦ M.Readlink (record { fid = record { 0 = numOf (nth 0 vs) } })
+                                          | true ↦ M.Readlink (madeTreadlink vs)
                                           | false ↦
                                               elim (eqb ty 24) [
-                                                | true ↦ M.GetAttr (record { fid = record { 0 = numOf (nth 0 vs) }; «request_mask» = numOf (nth 1 vs) })
+                                                | true ↦ M.GetAttr (madeTgetattr vs)
                                                 | false ↦
                                                     elim (eqb ty 26) [
-                                                      | true ↦ M.SetAttr (record { fid = record { 0 = numOf (nth 0 vs) }; valid = numOf (nth 1 vs); mode = numOf (nth 2 vs); uid = numOf (nth 3 vs); gid = record { 0 = numOf (nth 4 vs) }; size = numOf (nth 5 vs); «atime_sec» = numOf (nth 6 vs); «atime_nsec» = numOf (nth 7 vs); «mtime_sec» = numOf (nth 8 vs); «mtime_nsec» = numOf (nth 9 vs) })
+                                                      | true ↦ M.SetAttr (madeTsetattr vs)
                                                       | false ↦
                                                           elim (eqb ty 30) [
-                                                            | true ↦ M.XattrWalk (record { fid = record { 0 = numOf (nth 0 vs) }; newfid = record { 0 = numOf (nth 1 vs) }; name = record { start = startOf (nth 2 vs); len = lenOf (nth 2 vs) } })
+                                                            | true ↦ M.XattrWalk (madeTxattrwalk vs)
                                                             | false ↦
                                                                 elim (eqb ty 32) [
-                                                                  | true ↦ M.XattrCreate (record { fid = record { 0 = numOf (nth 0 vs) }; name = record { start = startOf (nth 1 vs); len = lenOf (nth 1 vs) }; «attr_size» = numOf (nth 2 vs); flags = numOf (nth 3 vs) })
+                                                                  | true ↦ M.XattrCreate (madeTxattrcreate vs)
                                                                   | false ↦
                                                                       elim (eqb ty 40) [
-                                                                        | true ↦ M.Readdir (record { fid = record { 0 = numOf (nth 0 vs) }; offset = numOf (nth 1 vs); count = numOf (nth 2 vs) })
+                                                                        | true ↦ M.Readdir (madeTreaddir vs)
                                                                         | false ↦
                                                                             elim (eqb ty 50) [
-                                                                              | true ↦ M.Fsync (record { fid = record { 0 = numOf (nth 0 vs) }; datasync = numOf (nth 1 vs) })
+                                                                              | true ↦ M.Fsync (madeTfsync vs)
                                                                               | false ↦
                                                                                   elim (eqb ty 52) [
-                                                                                    | true ↦ M.Lock (record { fid = record { 0 = numOf (nth 0 vs) }; «type_» = numOf (nth 1 vs); flags = numOf (nth 2 vs); start = numOf (nth 3 vs); length = numOf (nth 4 vs); «proc_id» = numOf (nth 5 vs); «client_id» = record { start = startOf (nth 6 vs); len = lenOf (nth 6 vs) } })
+                                                                                    | true ↦ M.Lock (madeTlock vs)
                                                                                     | false ↦
                                                                                         elim (eqb ty 54) [
-                                                                                          | true ↦ M.GetLock (record { fid = record { 0 = numOf (nth 0 vs) }; «type_» = numOf (nth 1 vs); start = numOf (nth 2 vs); length = numOf (nth 3 vs); «proc_id» = numOf (nth 4 vs); «client_id» = record { start = startOf (nth 5 vs); len = lenOf (nth 5 vs) } })
+                                                                                          | true ↦ M.GetLock (madeTgetlock vs)
                                                                                           | false ↦
                                                                                               elim (eqb ty 70) [
-                                                                                                | true ↦ M.Link (record { dfid = record { 0 = numOf (nth 0 vs) }; fid = record { 0 = numOf (nth 1 vs) }; name = record { start = startOf (nth 2 vs); len = lenOf (nth 2 vs) } })
+                                                                                                | true ↦ M.Link (madeTlink vs)
                                                                                                 | false ↦
                                                                                                     elim (eqb ty 72) [
-                                                                                                      | true ↦ M.Mkdir (record { dfid = record { 0 = numOf (nth 0 vs) }; name = record { start = startOf (nth 1 vs); len = lenOf (nth 1 vs) }; mode = numOf (nth 2 vs); gid = record { 0 = numOf (nth 3 vs) } })
+                                                                                                      | true ↦ M.Mkdir (madeTmkdir vs)
                                                                                                       | false ↦
                                                                                                           elim (eqb ty 74) [
-                                                                                                            | true ↦ M.RenameAt (record { olddirfid = record { 0 = numOf (nth 0 vs) }; oldname = record { start = startOf (nth 1 vs); len = lenOf (nth 1 vs) }; newdirfid = record { 0 = numOf (nth 2 vs) }; newname = record { start = startOf (nth 3 vs); len = lenOf (nth 3 vs) } })
+                                                                                                            | true ↦ M.RenameAt (madeTrenameat vs)
                                                                                                             | false ↦
                                                                                                                 elim (eqb ty 76) [
-                                                                                                                  | true ↦ M.UnlinkAt (record { dirfd = record { 0 = numOf (nth 0 vs) }; name = record { start = startOf (nth 1 vs); len = lenOf (nth 1 vs) }; flags = numOf (nth 2 vs) })
+                                                                                                                  | true ↦ M.UnlinkAt (madeTunlinkat vs)
                                                                                                                   | false ↦
                                                                                                                       elim (eqb ty 100) [
-                                                                                                                        | true ↦ M.Version (record { msize = numOf (nth 0 vs); version = record { start = startOf (nth 1 vs); len = lenOf (nth 1 vs) } })
+                                                                                                                        | true ↦ M.Version (madeTversion vs)
                                                                                                                         | false ↦
                                                                                                                             elim (eqb ty 102) [
-                                                                                                                              | true ↦ M.Auth (record { afid = record { 0 = numOf (nth 0 vs) }; uname = record { start = startOf (nth 1 vs); len = lenOf (nth 1 vs) }; aname = record { start = startOf (nth 2 vs); len = lenOf (nth 2 vs) }; «n_uname» = numOf (nth 3 vs) })
+                                                                                                                              | true ↦ M.Auth (madeTauth vs)
                                                                                                                               | false ↦
                                                                                                                                   elim (eqb ty 104) [
-                                                                                                                                    | true ↦ M.Attach (record { fid = record { 0 = numOf (nth 0 vs) }; afid = record { 0 = numOf (nth 1 vs) }; uname = record { start = startOf (nth 2 vs); len = lenOf (nth 2 vs) }; aname = record { start = startOf (nth 3 vs); len = lenOf (nth 3 vs) }; «n_uname» = numOf (nth 4 vs) })
+                                                                                                                                    | true ↦ M.Attach (madeTattach vs)
                                                                                                                                     | false ↦
                                                                                                                                         elim (eqb ty 108) [
-                                                                                                                                          | true ↦ M.Flush (record { oldtag = record { 0 = numOf (nth 0 vs) } })
+                                                                                                                                          | true ↦ M.Flush (madeTflush vs)
                                                                                                                                           | false ↦
                                                                                                                                               elim (eqb ty 110) [
-                                                                                                                                                | true ↦ M.Walk (record { fid = record { 0 = numOf (nth 0 vs) }; newfid = record { 0 = numOf (nth 1 vs) }; wnames = record { count = countOf (nth 2 vs); elements = record { start = startOf (nth 2 vs); len = lenOf (nth 2 vs) } } })
+                                                                                                                                                | true ↦ M.Walk (madeTwalk vs)
                                                                                                                                                 | false ↦
                                                                                                                                                     elim (eqb ty 116) [
-                                                                                                                                                      | true ↦ M.Read (record { fid = record { 0 = numOf (nth 0 vs) }; offset = numOf (nth 1 vs); count = numOf (nth 2 vs) })
+                                                                                                                                                      | true ↦ M.Read (madeTread vs)
                                                                                                                                                       | false ↦
                                                                                                                                                           elim (eqb ty 118) [
-                                                                                                                                                            | true ↦ M.Write (record { fid = record { 0 = numOf (nth 0 vs) }; offset = numOf (nth 1 vs); «data» = record { start = startOf (nth 2 vs); len = lenOf (nth 2 vs) } })
+                                                                                                                                                            | true ↦ M.Write (madeTwrite vs)
                                                                                                                                                             | false ↦
                                                                                                                                                                 elim (eqb ty 120) [
-                                                                                                                                                                  | true ↦ M.Clunk (record { fid = record { 0 = numOf (nth 0 vs) } })
+                                                                                                                                                                  | true ↦ M.Clunk (madeTclunk vs)
                                                                                                                                                                   | false ↦
-                                                                                                                                                                      M.Remove (record { fid = record { 0 = numOf (nth 0 vs) } })
+                                                                                                                                                                      M.Remove (madeTremove vs)
                                                                                                                                                                 ]
                                                                                                                                                           ]
                                                                                                                                                     ]

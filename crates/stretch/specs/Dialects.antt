@@ -2,27 +2,29 @@
 use Prim.Native.Nat.{ℕ, _+_, _-_, _^_, _≤_, _<_}
 use native.Mathlib.Omega.{arith}
 use mathlib.Core.Path.{_≡_, refl, sym, ap, _∙_}
-use mathlib.Core.List.{List}
+use mathlib.Core.List.{List, _++_}
 use mathlib.Core.Option.{some}
-use lib.ListN.{length, take}
-use Rattle.numbers.specs.Numbers.{Bytes}
+use lib.ListN.{length, take, drop, length-append}
+use lib.Seq.{take-length, drop-at}
+use Rattle.numbers.specs.Numbers.{Bytes, toLE, length-toLE, bytes-toLE, bytes-join, bytes-take, bytes-drop}
 use Rattle.numbers.specs.Places.{over}
 use Rattle.numbers.specs.declared.Refusal.{Refusal}
 use Rattle.numbers.specs.declared.Refusal.the-variants as R
 use Rattle.numbers.specs.declared.Place.{Place}
 use Rattle.numbers.specs.declared.Place.the-variants.{At}
-use Rattle.fields.specs.Layouts.{Layout}
+use Rattle.fields.specs.Layouts.{Layout, itemsBytes}
 use Rattle.fields.specs.Values.{Value}
 use Rattle.layouts.specs.Tables.{Row, lookup}
 use Rattle.layouts.specs.Bodies.{Answer, accepted, refused}
 use Rattle.framing.specs.Frames.{Frame, framed, readFrame}
-use Rattle.framing.specs.Writing.{FrameWritten}
+use Rattle.framing.specs.Writing.{headBytes, FrameWritten}
+use Rattle.framing.specs.WritingLaws.{head-length}
 use Rattle.framing.specs.Local.{sizeIn, local}
 use Rattle.framing.specs.Stretch.{typeIn, tagIn, answerIn, answerOf, Step, frame, end, stop, frameAt, Listing, entry, ends, stops, listing}
 use Rattle.framing.specs.ListingLaws.{goesOn, listed, list-step, moves-on}
 use Rattle.framing.specs.Accepted.{Accepts, accepts}
 use Rattle.framing.specs.ReadBack.{Readable, Back, read-back}
-use Rattle.framing.specs.Stripped.{resized, stripped-read, stripped-written, cutAt, cut-short}
+use Rattle.framing.specs.Stripped.{resized, stripped-is, stripped-read, stripped-written, cutAt, cut-short}
 use Rattle.framing.specs.Demand.{Whole, Edited, oldLines, newLines, old-listed, new-listed, recordsIn, same-records, repeated, accident}
 
 -- ---- `frame_at`, asked at a position and then at each next one
@@ -62,6 +64,22 @@ module _ (rowsT rowsR : List Row) where
       → L ≡ entry 0 (length f + length f) (typeIn f) (tagIn f) (accepted ty vs used) (length f - used + length f) (ends (length f + length f))
   lists-once f b w h a x = lists (repeated f) x ∙ accident rowsT rowsR f b w a h
 
+-- ---- a stripped frame has nothing left to strip
+
+resized-bytes : (n : ℕ) (s : List ℕ) → Bytes s → Bytes (resized n s)
+unfolding resized
+resized-bytes n s b = bytes-join (toLE 4 n) (drop 4 (take n s)) (bytes-toLE 4 n) (bytes-drop 4 (take n s) (bytes-take n s b))
+
+resized-again : (n : ℕ) (s : List ℕ) → length (resized n s) ≡ n → resized n (resized n s) ≡ resized n s
+unfolding resized
+resized-again n s e =
+    let r : List ℕ = toLE 4 n ++ drop 4 (take n s) in
+    ap (λ (x : List ℕ). toLE 4 n ++ drop 4 x) (ap (λ k. take k r) (sym e) ∙ take-length r) ∙ ap (λ (x : List ℕ). toLE 4 n ++ x) (drop-at (toLE 4 n) (drop 4 (take n s)) 4 (length-toLE 4 n))
+
+stripped-length : (rows : List Row) (s : List ℕ) {ty tag used : ℕ} {vs : List Value} → Accepts rows s ty tag vs used → length (resized used s) ≡ used
+stripped-length rows s {ty} {tag} {used} A =
+    ap length (stripped-is rows s A) ∙ length-append (headBytes used ty tag) (itemsBytes (A .items)) ∙ ap (λ n. n + length (itemsBytes (A .items))) (head-length used ty tag) ∙ sym (A .uses)
+
 -- ---- a direction: its messages, each with a row, what its reader answers, and what a frame becomes whose body fails
 
 pub record Direction : Type 1 where
@@ -98,6 +116,13 @@ module _ (d : Direction) where
     -- and writing it, given room, gives those bytes
     pub written : {o o' : List ℕ} {q : Place} → used ≤ length o → FrameWritten (d .layout m) (d .type m) tag s (d .values m) o o' q → (o' ≡ over o 0 (resized used s)) × (q ≡ At used)
     written {o} h w = let y = stripped-written (d .rows) s is (d .known m) o h in (w .bytes ∙ y .0, w .next ∙ y .1)
+
+    -- also when the stripped bytes are lent in place of the frame
+    pub written-again : {o o' : List ℕ} {q : Place} → used ≤ length o → FrameWritten (d .layout m) (d .type m) tag (resized used s) (d .values m) o o' q → (o' ≡ over o 0 (resized used s)) × (q ≡ At used)
+    written-again {o} h w =
+        let A : Accepts (d .rows) (resized used s) (d .type m) tag (d .values m) used = accepts (d .rows) (resized used s) (resized-bytes used s b) (stripped-read (d .rows) s is) in
+        let y = stripped-written (d .rows) (resized used s) A (d .known m) o h in
+        (w .bytes ∙ y .0 ∙ ap (over o 0) (resized-again used s (stripped-length (d .rows) s is)), w .next ∙ y .1)
 
     -- 4. cut
     pub cut : (j : ℕ) → j < used → (r : d .Read) → Reads (cutAt j s) r → answerIn (d .view r) ≡ refused R.Short

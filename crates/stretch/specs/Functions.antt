@@ -4,6 +4,7 @@ use native.Mathlib.Omega.{arith}
 use mathlib.Core.Path.{_≡_, refl, ap}
 use mathlib.Core.List.{List}
 use lib.ListN.{length, take}
+use mir.Val.{WT}
 use Rattle.numbers.specs.Numbers.{Bytes}
 use Rattle.numbers.specs.Places.{over}
 use Rattle.numbers.specs.declared.Refusal.{Refusal}
@@ -15,6 +16,7 @@ use Rattle.layouts.specs.Tables.{tableT, tableR}
 use Rattle.layouts.specs.Bodies.{accepted, refused}
 use Rattle.requests.specs.Views.{typeT, layoutT, valuesT, viewT}
 use Rattle.requests.specs.declared.Tmessage.{Tmessage}
+use Rattle.requests.proofs.Tmessage.Laws.{lowered as loweredT}
 use Rattle.requests.specs.declared.Tbody.the-variants as M
 use Rattle.replies.specs.Views.{typeR, layoutR, valuesR}
 use Rattle.replies.specs.declared.Rmessage.{Rmessage}
@@ -25,6 +27,8 @@ use Rattle.framing.specs.Local.{sizeIn}
 use Rattle.frames.specs.One.{one-tframe, one-rframe}
 use Rattle.frames.specs.declared.Tframe.{Tframe}
 use Rattle.frames.specs.declared.Rframe.{Rframe}
+use Rattle.frames.proofs.Tframe.Laws.{lowered as loweredTframe}
+use Rattle.frames.proofs.Rframe.Laws.{lowered as loweredRframe}
 use Rattle.frames.specs.declared.ReadTframe.{ReadTframe}
 use Rattle.frames.specs.declared.ReadTframe.the-variants as T
 use Rattle.frames.specs.declared.ReadRframe.{ReadRframe}
@@ -32,11 +36,13 @@ use Rattle.frames.specs.declared.ReadRframe.the-variants as Q
 use Rattle.framing.specs.Stretch.{typeIn, tagIn, answerIn, answerOf, Listing, entry, ends, stops, listing}
 use Rattle.framing.specs.ListingLaws.{goesOn, listed}
 use Rattle.stretch.specs.Views.{viewBody, viewStep, Asked}
-use Rattle.framing.specs.ReadBack.{Readable, Back}
+use Rattle.framing.specs.ReadBack.{Back}
+use Rattle.stretch.specs.Limits.{Limited}
+use Rattle.stretch.specs.Fitting.{request-fits, reply-fits}
 use Rattle.stretch.specs.Known.{row-of-request, type-of-request, row-of-reply, type-of-reply}
 use Rattle.framing.specs.Stripped.{resized, cutAt}
 use Rattle.framing.specs.Demand.{Whole, Edited, oldLines, newLines, recordsIn, repeated}
-use Rattle.stretch.specs.Dialects.{frames, ended, stopped, Lists, listed-by, lists, lists-edited, lists-once, Direction, stripped, written, cut, back, local-read}
+use Rattle.stretch.specs.Dialects.{frames, ended, stopped, Lists, listed-by, lists, lists-edited, lists-once, Direction, stripped, written, written-again, cut, back, local-read}
 use Rattle.stretch.specs.declared.Listed.{Listed}
 use Rattle.stretch.specs.declared.Step.{Step}
 use Rattle.stretch.specs.declared.Step.the-variants as S
@@ -135,6 +141,10 @@ module _ (s : List ℕ) (f : Tframe) (m : Tmessage) {used : ℕ} (b : Bytes s) (
   pub stripped-request-written : {o o' : List ℕ} {q : Place} → used ≤ length o → TframeWritten s f o o' q → (o' ≡ over o 0 (resized used s)) × (q ≡ At used)
   stripped-request-written h w = written requests s (T.Frame f) m (f .tag .0) used b request c h (sent f m k w)
 
+  -- also when the stripped bytes are lent in place of the frame
+  pub stripped-request-written-again : {o o' : List ℕ} {q : Place} → used ≤ length o → TframeWritten (resized used s) f o o' q → (o' ≡ over o 0 (resized used s)) × (q ≡ At used)
+  stripped-request-written-again h w = written-again requests s (T.Frame f) m (f .tag .0) used b request c h (sent f m k w)
+
   -- 4. cut
   pub cut-request : (j : ℕ) → j < used → (r : ReadTframe) → viewTframe r ≡ readFrame tableT (cutAt j s) → answerIn (viewTframe r) ≡ refused R.Short
   cut-request = cut requests s (T.Frame f) m (f .tag .0) used b request c
@@ -155,22 +165,31 @@ module _ (s : List ℕ) (f : Rframe) {used : ℕ} (b : Bytes s) (c : viewRframe 
       → (o' ≡ over o 0 (resized used s)) × (q ≡ At used)
   stripped-reply-written = written replies s (Q.Frame f used) (f .msg) (f .tag .0) used b reply c
 
+  -- also when the stripped bytes are lent in place of the frame
+  pub stripped-reply-written-again : {o o' : List ℕ} {q : Place} → used ≤ length o → FrameWritten (layoutR (f .msg)) (typeR (f .msg)) (f .tag .0) (resized used s) (valuesR (f .msg)) o o' q
+      → (o' ≡ over o 0 (resized used s)) × (q ≡ At used)
+  stripped-reply-written-again = written-again replies s (Q.Frame f used) (f .msg) (f .tag .0) used b reply c
+
   -- 4. cut
   pub cut-reply : (j : ℕ) → j < used → (r : ReadRframe) → viewRframe r ≡ refusedWhole (readFrame tableR (cutAt j s)) → answerIn (viewRframe r) ≡ refused R.Short
   cut-reply = cut replies s (Q.Frame f used) (f .msg) (f .tag .0) used b reply c
 
 -- ---- 3. read back
 
--- a typed record's tag has two bytes, its values fit their fields, and its data is within the reading limit
-module _ {lent o o' : List ℕ} {n : ℕ} (b : Bytes lent) where
-  pub request-back : (f : Tframe) (m : Tmessage) {u : ℕ} → f .msg ≡ M.Message m u → f .tag .0 < 256 ^ 2 → Readable (layoutT m) (valuesT m) → TframeWritten lent f o o' (At n)
-      → Back tableT (layoutT m) (typeT m) (f .tag .0) lent (valuesT m) o' n
-  request-back f m k g h w = back requests m b g h (sent f m k w)
+-- a request that a program holds: its tag and its message are well typed as its frame is
+held-request : (f : Tframe) (m : Tmessage) {u : ℕ} → f .msg ≡ M.Message m u → WT (loweredTframe f) → (f .tag .0 < 256 ^ 2) × WT (loweredT m)
+held-request f m k g = let h = rw k at (g .1 .0) in (g .0 .0 .fits, h .1 .0)
 
-  pub reply-back : (f : Rframe) → f .tag .0 < 256 ^ 2 → Readable (layoutR (f .msg)) (valuesR (f .msg))
+-- a frame that a program holds is well typed (`WT`), and that says all but that its data is within the reading limit
+module _ {lent o o' : List ℕ} {n : ℕ} (b : Bytes lent) where
+  pub request-back : (f : Tframe) (m : Tmessage) {u : ℕ} → f .msg ≡ M.Message m u → WT (loweredTframe f) → Limited (layoutT m) (valuesT m) → TframeWritten lent f o o' (At n)
+      → Back tableT (layoutT m) (typeT m) (f .tag .0) lent (valuesT m) o' n
+  request-back f m k g h w = let p = held-request f m k g in back requests m b (p .0) (request-fits m (p .1) h) (sent f m k w)
+
+  pub reply-back : (f : Rframe) → WT (loweredRframe f) → Limited (layoutR (f .msg)) (valuesR (f .msg))
       → FrameWritten (layoutR (f .msg)) (typeR (f .msg)) (f .tag .0) lent (valuesR (f .msg)) o o' (At n)
       → Back tableR (layoutR (f .msg)) (typeR (f .msg)) (f .tag .0) lent (valuesR (f .msg)) o' n
-  reply-back f g h w = back replies (f .msg) b g h w
+  reply-back f g h w = back replies (f .msg) b (g .0 .0 .fits) (reply-fits (f .msg) (g .1 .0) h) w
 
 -- ---- 5. local
 

@@ -1,8 +1,13 @@
 pub mod Views
 pub mod StepLaws
 pub mod One
+pub mod Records
 pub mod Examples
 pub mod Known
+pub mod Limits
+pub mod Held
+pub mod Fitting
 pub mod Dialects
 pub mod Functions
 pub mod TablesBack
+pub mod TableExamples

@@ -15,13 +15,16 @@ use Rattle.numbers.specs.declared.Refusal.the-variants as R
 use Rattle.numbers.specs.declared.Place.the-variants.{At}
 use Rattle.strings.specs.Strings.{stringBytes}
 use Rattle.strings.specs.Spans.{showString}
-use Rattle.fields.specs.Layouts.{Item, number, string, strings, qids, manyBytes, itemBytes, itemsBytes, AllGood, Goods}
+use Rattle.fields.specs.Layouts.{num, Item, number, string, strings, qids, kind, readFields, manyBytes, itemBytes, itemsBytes, AllGood, Goods}
+use Rattle.fields.specs.LayoutLaws.{reads-fields}
 use Rattle.fields.specs.Values.{val, span, places, show, shows}
-use Rattle.layouts.specs.Tables.{Row, tableT, tableR}
+use Rattle.fields.specs.ValueLaws.{shows-items}
+use Rattle.layouts.specs.Tables.{Row, layoutTwalk, layoutRwalk, tableT, tableR}
 use Rattle.layouts.specs.Bodies.{accepted}
 use Rattle.layouts.specs.declared.qids.Qid.{Qid}
 use Rattle.framing.specs.Frames.{framed, readFrame}
 use Rattle.framing.specs.Writing.{headBytes, frameOut, framePast}
+use Rattle.framing.specs.WritingLaws.{head-length}
 use Rattle.tables.specs.Tables.{TableWritten, fromTable, nameFields, nameValues, walkFields, walkValues, TwalkWritten, qidItems, RwalkWritten}
 use Rattle.tables.specs.QidLaws.{qidsBytes, qids-length}
 use Rattle.framing.specs.Accepted.{Stands, reads-frame}
@@ -35,15 +38,32 @@ in-table k m {ty} {tag} w =
     (λ h. let f = le-ltb 65535 k h in (h, wrote m ty tag (rw f at (w .bytes)) (rw f at (w .next))))
     (λ h. absurd (let d = rw (lt-ltb 65535 k h) at (w .next) in let z : _≡_ {A = ℕ} 0 1 = cc d in omega arith))
 
--- a frame whose bytes are those of other items is read as those
+-- a frame whose bytes are those of other items is read as those, and shows them
+record FrameBack (rows : List Row) (ty tag n : ℕ) (o' : List ℕ) (ks : List Item) : Type 0 where
+  pub reads : readFrame rows o' ≡ framed tag (accepted ty (places 7 ks) n)
+  pub after : shows (map kind ks) o' (places 7 ks) ≡ ok ks []
+
 frame-back : {rows : List Row} {m : Result (List Item)} {ty tag n : ℕ} {o o' : List ℕ} {ks : List Item} (W : Wrote m ty tag o o' n) → itemsBytes (W .items) ≡ itemsBytes ks → Stands rows n ty tag ks
-    → readFrame rows o' ≡ framed tag (accepted ty (places 7 ks) n)
+    → FrameBack rows ty tag n o' ks
 frame-back {rows} {m} {ty} {tag} {n} {o} {o'} {ks} W i s =
     let u = W .size in
     let q = ap length i in
     let a : o' ≡ headBytes n ty tag ++ (itemsBytes ks ++ []) ++ drop n o = W .front ∙ ap (λ (x : List ℕ). headBytes n ty tag ++ x ++ drop n o) (i ∙ sym (append-nil (itemsBytes ks))) in
+    let b : o' ≡ headBytes n ty tag ++ (itemsBytes ks ++ drop n o)
+    = W .front ∙ ap (λ (x : List ℕ). headBytes n ty tag ++ x ++ drop n o) i ∙ append-assoc (headBytes n ty tag) (itemsBytes ks) (drop n o) in
     let v : 7 + length (itemsBytes ks ++ []) ≡ n = ap (λ (x : List ℕ). 7 + length x) (append-nil (itemsBytes ks)) ∙ (omega arith) in
-    ap (readFrame rows) a ∙ reads-frame rows n ty tag ks [] (drop n o) s v ∙ ap (λ k. framed tag (accepted ty (places 7 ks) k)) (omega arith)
+    record {
+      reads = ap (readFrame rows) a ∙ reads-frame rows n ty tag ks [] (drop n o) s v ∙ ap (λ k. framed tag (accepted ty (places 7 ks) k)) (omega arith);
+      after = ap (λ (x : List ℕ). shows (map kind ks) x (places 7 ks)) b ∙ shows-items ks (headBytes n ty tag) (drop n o) 7 (s .goods) (head-length n ty tag);
+    }
+
+-- what is read and shown of one output is one
+frame-one : {rows : List Row} {ty tag n tag' n' : ℕ} {o' : List ℕ} {ks ks' : List Item} → map kind ks ≡ map kind ks' → FrameBack rows ty tag n o' ks → FrameBack rows ty tag' n' o' ks' → (tag ≡ tag') × (n ≡ n') × (ks ≡ ks')
+frame-one {ty = ty} {tag} {n} {tag'} {n'} {o'} {ks} {ks'} k B C =
+    let d : framed tag (accepted ty (places 7 ks) n) ≡ framed tag' (accepted ty (places 7 ks') n') = sym (B .reads) ∙ C .reads in
+    let v : places 7 ks ≡ places 7 ks' = cc d in
+    let e : ok ks [] ≡ ok ks' [] = sym (B .after) ∙ ap₂ (λ l x. shows l o' x) k v ∙ C .after in
+    (cc d, cc d, cc e)
 
 -- ---- names
 
@@ -76,12 +96,13 @@ unfolding itemsBytes itemBytes manyBytes
 names-bytes [] = refl
 names-bytes (b ∷ bs) = ap (λ (x : List ℕ). stringBytes b ++ x) (names-bytes bs)
 
--- the names that were written, and the frame that is read
+-- the names that the table's spans show, the frame that is read, and those names shown of the frame's bytes
 pub record TwalkBack (tag fid newfid : ℕ) (lent : List ℕ) (t : List (List ℕ)) (o' : List ℕ) (n : ℕ) : Type 0 where
   pub names : List (List ℕ)
   pub left : List ℕ
   pub shown : shows (nameFields t) lent (nameValues t) ≡ ok (map string names) left
   pub reads : readFrame tableT o' ≡ framed tag (accepted 110 (places 7 (number 4 fid ∷ number 4 newfid ∷ strings names ∷ [])) n)
+  pub after : shows layoutTwalk o' (places 7 (number 4 fid ∷ number 4 newfid ∷ strings names ∷ [])) ≡ ok (number 4 fid ∷ number 4 newfid ∷ strings names ∷ []) []
 
 walk-inv : {X : Type 0} (t : List (List ℕ)) (lent : List ℕ) (fid newfid k : ℕ) {is : List Item} {r : List ℕ} → shows (walkFields t) lent (walkValues fid newfid k t) ≡ ok is r
     → ((js : List Item) (u : List ℕ) → shows (nameFields t) lent (nameValues t) ≡ ok js u → is ≡ number 4 fid ∷ number 4 newfid ∷ number 2 k ∷ js → X) → X
@@ -116,24 +137,24 @@ twalk-back {tag} {fid} {newfid} {n} {lent} {o} {o'} t g x y w =
     let ks : List Item = number 4 fid ∷ number 4 newfid ∷ strings l ∷ [] in
     let i : itemsBytes (W .items) ≡ itemsBytes ks
     = ap itemsBytes (f ∙ ap₂ (λ k (z : List Item). number 4 fid ∷ number 4 newfid ∷ number 2 k ∷ z) (sym c) (N .are)) ∙ walk-bytes fid newfid l in
-    record {
-      names = l;
-      left = r;
-      shown = e ∙ ap (λ z. ok z r) (N .are);
-      reads = frame-back W i (record {
-        sized = let z = W .small in omega arith;
-        typed = lit< tt;
-        tagged = g;
-        goods = (x, (y, ((omega arith, N .good), tt)));
-        known = refl;
-      });
-    })
+    let B : FrameBack tableT 110 tag n o' ks
+    = frame-back W i (record { sized = let z = W .small in omega arith; typed = lit< tt; tagged = g; goods = (x, (y, ((omega arith, N .good), tt))); known = refl }) in
+    record { names = l; left = r; shown = e ∙ ap (λ z. ok z r) (N .are); reads = B .reads; after = B .after })
+
+-- one output is the Twalk of one pair of fids and of one list of names
+pub twalk-one : {tag fid newfid n tag' fid' newfid' n' : ℕ} {lent lent' o' : List ℕ} {t t' : List (List ℕ)} (B : TwalkBack tag fid newfid lent t o' n) (C : TwalkBack tag' fid' newfid' lent' t' o' n')
+    → (tag ≡ tag') × (fid ≡ fid') × (newfid ≡ newfid') × (B .names ≡ C .names)
+twalk-one B C =
+    let e = frame-one refl (record { reads = B .reads; after = B .after }) (record { reads = C .reads; after = C .after }) in
+    let f = e .2 in
+    (e .0, cc f, cc f, cc f)
 
 -- ---- qids
 
--- the qids that were written stand in the frame that is read, 13 bytes each
+-- the qids that were written stand in the frame that is read, 13 bytes each, and are shown of its bytes
 pub record RwalkBack (tag : ℕ) (t : List Qid) (o' : List ℕ) (n : ℕ) : Type 0 where
   pub reads : readFrame tableR o' ≡ framed tag (accepted 111 (places 7 (qids (length t) (qidsBytes t) ∷ [])) n)
+  pub after : shows layoutRwalk o' (places 7 (qids (length t) (qidsBytes t) ∷ [])) ≡ ok (qids (length t) (qidsBytes t) ∷ []) []
 
 pub rwalk-back : {tag n : ℕ} {o o' : List ℕ} (t : List Qid) → tag < 256 ^ 2 → RwalkWritten tag t o o' (At n) → RwalkBack tag t o' n
 unfolding itemsBytes itemBytes
@@ -144,12 +165,57 @@ rwalk-back {tag} {n} {o} {o'} t g w =
     let e = W .shown in
     let f : number 2 (length t) ∷ qidItems t ≡ W .items = cc e in
     let i : itemsBytes (W .items) ≡ itemsBytes (qids (length t) (qidsBytes t) ∷ []) = ap itemsBytes (sym f) ∙ sym (append-nil (toLE 2 (length t) ++ qidsBytes t)) in
-    record {
-      reads = frame-back W i (record {
-        sized = let z = W .small in omega arith;
-        typed = lit< tt;
-        tagged = g;
-        goods = ((omega arith, qids-length t), tt);
-        known = refl;
-      });
-    }
+    let B : FrameBack tableR 111 tag n o' (qids (length t) (qidsBytes t) ∷ [])
+    = frame-back W i (record { sized = let z = W .small in omega arith; typed = lit< tt; tagged = g; goods = ((omega arith, qids-length t), tt); known = refl }) in
+    record { reads = B .reads; after = B .after }
+
+-- qids whose numbers fit their fields
+abbrev pub QidsFit : List Qid → Type 0
+QidsFit [] = Unit {0}
+QidsFit (x ∷ t) = ((x .ty < 256 ^ 1) × (x .version < 256 ^ 4) × (x .path < 256 ^ 8)) × QidsFit t
+
+qids-good : (t : List Qid) → QidsFit t → Goods (qidItems t)
+unfolding qidItems
+qids-good [] g = tt
+qids-good (x ∷ t) (g, gs) = (g .0, (g .1, (g .2, qids-good t gs)))
+
+qids-kinds : (t t' : List Qid) → length t ≡ length t' → map kind (qidItems t) ≡ map kind (qidItems t')
+unfolding qidItems
+qids-kinds [] [] e = refl
+qids-kinds [] (y ∷ u) e = absurd (omega arith)
+qids-kinds (x ∷ t) [] e = absurd (omega arith)
+qids-kinds (x ∷ t) (y ∷ u) e = ap (λ l. num 1 ∷ num 4 ∷ num 8 ∷ l) (qids-kinds t u (omega arith))
+
+abbrev qidMade : ℕ → ℕ → ℕ → Qid
+qidMade a b c = record { ty = a; version = b; path = c }
+
+qids-of-items : (t t' : List Qid) → qidItems t ≡ qidItems t' → t ≡ t'
+unfolding qidItems
+qids-of-items [] [] e = refl
+qids-of-items [] (y ∷ u) e = absurd (let z : _≡_ {A = ℕ} 0 1 = cc e in omega arith)
+qids-of-items (x ∷ t) [] e = absurd (let z : _≡_ {A = ℕ} 0 1 = cc e in omega arith)
+qids-of-items (x ∷ t) (y ∷ u) e =
+    let a : x .ty ≡ y .ty = cc e in
+    let b : x .version ≡ y .version = cc e in
+    let c : x .path ≡ y .path = cc e in
+    let d : qidItems t ≡ qidItems u = cc e in
+    ap₂ (λ r l. qidMade r (x .version) (x .path) ∷ l) a (qids-of-items t u d) ∙ ap₂ (λ r s. qidMade (y .ty) r s ∷ u) b c
+
+-- their bytes say which they are
+pub qids-one : (t t' : List Qid) → QidsFit t → QidsFit t' → qidsBytes t ≡ qidsBytes t' → t ≡ t'
+qids-one t t' g h e =
+    let a = qids-length t in
+    let b = qids-length t' in
+    let c = ap length e in
+    let R = reads-fields (qidItems t) (qids-good t g) .back [] in
+    let S = reads-fields (qidItems t') (qids-good t' h) .back [] in
+    let k = qids-kinds t t' (omega arith) in
+    let d : ok (qidItems t) [] ≡ ok (qidItems t') [] = sym R ∙ ap₂ (λ l (x : List ℕ). readFields l (x ++ [])) k e ∙ S in
+    qids-of-items t t' (cc d)
+
+-- one output is the Rwalk of one table
+pub rwalk-one : {tag n tag' n' : ℕ} {o' : List ℕ} (t t' : List Qid) → QidsFit t → QidsFit t' → RwalkBack tag t o' n → RwalkBack tag' t' o' n' → (tag ≡ tag') × (t ≡ t')
+rwalk-one t t' g h B C =
+    let e = frame-one refl (record { reads = B .reads; after = B .after }) (record { reads = C .reads; after = C .after }) in
+    let f = e .2 in
+    (e .0, qids-one t t' g h (cc f))

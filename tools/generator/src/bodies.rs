@@ -22,6 +22,7 @@ pub fn write(table: &Table, files: &mut Files) {
             format!("crates/{krate}/specs/Views.antt"),
             views(direction, krate, &cases),
         );
+        files.put(format!("crates/{krate}/specs/Made.antt"), made(&cases));
         files.put(
             format!("crates/{krate}/specs/Built.antt"),
             built(direction, krate, &rows, &cases),
@@ -40,6 +41,10 @@ pub fn write(table: &Table, files: &mut Files) {
         );
     }
     files.put("crates/stretch/specs/Known.antt".to_string(), known(table));
+    files.put(
+        "crates/stretch/specs/Fitting.antt".to_string(),
+        fitting(table),
+    );
     files.put(
         "crates/pairs/src/known.rt".to_string(),
         known_request(table),
@@ -202,12 +207,9 @@ fn read_arm(m: &Message, d: char) -> String {
 
 // ---- definitions
 
-fn views(direction: Direction, krate: &str, cases: &[&Message]) -> String {
-    let d = direction.letter();
-    let mut text = format!(
-        "-- For each case of `{d}message` its number (F3.2), its layout and its values.\nuse Prim.Native.Nat.{{ℕ}}\nuse mathlib.Core.List.{{List, []}}\nuse Rattle.fields.specs.Layouts.{{Layout}}\nuse Rattle.fields.specs.Values.{{Value}}\nuse Rattle.layouts.specs.Tables.{{{}}}\n",
-        layouts(cases)
-    );
+/// The `use` lines of the records' values.
+fn values_uses(cases: &[&Message]) -> String {
+    let mut text = String::new();
     for from in ["common", "messages", "metadata"] {
         let values: Vec<String> = cases
             .iter()
@@ -219,6 +221,16 @@ fn views(direction: Direction, krate: &str, cases: &[&Message]) -> String {
             values.join(", ")
         );
     }
+    text
+}
+
+fn views(direction: Direction, krate: &str, cases: &[&Message]) -> String {
+    let d = direction.letter();
+    let mut text = format!(
+        "-- For each case of `{d}message` its number (F3.2), its layout and its values.\nuse Prim.Native.Nat.{{ℕ}}\nuse mathlib.Core.List.{{List, []}}\nuse Rattle.fields.specs.Layouts.{{Layout}}\nuse Rattle.fields.specs.Values.{{Value}}\nuse Rattle.layouts.specs.Tables.{{{}}}\n",
+        layouts(cases)
+    );
+    text += &values_uses(cases);
     text += "use Rattle.layouts.specs.Bodies.{Answer, accepted, refused}\n";
     text += &declared(krate, d);
     text += &format!("\nabbrev pub type{d} : {d}message → ℕ\n");
@@ -279,16 +291,53 @@ fn rebuilt(f: &Field, i: usize) -> String {
     format!("{} = {value}", quoted(&f.name))
 }
 
-fn message(m: &Message) -> String {
+/// A record made of its values, and that they determine it.
+fn remade(m: &Message) -> String {
     let mut i = 0;
     let mut fields = vec![];
     for f in &m.fields {
         fields.push(rebuilt(f, i));
         i += if f.kind == Kind::Qid { 3 } else { 1 };
     }
+    let (record, small) = (m.record(), m.small());
+    format!(
+        "
+abbrev pub made{record} : List Value → {record}
+made{record} vs = record {{ {} }}
+
+pub one-{small} : (m m' : {record}) → {small} m ≡ {small} m' → m ≡ m'
+one-{small} m m' e = ap made{record} e
+",
+        fields.join("; ")
+    )
+}
+
+fn made(cases: &[&Message]) -> String {
+    let mut text = "-- A record is determined by its values: it can be made of them again.
+use Prim.Native.Nat.{ℕ}
+use mathlib.Core.Path.{_≡_, ap}
+use mathlib.Core.List.{List}
+use lib.ListN.{getD}
+use Rattle.fields.specs.Values.{Value, val, numOf, startOf, lenOf, countOf}
+"
+    .to_string();
+    let records: Vec<_> = cases.iter().filter(|m| !m.is_empty()).collect();
+    text += &values_uses(cases);
+    for m in &records {
+        let record = m.record();
+        text += &format!(
+            "use Rattle.{}.specs.declared.{}.{record}.{{{record}}}\n",
+            m.dialect, m.family
+        );
+    }
+    text += "\nabbrev nth : ℕ → List Value → Value\nnth i vs = getD vs i (val 0)\n";
+    text + &records.iter().map(|m| remade(m)).collect::<String>()
+}
+
+fn message(m: &Message) -> String {
     match m.is_empty() {
         true => format!("M.{}", m.case),
-        false => format!("M.{} (record {{ {} }})", m.case, fields.join("; ")),
+        false => format!("M.{} (made{} vs)", m.case, m.record()),
     }
 }
 
@@ -311,17 +360,22 @@ use Prim.Native.Nat.{ℕ}
 use mathlib.Core.Path.{_≡_, refl, sym, ap, ap₂, _∙_}
 use mathlib.Core.Bool.{true, false}
 use mathlib.Core.List.{List}
-use lib.ListN.{getD}
 use lib.Dec.{eqb}
-use Rattle.fields.specs.Values.{Value, val, numOf, startOf, lenOf, countOf}
+use Rattle.fields.specs.Values.{Value}
 use Rattle.layouts.specs.Bodies.{Answer, accepted, refused}
 "
     .to_string();
+    let made: Vec<String> = cases
+        .iter()
+        .filter(|m| !m.is_empty())
+        .map(|m| format!("made{}", m.record()))
+        .collect();
     text += &format!(
-        "use Rattle.{krate}.specs.Views.{{type{d}, values{d}, view{d}}}\n{}",
+        "use Rattle.{krate}.specs.Views.{{type{d}, values{d}, view{d}}}\nuse Rattle.{krate}.specs.Made.{{{}}}\n{}",
+        made.join(", "),
         declared(krate, d)
     );
-    text += &format!("\nabbrev nth : ℕ → List Value → Value\nnth i vs = getD vs i (val 0)\n\nunfoldable pub built : ℕ → List Value → {d}message\nbuilt ty vs =\n");
+    text += &format!("\nunfoldable pub built : ℕ → List Value → {d}message\nbuilt ty vs =\n");
     text += &tests(rows, 0)
         .lines()
         .map(|line| format!("    {line}\n"))
@@ -363,6 +417,66 @@ fn known(table: &Table) -> String {
         + between
         + &rows(Direction::R, "row-of-reply", "Q.")
         + end
+}
+
+/// What the machine value of a record says of the values of a field: `at` is the path to the field, `limit` to the data's limit.
+fn field_fits(f: &Field, at: &str, limit: &str) -> Vec<String> {
+    match f.kind {
+        Kind::Number(_) => vec![format!("{at} .fits")],
+        Kind::Qid => ["", " .1", " .1 .1"]
+            .iter()
+            .map(|rest| format!("{at}{rest} .0 .fits"))
+            .collect(),
+        Kind::Str => vec!["tt".to_string()],
+        Kind::Data => vec![limit.to_string()],
+        _ => vec![format!("{at} .0 .fits")],
+    }
+}
+
+/// That the values of a case fit: the case holds its record after its tag, and the record its fields in order.
+fn case_fits(m: &Message, law: &str) -> String {
+    let mut parts: Vec<String> = vec![];
+    for (i, f) in m.fields.iter().enumerate() {
+        let at = format!("g .1 .0{} .0", " .1".repeat(i));
+        let limit = format!("l{} .0", " .1".repeat(parts.len()));
+        parts.extend(field_fits(f, &at, &limit));
+    }
+    let all = parts
+        .iter()
+        .rev()
+        .fold("tt".to_string(), |rest, part| format!("({part}, {rest})"));
+    format!("{law} {} g l = {all}\n", pattern(m))
+}
+
+/// That the values of a record fit, whose machine value is one.
+fn fitting(table: &Table) -> String {
+    let mut text = "-- A record's numbers fit their fields where its machine value is well typed (`WT`), as that of what a program holds is (`Held.antt`).
+use mir.Val.{WT}
+use Rattle.framing.specs.ReadBack.{Readable}
+use Rattle.stretch.specs.Limits.{Limited}
+"
+    .to_string();
+    for (direction, letter) in [(Direction::T, 'M'), (Direction::R, 'Q')] {
+        let (krate, d) = (direction.enums(), direction.letter());
+        text += &format!(
+            "use Rattle.{krate}.specs.Views.{{layout{d}, values{d}}}
+use Rattle.{krate}.specs.declared.{d}message.{{{d}message}}
+use Rattle.{krate}.specs.declared.{d}message.the-variants as {letter}
+use Rattle.{krate}.proofs.{d}message.Laws.{{lowered as lowered{d}}}
+"
+        );
+    }
+    for (direction, law, letter) in [
+        (Direction::T, "request-fits", "M."),
+        (Direction::R, "reply-fits", "Q."),
+    ] {
+        let d = direction.letter();
+        text += &format!("\npub {law} : (m : {d}message) → WT (lowered{d} m) → Limited (layout{d} m) (values{d} m) → Readable (layout{d} m) (values{d} m)\nunfolding layout{d} values{d}\n");
+        for m in table.by_case(direction) {
+            text += &case_fits(m, law).replace("M.", letter);
+        }
+    }
+    text
 }
 
 fn known_request(table: &Table) -> String {

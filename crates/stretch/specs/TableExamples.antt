@@ -1,0 +1,69 @@
+-- Two tables of one length: the positions that are read of their walks are the same, and yet no output is the walk of both.
+use Prim.Native.Nat.{ℕ}
+use native.Mathlib.Omega.{arith}
+use mathlib.Core.Path.{_≡_, refl, sym, ap, _∙_}
+use mathlib.Core.List.{List, [], _∷_, map}
+use lib.ListN.{length}
+use lib.Dec.{lit<}
+use Rattle.numbers.specs.Numbers.{toLE}
+use Rattle.numbers.specs.Reading.{ok}
+use Rattle.utf8.specs.Utf8.{char, chars, utf8, noZero}
+use Rattle.strings.specs.Spans.{showSpan, showString}
+use Rattle.fields.specs.Layouts.{string, qids, itemBytes, itemsBytes}
+use Rattle.fields.specs.Values.{places, show, shows}
+use Rattle.layouts.specs.Tables.{layoutRwalk}
+use Rattle.layouts.specs.declared.qids.Qid.{Qid}
+use Rattle.tables.specs.Tables.{nameFields, nameValues, qidItems}
+use Rattle.tables.specs.QidLaws.{qidsBytes}
+use Rattle.stretch.specs.TablesBack.{TwalkBack, twalk-one, RwalkBack, qids-one, rwalk-one}
+
+-- ---- qids that differ in their paths
+
+abbrev one : List Qid
+one = record { ty = 128; version = 0; path = 1 } ∷ []
+
+abbrev two : List Qid
+two = record { ty = 128; version = 0; path = 2 } ∷ []
+
+abbrev firstPath : List Qid → ℕ
+firstPath [] = 0
+firstPath (x ∷ t) = x .path
+
+pub same-places : places 7 (qids (length one) (qidsBytes one) ∷ []) ≡ places 7 (qids (length two) (qidsBytes two) ∷ [])
+unfolding places itemBytes itemsBytes qidItems toLE
+same-places = refl
+
+pub qids-apart : {tag n tag' n' : ℕ} {o' : List ℕ} → RwalkBack tag one o' n → RwalkBack tag' two o' n' → ⊥
+qids-apart B C =
+    let e = rwalk-one one two ((lit< tt, lit< tt, lit< tt), tt) ((lit< tt, lit< tt, lit< tt), tt) B C .1 in
+    let z : _≡_ {A = ℕ} 1 2 = ap firstPath e in
+    omega arith
+
+-- the statement with the other table's qids is false
+pub qids-not-shown : {tag n : ℕ} {o' : List ℕ} → RwalkBack tag one o' n → shows layoutRwalk o' (places 7 (qids (length one) (qidsBytes one) ∷ [])) ≡ ok (qids (length two) (qidsBytes two) ∷ []) [] → ⊥
+qids-not-shown B w =
+    let d : ok (qids (length one) (qidsBytes one) ∷ []) [] ≡ ok (qids (length two) (qidsBytes two) ∷ []) [] = sym (B .after) ∙ w in
+    let e = qids-one one two ((lit< tt, lit< tt, lit< tt), tt) ((lit< tt, lit< tt, lit< tt), tt) (cc d) in
+    let z : _≡_ {A = ℕ} 1 2 = ap firstPath e in
+    omega arith
+
+-- ---- names that differ in a letter, "a" and "b": a table of one span, of two lent stretches
+
+abbrev row : List (List ℕ)
+row = (0 ∷ 1 ∷ []) ∷ []
+
+shown-a : shows (nameFields row) (97 ∷ []) (nameValues row) ≡ ok (string (97 ∷ []) ∷ []) []
+unfolding shows show showString showSpan char chars utf8 noZero
+shown-a = refl
+
+shown-b : shows (nameFields row) (98 ∷ []) (nameValues row) ≡ ok (string (98 ∷ []) ∷ []) []
+unfolding shows show showString showSpan char chars utf8 noZero
+shown-b = refl
+
+pub names-apart : {tag n tag' n' : ℕ} {o' : List ℕ} → TwalkBack tag 1 2 (97 ∷ []) row o' n → TwalkBack tag' 1 2 (98 ∷ []) row o' n' → ⊥
+names-apart B C =
+    let a : string (97 ∷ []) ∷ [] ≡ map string (B .names) = (let d = sym shown-a ∙ B .shown in cc d) in
+    let b : string (98 ∷ []) ∷ [] ≡ map string (C .names) = (let d = sym shown-b ∙ C .shown in cc d) in
+    let e : string (97 ∷ []) ∷ [] ≡ string (98 ∷ []) ∷ [] = a ∙ ap (map string) (twalk-one B C .3) ∙ sym b in
+    let z : _≡_ {A = ℕ} 97 98 = cc e in
+    omega arith
