@@ -5,14 +5,15 @@ use mathlib.Core.Path.{_≡_, refl, sym, ap, _∙_}
 use mathlib.Core.List.{List, [], _∷_, map}
 use lib.ListN.{length}
 use lib.Dec.{lit<}
-use Rattle.numbers.specs.Numbers.{toLE}
-use Rattle.numbers.specs.Reading.{ok}
+use Rattle.numbers.specs.Numbers.{fromLE, toLE}
+use Rattle.numbers.specs.Reading.{ok, raw, readNum}
 use Rattle.utf8.specs.Utf8.{char, chars, utf8, noZero}
 use Rattle.strings.specs.Spans.{showSpan, showString}
-use Rattle.fields.specs.Layouts.{string, qids, itemBytes, itemsBytes}
+use Rattle.fields.specs.Layouts.{string, qids, readField, readFields, itemBytes, itemsBytes}
 use Rattle.fields.specs.Values.{places, show, shows}
 use Rattle.layouts.specs.Tables.{layoutRwalk}
 use Rattle.layouts.specs.declared.qids.Qid.{Qid}
+use Rattle.framing.specs.Frames.{readTypeTag, readHeader, readFrame}
 use Rattle.tables.specs.Tables.{nameFields, nameValues, qidItems}
 use Rattle.tables.specs.QidLaws.{qidsBytes}
 use Rattle.stretch.specs.TablesBack.{TwalkBack, twalk-one, RwalkBack, qids-one, rwalk-one}
@@ -38,6 +39,11 @@ qids-apart B C =
     let e = rwalk-one one two ((lit< tt, lit< tt, lit< tt), tt) ((lit< tt, lit< tt, lit< tt), tt) B C .1 in
     let z : _≡_ {A = ℕ} 1 2 = ap firstPath e in
     omega arith
+
+-- an Rwalk of the first, computed
+pub rwalk-of-one : RwalkBack 1 one (22 ∷ 0 ∷ 0 ∷ 0 ∷ 111 ∷ 1 ∷ 0 ∷ 1 ∷ 0 ∷ 128 ∷ 0 ∷ 0 ∷ 0 ∷ 0 ∷ 1 ∷ 0 ∷ 0 ∷ 0 ∷ 0 ∷ 0 ∷ 0 ∷ 0 ∷ []) 22
+unfolding fromLE toLE raw readNum readField readFields itemBytes itemsBytes places qidItems readTypeTag readHeader readFrame shows show showSpan
+rwalk-of-one = record { reads = refl; after = refl }
 
 -- the statement with the other table's qids is false
 pub qids-not-shown : {tag n : ℕ} {o' : List ℕ} → RwalkBack tag one o' n → shows layoutRwalk o' (places 7 (qids (length one) (qidsBytes one) ∷ [])) ≡ ok (qids (length two) (qidsBytes two) ∷ []) [] → ⊥
