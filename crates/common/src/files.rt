@@ -5,7 +5,7 @@ use layouts::ids::Fid;
 use numbers::Place;
 use strings::Span;
 ghost use Rattle.fields.specs.Fields.{Fields};
-ghost use Rattle.laying.specs.Laying.{Laid, Written};
+ghost use Rattle.laying.specs.Laying.{Written};
 ghost use Rattle.layouts.specs.Tables.{layoutTread, layoutRread, layoutTwrite, layoutRwrite, layoutTremove};
 ghost use Rattle.common.specs.Records.{tread, rread, twrite, rwrite, tremove};
 
@@ -38,21 +38,15 @@ pub fn read_tread(s: &[u8], p: Place) -> ReadTread
     ReadTread { value, next: p3 }
 }
 
-fn lay_tread(out: &mut [u8], p: Place, lent: &[u8], m: Tread, put: bool) -> Place
-    ensures { λ r. ⌜ Laid layoutTread (now (lent .entry)) (tread m) put (now (out .entry)) p (now (out .exit)) r ⌝ }
-{
-    let fid = m.fid;
-    let p1 = laying::lay_u32(out, p, fid.0, put);
-    let p2 = laying::lay_u64(out, p1, m.offset, put);
-    laying::lay_u32(out, p2, m.count, put)
-}
-
 pub fn write_tread(out: &mut [u8], p: Place, lent: &[u8], m: Tread) -> Place
     ensures { λ r. ⌜ Written layoutTread (now (lent .entry)) (tread m) (now (out .entry)) p (now (out .exit)) r ⌝ }
 {
-    let end = lay_tread(out, p, lent, m, laying::CHECK);
+    let end = laying::advanced(p, 16);
     let start = laying::begun(p, end, out.len());
-    lay_tread(out, start, lent, m, laying::PUT)
+    let fid = m.fid;
+    let q1 = numbers::put_u32(out, start, fid.0);
+    let q2 = numbers::put_u64(out, q1, m.offset);
+    numbers::put_u32(out, q2, m.count)
 }
 
 pub struct Rread {
@@ -74,19 +68,14 @@ pub fn read_rread(s: &[u8], p: Place) -> ReadRread
     ReadRread { value, next: p1 }
 }
 
-fn lay_rread(out: &mut [u8], p: Place, lent: &[u8], m: Rread, put: bool) -> Place
-    ensures { λ r. ⌜ Laid layoutRread (now (lent .entry)) (rread m) put (now (out .entry)) p (now (out .exit)) r ⌝ }
-{
-    let data = m.data;
-    laying::lay_data(out, p, lent, data, put)
-}
-
 pub fn write_rread(out: &mut [u8], p: Place, lent: &[u8], m: Rread) -> Place
     ensures { λ r. ⌜ Written layoutRread (now (lent .entry)) (rread m) (now (out .entry)) p (now (out .exit)) r ⌝ }
 {
-    let end = lay_rread(out, p, lent, m, laying::CHECK);
+    let data = m.data;
+    let end = laying::measure_data(lent, data, p);
     let start = laying::begun(p, end, out.len());
-    lay_rread(out, start, lent, m, laying::PUT)
+    let q1 = numbers::put_num(out, start, data.len as u64, 4);
+    strings::put_bytes(out, q1, lent, data)
 }
 
 pub struct Twrite {
@@ -119,22 +108,18 @@ pub fn read_twrite(s: &[u8], p: Place) -> ReadTwrite
     ReadTwrite { value, next: p3 }
 }
 
-fn lay_twrite(out: &mut [u8], p: Place, lent: &[u8], m: Twrite, put: bool) -> Place
-    ensures { λ r. ⌜ Laid layoutTwrite (now (lent .entry)) (twrite m) put (now (out .entry)) p (now (out .exit)) r ⌝ }
-{
-    let fid = m.fid;
-    let p1 = laying::lay_u32(out, p, fid.0, put);
-    let p2 = laying::lay_u64(out, p1, m.offset, put);
-    let data = m.data;
-    laying::lay_data(out, p2, lent, data, put)
-}
-
 pub fn write_twrite(out: &mut [u8], p: Place, lent: &[u8], m: Twrite) -> Place
     ensures { λ r. ⌜ Written layoutTwrite (now (lent .entry)) (twrite m) (now (out .entry)) p (now (out .exit)) r ⌝ }
 {
-    let end = lay_twrite(out, p, lent, m, laying::CHECK);
+    let p1 = laying::advanced(p, 12);
+    let data = m.data;
+    let end = laying::measure_data(lent, data, p1);
     let start = laying::begun(p, end, out.len());
-    lay_twrite(out, start, lent, m, laying::PUT)
+    let fid = m.fid;
+    let q1 = numbers::put_u32(out, start, fid.0);
+    let q2 = numbers::put_u64(out, q1, m.offset);
+    let q3 = numbers::put_num(out, q2, data.len as u64, 4);
+    strings::put_bytes(out, q3, lent, data)
 }
 
 pub struct Rwrite {
@@ -155,18 +140,12 @@ pub fn read_rwrite(s: &[u8], p: Place) -> ReadRwrite
     ReadRwrite { value, next: p1 }
 }
 
-fn lay_rwrite(out: &mut [u8], p: Place, lent: &[u8], m: Rwrite, put: bool) -> Place
-    ensures { λ r. ⌜ Laid layoutRwrite (now (lent .entry)) (rwrite m) put (now (out .entry)) p (now (out .exit)) r ⌝ }
-{
-    laying::lay_u32(out, p, m.count, put)
-}
-
 pub fn write_rwrite(out: &mut [u8], p: Place, lent: &[u8], m: Rwrite) -> Place
     ensures { λ r. ⌜ Written layoutRwrite (now (lent .entry)) (rwrite m) (now (out .entry)) p (now (out .exit)) r ⌝ }
 {
-    let end = lay_rwrite(out, p, lent, m, laying::CHECK);
+    let end = laying::advanced(p, 4);
     let start = laying::begun(p, end, out.len());
-    lay_rwrite(out, start, lent, m, laying::PUT)
+    numbers::put_u32(out, start, m.count)
 }
 
 pub struct Tremove {
@@ -188,17 +167,11 @@ pub fn read_tremove(s: &[u8], p: Place) -> ReadTremove
     ReadTremove { value, next: p1 }
 }
 
-fn lay_tremove(out: &mut [u8], p: Place, lent: &[u8], m: Tremove, put: bool) -> Place
-    ensures { λ r. ⌜ Laid layoutTremove (now (lent .entry)) (tremove m) put (now (out .entry)) p (now (out .exit)) r ⌝ }
-{
-    let fid = m.fid;
-    laying::lay_u32(out, p, fid.0, put)
-}
-
 pub fn write_tremove(out: &mut [u8], p: Place, lent: &[u8], m: Tremove) -> Place
     ensures { λ r. ⌜ Written layoutTremove (now (lent .entry)) (tremove m) (now (out .entry)) p (now (out .exit)) r ⌝ }
 {
-    let end = lay_tremove(out, p, lent, m, laying::CHECK);
+    let end = laying::advanced(p, 4);
     let start = laying::begun(p, end, out.len());
-    lay_tremove(out, start, lent, m, laying::PUT)
+    let fid = m.fid;
+    numbers::put_u32(out, start, fid.0)
 }

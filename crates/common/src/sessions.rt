@@ -6,7 +6,7 @@ use layouts::ids::Tag;
 use numbers::Place;
 use strings::Span;
 ghost use Rattle.fields.specs.Fields.{Fields};
-ghost use Rattle.laying.specs.Laying.{Laid, Written};
+ghost use Rattle.laying.specs.Laying.{Written};
 ghost use Rattle.layouts.specs.Tables.{layoutTversion, layoutRversion, layoutTflush, layoutTclunk};
 ghost use Rattle.common.specs.Records.{tversion, rversion, tflush, tclunk};
 
@@ -35,20 +35,16 @@ pub fn read_tversion(s: &[u8], p: Place) -> ReadTversion
     ReadTversion { value, next: p2 }
 }
 
-fn lay_tversion(out: &mut [u8], p: Place, lent: &[u8], m: Tversion, put: bool) -> Place
-    ensures { λ r. ⌜ Laid layoutTversion (now (lent .entry)) (tversion m) put (now (out .entry)) p (now (out .exit)) r ⌝ }
-{
-    let p1 = laying::lay_u32(out, p, m.msize, put);
-    let version = m.version;
-    laying::lay_str(out, p1, lent, version, put)
-}
-
 pub fn write_tversion(out: &mut [u8], p: Place, lent: &[u8], m: Tversion) -> Place
     ensures { λ r. ⌜ Written layoutTversion (now (lent .entry)) (tversion m) (now (out .entry)) p (now (out .exit)) r ⌝ }
 {
-    let end = lay_tversion(out, p, lent, m, laying::CHECK);
+    let p1 = laying::advanced(p, 4);
+    let version = m.version;
+    let end = laying::measure_str(lent, version, p1);
     let start = laying::begun(p, end, out.len());
-    lay_tversion(out, start, lent, m, laying::PUT)
+    let q1 = numbers::put_u32(out, start, m.msize);
+    let q2 = numbers::put_num(out, q1, version.len as u64, 2);
+    strings::put_bytes(out, q2, lent, version)
 }
 
 pub struct Rversion {
@@ -76,20 +72,16 @@ pub fn read_rversion(s: &[u8], p: Place) -> ReadRversion
     ReadRversion { value, next: p2 }
 }
 
-fn lay_rversion(out: &mut [u8], p: Place, lent: &[u8], m: Rversion, put: bool) -> Place
-    ensures { λ r. ⌜ Laid layoutRversion (now (lent .entry)) (rversion m) put (now (out .entry)) p (now (out .exit)) r ⌝ }
-{
-    let p1 = laying::lay_u32(out, p, m.msize, put);
-    let version = m.version;
-    laying::lay_str(out, p1, lent, version, put)
-}
-
 pub fn write_rversion(out: &mut [u8], p: Place, lent: &[u8], m: Rversion) -> Place
     ensures { λ r. ⌜ Written layoutRversion (now (lent .entry)) (rversion m) (now (out .entry)) p (now (out .exit)) r ⌝ }
 {
-    let end = lay_rversion(out, p, lent, m, laying::CHECK);
+    let p1 = laying::advanced(p, 4);
+    let version = m.version;
+    let end = laying::measure_str(lent, version, p1);
     let start = laying::begun(p, end, out.len());
-    lay_rversion(out, start, lent, m, laying::PUT)
+    let q1 = numbers::put_u32(out, start, m.msize);
+    let q2 = numbers::put_num(out, q1, version.len as u64, 2);
+    strings::put_bytes(out, q2, lent, version)
 }
 
 pub struct Tflush {
@@ -111,19 +103,13 @@ pub fn read_tflush(s: &[u8], p: Place) -> ReadTflush
     ReadTflush { value, next: p1 }
 }
 
-fn lay_tflush(out: &mut [u8], p: Place, lent: &[u8], m: Tflush, put: bool) -> Place
-    ensures { λ r. ⌜ Laid layoutTflush (now (lent .entry)) (tflush m) put (now (out .entry)) p (now (out .exit)) r ⌝ }
-{
-    let oldtag = m.oldtag;
-    laying::lay_u16(out, p, oldtag.0, put)
-}
-
 pub fn write_tflush(out: &mut [u8], p: Place, lent: &[u8], m: Tflush) -> Place
     ensures { λ r. ⌜ Written layoutTflush (now (lent .entry)) (tflush m) (now (out .entry)) p (now (out .exit)) r ⌝ }
 {
-    let end = lay_tflush(out, p, lent, m, laying::CHECK);
+    let end = laying::advanced(p, 2);
     let start = laying::begun(p, end, out.len());
-    lay_tflush(out, start, lent, m, laying::PUT)
+    let oldtag = m.oldtag;
+    numbers::put_u16(out, start, oldtag.0)
 }
 
 pub struct Tclunk {
@@ -145,17 +131,11 @@ pub fn read_tclunk(s: &[u8], p: Place) -> ReadTclunk
     ReadTclunk { value, next: p1 }
 }
 
-fn lay_tclunk(out: &mut [u8], p: Place, lent: &[u8], m: Tclunk, put: bool) -> Place
-    ensures { λ r. ⌜ Laid layoutTclunk (now (lent .entry)) (tclunk m) put (now (out .entry)) p (now (out .exit)) r ⌝ }
-{
-    let fid = m.fid;
-    laying::lay_u32(out, p, fid.0, put)
-}
-
 pub fn write_tclunk(out: &mut [u8], p: Place, lent: &[u8], m: Tclunk) -> Place
     ensures { λ r. ⌜ Written layoutTclunk (now (lent .entry)) (tclunk m) (now (out .entry)) p (now (out .exit)) r ⌝ }
 {
-    let end = lay_tclunk(out, p, lent, m, laying::CHECK);
+    let end = laying::advanced(p, 4);
     let start = laying::begun(p, end, out.len());
-    lay_tclunk(out, start, lent, m, laying::PUT)
+    let fid = m.fid;
+    numbers::put_u32(out, start, fid.0)
 }

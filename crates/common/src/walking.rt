@@ -5,7 +5,7 @@ use fields::Part;
 use layouts::ids::Fid;
 use numbers::Place;
 ghost use Rattle.fields.specs.Fields.{Fields};
-ghost use Rattle.laying.specs.Laying.{Laid, Written};
+ghost use Rattle.laying.specs.Laying.{Written};
 ghost use Rattle.layouts.specs.Tables.{layoutTwalk, layoutRwalk};
 ghost use Rattle.common.specs.Records.{twalk, rwalk};
 
@@ -40,23 +40,20 @@ pub fn read_twalk(s: &[u8], p: Place) -> ReadTwalk
     ReadTwalk { value, next: p3 }
 }
 
-fn lay_twalk(out: &mut [u8], p: Place, lent: &[u8], m: Twalk, put: bool) -> Place
-    ensures { λ r. ⌜ Laid layoutTwalk (now (lent .entry)) (twalk m) put (now (out .entry)) p (now (out .exit)) r ⌝ }
-{
-    let fid = m.fid;
-    let p1 = laying::lay_u32(out, p, fid.0, put);
-    let newfid = m.newfid;
-    let p2 = laying::lay_u32(out, p1, newfid.0, put);
-    let wnames = m.wnames;
-    laying::lay_names(out, p2, lent, wnames, put)
-}
-
 pub fn write_twalk(out: &mut [u8], p: Place, lent: &[u8], m: Twalk) -> Place
     ensures { λ r. ⌜ Written layoutTwalk (now (lent .entry)) (twalk m) (now (out .entry)) p (now (out .exit)) r ⌝ }
 {
-    let end = lay_twalk(out, p, lent, m, laying::CHECK);
+    let p1 = laying::advanced(p, 8);
+    let wnames = m.wnames;
+    let end = laying::measure_names(lent, wnames, p1);
     let start = laying::begun(p, end, out.len());
-    lay_twalk(out, start, lent, m, laying::PUT)
+    let fid = m.fid;
+    let q1 = numbers::put_u32(out, start, fid.0);
+    let newfid = m.newfid;
+    let q2 = numbers::put_u32(out, q1, newfid.0);
+    let q3 = numbers::put_u16(out, q2, wnames.count);
+    let elements = wnames.elements;
+    strings::put_bytes(out, q3, lent, elements)
 }
 
 pub struct Rwalk {
@@ -78,17 +75,13 @@ pub fn read_rwalk(s: &[u8], p: Place) -> ReadRwalk
     ReadRwalk { value, next: p1 }
 }
 
-fn lay_rwalk(out: &mut [u8], p: Place, lent: &[u8], m: Rwalk, put: bool) -> Place
-    ensures { λ r. ⌜ Laid layoutRwalk (now (lent .entry)) (rwalk m) put (now (out .entry)) p (now (out .exit)) r ⌝ }
-{
-    let wqids = m.wqids;
-    laying::lay_qids(out, p, lent, wqids, put)
-}
-
 pub fn write_rwalk(out: &mut [u8], p: Place, lent: &[u8], m: Rwalk) -> Place
     ensures { λ r. ⌜ Written layoutRwalk (now (lent .entry)) (rwalk m) (now (out .entry)) p (now (out .exit)) r ⌝ }
 {
-    let end = lay_rwalk(out, p, lent, m, laying::CHECK);
+    let wqids = m.wqids;
+    let end = laying::measure_qids(lent, wqids, p);
     let start = laying::begun(p, end, out.len());
-    lay_rwalk(out, start, lent, m, laying::PUT)
+    let q1 = numbers::put_u16(out, start, wqids.count);
+    let elements = wqids.elements;
+    strings::put_bytes(out, q1, lent, elements)
 }

@@ -1,31 +1,27 @@
--- The ways that the two passes over a field go: one law for each way out, over plain variables.
+-- The ways that checking and measuring a field go: one law for each way out, over plain variables.
 use Prim.Native.Nat.{ℕ, suc, _+_, _-_, _*_, _≤_, _<_, min}
 use native.Mathlib.Omega.{arith}
 use mathlib.Core.Path.{_≡_, refl, sym, ap, ap₂, _∙_}
-use mathlib.Core.Bool.{Bool, true, false, cond}
-use mathlib.Core.List.{List, [], _∷_, _++_, append-nil}
-use lib.ListN.{length, take, drop, length-append, length-drop}
+use mathlib.Core.List.{List, [], _∷_}
+use lib.ListN.{length, take, drop, length-append}
 use lib.Seq.{length-take-le}
-use lib.Dec.{leb, eqb}
 use borrow.Author.Tests.{eq-eqb, ne-eqb, lt-ltb, le-ltb, le-leb, lt-leb}
 use Rattle.numbers.specs.Numbers.{Bytes, toLE, length-toLE, bytes-take, bytes-drop}
 use Rattle.numbers.specs.Reading.{Result, ok, bad, after}
-use Rattle.numbers.specs.ReadingLaws.{after-inv, cond-inv, Took}
-use Rattle.numbers.specs.Places.{restAt, putAt, pastPut, Put}
+use Rattle.numbers.specs.Places.{restAt}
 use Rattle.numbers.specs.declared.Refusal.{Refusal}
 use Rattle.numbers.specs.declared.Refusal.the-variants as R
 use Rattle.numbers.specs.declared.Place.{Place}
 use Rattle.numbers.specs.declared.Place.the-variants.{At, Refused}
-use Rattle.strings.specs.Strings.{stringBytes}
-use Rattle.strings.specs.Spans.{bytesIn, showSpan, showString, checkAt, SpanCheck, StrCheck, SpanPut}
-use Rattle.strings.specs.SpanLaws.{check-inv, first-refuses, passed, shown-length, span-inv, shown-in, string-inv}
-use Rattle.fields.specs.Layouts.{Field, num, str, dat, strs, quids, Item, number, string, bytes, strings, qids, readMany, manyBytes, itemBytes}
+use Rattle.strings.specs.Spans.{showSpan, showString, checkAt, SpanCheck, StrCheck}
+use Rattle.strings.specs.SpanLaws.{first-refuses, passed, shown-length}
+use Rattle.fields.specs.Layouts.{Field, str, dat, strs, quids, Item, string, bytes, strings, readMany, manyBytes, itemBytes}
 use Rattle.fields.specs.LayoutLaws.{took-many}
-use Rattle.laying.specs.LayingLaws.{drop-take, Unless, after-count}
-use Rattle.fields.specs.Values.{Value, val, span, part, startOf, lenOf, cutOff, wholePart, show}
+use Rattle.laying.specs.LayingLaws.{drop-take, Unless, after-count, advance-twice}
+use Rattle.fields.specs.Values.{Value, span, part, lenOf, cutOff, wholePart, show}
 use Rattle.fields.specs.Fields.{CountCheck, ManyRead}
 use Rattle.fields.specs.FieldLaws.{count-fits}
-use Rattle.laying.specs.Laying.{limit, advance, shownSize, checkField, headWidth, headOf, putField, pastPutField, FieldLaid, NumLaid, Advanced, CountedPut, ShowCheck, filledAt, Filled, settledAt, Settled, Begun}
+use Rattle.laying.specs.Laying.{limit, advance, shownSize, checkField, headWidth, headOf, FieldMeasured, Advanced, ShowCheck, filledAt, Filled, Settled, Begun}
 
 -- ---- a place on
 
@@ -38,42 +34,17 @@ on-over {n} {a} e h = record { is = rw e (ap At (omega arith)) }
 pub on-within : {n a : ℕ} {p : Place} → p ≡ At a → a + n ≤ limit → Advanced n p (At (a + n))
 on-within {n} {a} e h = record { is = rw e (ap At (omega arith)) }
 
-twice : (m n : ℕ) (p : Place) → advance n (advance m p) ≡ advance (m + n) p
-twice m n (At a) = ap At (omega arith)
-twice m n (Refused k) = refl
-
--- ---- the second pass
-
-pub number-put : {w x : ℕ} {o o' : List ℕ} {p q : Place} → Put (toLE w x) o p o' q → NumLaid w x true o p o' q
-number-put a = record { bytes = a .bytes; next = a .next }
-
-pub number-measured : {w x : ℕ} {o : List ℕ} {p q : Place} → Advanced w p q → NumLaid w x false o p o q
-number-measured a = record { bytes = refl; next = a .is }
-
-pub counted-put : {w n x y : ℕ} {lent o o1 o2 : List ℕ} {p q r : Place} → Put (toLE w n) o p o1 q → SpanPut lent x y o1 q o2 r → CountedPut w n lent x y o p o2 r
-counted-put a b = record { bytes = b .put .bytes ∙ rw (a .bytes, a .next); next = b .put .next ∙ rw (a .bytes, a .next) }
-
-pub put-laid : {lent o o' : List ℕ} {p q : Place} (f : Field) (v : Value) → Unless f → CountedPut (headWidth f) (headOf f v) lent (startOf v) (lenOf v) o p o' q
-    → FieldLaid f lent v true o p o' q
-unfolding putField pastPutField
-put-laid (num w) v u a = absurd u
-put-laid str v u a = record { bytes = a .bytes; next = a .next }
-put-laid dat v u a = record { bytes = a .bytes; next = a .next }
-put-laid strs v u a = record { bytes = a .bytes; next = a .next }
-put-laid quids v u a = record { bytes = a .bytes; next = a .next }
-
--- ---- the first pass: a field that passes is as long as its count and its bytes
+-- ---- a field that passes its check is as long as its count and its bytes
 
 -- the bytes of a field that is no number are after a count
 pub record Sized (f : Field) (lent : List ℕ) (v : Value) : Type 0 where
   pub is : (i : Item) (r : List ℕ) → show f lent v ≡ ok i r → length (itemBytes i) ≡ headWidth f + lenOf v
 
-pub check-laid : {f : Field} {lent o : List ℕ} {v : Value} {p q a r : Place} → Sized f lent v → ShowCheck f lent v p q → Advanced (headWidth f) q a → Advanced (lenOf v) a r
-    → FieldLaid f lent v false o p o r
+pub check-measured : {f : Field} {lent : List ℕ} {v : Value} {p q a r : Place} → Sized f lent v → ShowCheck f lent v p q → Advanced (headWidth f) q a → Advanced (lenOf v) a r
+    → FieldMeasured f lent v p r
 unfolding checkField
-check-laid {f} {lent} {o} {v} {p} {q} z c x y = record {
-  bytes = refl;
-  next = y .is ∙ ap (advance (lenOf v)) (x .is) ∙ twice (headWidth f) (lenOf v) q ∙ ap (advance (headWidth f + lenOf v)) (c .is) ∙ go (show f lent v) refl p;
+check-measured {f} {lent} {v} {p} {q} z c x y = record {
+  is = y .is ∙ ap (advance (lenOf v)) (x .is) ∙ advance-twice (headWidth f) (lenOf v) q ∙ ap (advance (headWidth f + lenOf v)) (c .is) ∙ go (show f lent v) refl p;
 }
   where
     go : (m : Result Item) → show f lent v ≡ m → (p' : Place) → advance (headWidth f + lenOf v) (checkAt m p') ≡ advance (shownSize m) (checkAt m p')
@@ -146,13 +117,7 @@ strs-scanned {lent} {n} {x} {y} {a} b c h m f =
 pub part-check : {lent : List ℕ} {n x y : ℕ} {p q r : Place} → n ≤ 65535 → CountCheck n p q → SpanCheck lent x y q r → SpanCheck lent x y p r
 part-check h c s = rw (count-fits h c) at s
 
--- ---- in whichever pass it is
-
-pub in-pass : {f : Field} {lent o o' : List ℕ} {v : Value} {ps ps' : Bool} {p q : Place} → ps ≡ ps' → FieldLaid f lent v ps' o p o' q → FieldLaid f lent v ps o p o' q
-in-pass e a = rw e a
-
-pub num-in-pass : {w x : ℕ} {o o' : List ℕ} {ps ps' : Bool} {p q : Place} → ps ≡ ps' → NumLaid w x ps' o p o' q → NumLaid w x ps o p o' q
-num-in-pass e a = rw e a
+-- ---- where a scan ends
 
 pub fills-at : {e p : Place} {n m : ℕ} → e ≡ At m → m ≡ n → Filled e n p p
 fills-at {n = n} {m = m} e h = record { is = rw (e, eq-eqb m n h) }
@@ -163,7 +128,7 @@ fills-not {n = n} {m = m} e h = record { is = rw (e, ne-eqb m n h) }
 pub fills-refused : {e p : Place} {n : ℕ} {k j : Refusal} → e ≡ Refused k → j ≡ cutOff k → Filled e n p (Refused j)
 fills-refused e h = record { is = rw e (ap Refused h) }
 
--- ---- the end of the first pass
+-- ---- the end of measuring
 
 pub settles-refused : {e : Place} {n : ℕ} {k : Refusal} → e ≡ Refused k → Settled e n e
 settles-refused e = record { is = rw e }
@@ -178,7 +143,7 @@ module _ {e : Place} {n m : ℕ} where
   pub settles-fits : e ≡ At m → m < limit → m ≤ n → Settled e n (At m)
   settles-fits f h k = record { is = rw (f, lt-ltb m limit h, le-leb m n k) }
 
--- ---- where the second pass begins
+-- ---- where putting begins
 
 module _ {p e q : Place} {n : ℕ} where
   pub begins-not : {k : Refusal} → Settled e n q → q ≡ Refused k → Begun p e n q

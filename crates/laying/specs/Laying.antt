@@ -1,7 +1,7 @@
--- Writing fields at places, in two passes: the first checks and measures and touches nothing, the second puts bytes. What the contracts cite.
+-- Writing fields at places: they are all checked and measured first, which touches no output; then their bytes are put. What the contracts cite.
 use Prim.Native.Nat.{ℕ, _+_, min}
 use mathlib.Core.Path.{_≡_}
-use mathlib.Core.Bool.{Bool, true, false, cond}
+use mathlib.Core.Bool.{cond}
 use mathlib.Core.List.{List, [], _∷_}
 use lib.ListN.{length}
 use lib.Dec.{eqb, leb, ltb}
@@ -15,7 +15,7 @@ use Rattle.strings.specs.Spans.{bytesIn, showSpan, checkAt}
 use Rattle.fields.specs.Layouts.{Field, num, str, dat, strs, quids, Layout, Item, itemBytes, itemsBytes}
 use Rattle.fields.specs.Values.{Value, numOf, startOf, lenOf, countOf, cutOff, show, firstOf, othersOf, shows}
 
--- ---- the first pass
+-- ---- measuring
 
 -- one more than the largest frame has bytes; it stands for every place past that, so that no sum wraps
 abbrev pub limit : ℕ
@@ -37,7 +37,7 @@ unfoldable pub checkFields : Layout → List ℕ → List Value → Place → Pl
 checkFields [] lent vs p = p
 checkFields (f ∷ fs) lent vs p = checkFields fs lent (othersOf vs) (checkField f lent (firstOf vs) p)
 
--- ---- the second pass
+-- ---- putting
 
 -- a count of w bytes, then the bytes that a span shows
 abbrev pub countedOut : ℕ → ℕ → List ℕ → ℕ → ℕ → List ℕ → Place → List ℕ
@@ -93,35 +93,23 @@ pastPutFields [] lent vs o p = p
 pastPutFields (f ∷ fs) lent vs o p =
     pastPutFields fs lent (othersOf vs) (putField f lent (firstOf vs) o p) (pastPutField f lent (firstOf vs) o p)
 
--- ---- both
+-- ---- what the code answers
 
--- the first fact in the pass that checks, the second in the pass that puts
-abbrev pub ByPass : Bool → Type 0 → Type 0 → Type 0
-ByPass false A B = A
-ByPass true A B = B
+-- the place after a field, and after the fields of a layout, each of them checked; or the first refusal
+pub record FieldMeasured (f : Field) (lent : List ℕ) (v : Value) (p q : Place) : Type 0 where
+  pub is : q ≡ checkField f lent v p
 
--- what laying a field, and the fields of a layout, at p of the output o leaves and answers
-pub record FieldLaid (f : Field) (lent : List ℕ) (v : Value) (ps : Bool) (o : List ℕ) (p : Place) (o' : List ℕ) (q : Place) : Type 0 where
-  pub bytes : ByPass ps (o' ≡ o) (o' ≡ putField f lent v o p)
-  pub next : ByPass ps (q ≡ checkField f lent v p) (q ≡ pastPutField f lent v o p)
+pub record Measured (fs : Layout) (lent : List ℕ) (vs : List Value) (p q : Place) : Type 0 where
+  pub is : q ≡ checkFields fs lent vs p
 
-pub record Laid (fs : Layout) (lent : List ℕ) (vs : List Value) (ps : Bool) (o : List ℕ) (p : Place) (o' : List ℕ) (q : Place) : Type 0 where
-  pub bytes : ByPass ps (o' ≡ o) (o' ≡ putFields fs lent vs o p)
-  pub next : ByPass ps (q ≡ checkFields fs lent vs p) (q ≡ pastPutFields fs lent vs o p)
+-- what putting the fields of a layout at p of the output o leaves and answers
+pub record PutAll (fs : Layout) (lent : List ℕ) (vs : List Value) (o : List ℕ) (p : Place) (o' : List ℕ) (q : Place) : Type 0 where
+  pub bytes : o' ≡ putFields fs lent vs o p
+  pub next : q ≡ pastPutFields fs lent vs o p
 
--- a number needs no lent bytes
-pub record NumLaid (w x : ℕ) (ps : Bool) (o : List ℕ) (p : Place) (o' : List ℕ) (q : Place) : Type 0 where
-  pub bytes : ByPass ps (o' ≡ o) (o' ≡ putAt (toLE w x) o p)
-  pub next : ByPass ps (q ≡ advance w p) (q ≡ pastPut (toLE w x) o p)
-
--- the place n bytes on, in the first pass
+-- the place n bytes on
 pub record Advanced (n : ℕ) (p q : Place) : Type 0 where
   pub is : q ≡ advance n p
-
--- a count of w bytes and the bytes that a span shows, put
-pub record CountedPut (w n : ℕ) (lent : List ℕ) (x y : ℕ) (o : List ℕ) (p : Place) (o' : List ℕ) (q : Place) : Type 0 where
-  pub bytes : o' ≡ countedOut w n lent x y o p
-  pub next : q ≡ countedPast w n lent x y o p
 
 -- the check of a value that is to be written: the place itself, or the refusal
 pub record ShowCheck (f : Field) (lent : List ℕ) (v : Value) (p q : Place) : Type 0 where
@@ -152,7 +140,7 @@ pub record Written (fs : Layout) (lent : List ℕ) (vs : List Value) (o : List �
   pub bytes : o' ≡ writtenOut (shows fs lent vs) o p
   pub next : q ≡ writtenPast (shows fs lent vs) o p
 
--- the end that the first pass found, in an output of n bytes
+-- the end that measuring found, in an output of n bytes
 abbrev pub settledAt : Place → ℕ → Place
 settledAt (At e) n = cond (ltb e limit) (cond (leb e n) (At e) (Refused R.NoRoom)) (Refused R.FrameTooLong)
 settledAt (Refused k) n = Refused k
@@ -160,7 +148,7 @@ settledAt (Refused k) n = Refused k
 pub record Settled (e : Place) (n : ℕ) (q : Place) : Type 0 where
   pub is : q ≡ settledAt e n
 
--- where the second pass begins: where the first one did, unless that was refused
+-- where putting begins: where measuring did, unless that was refused
 abbrev pub begunAt : Place → Place → Place
 begunAt p (At n) = p
 begunAt p (Refused k) = Refused k

@@ -1,29 +1,27 @@
--- Fields laid one after another; and the one law that takes both passes to the definition, over any layout.
-use Prim.Native.Nat.{ℕ, zero, suc, _+_, _*_, _≤_, _<_, min}
+-- Fields measured, and fields put, one after another; and that what is put is the definition's, over any layout.
+use Prim.Native.Nat.{ℕ, zero, suc, _+_, _*_, _≤_, min}
 use native.Mathlib.Omega.{arith}
 use mathlib.Core.Path.{_≡_, refl, sym, ap, ap₂, _∙_}
-use mathlib.Core.Bool.{Bool, true, false}
 use mathlib.Core.List.{List, [], _∷_, _++_, append-nil}
 use lib.ListN.{length, take, drop, length-append, take-append-drop}
 use lib.Seq.{take-nil}
 use lib.Dec.{eqb}
 use borrow.Author.Tests.{le-leb}
 use Rattle.numbers.specs.Numbers.{Bytes, toLE, length-toLE, bytes-take, bytes-drop}
-use Rattle.numbers.specs.Reading.{Result, ok, bad, after}
-use Rattle.numbers.specs.ReadingLaws.{after-inv, cond-inv, Took}
+use Rattle.numbers.specs.Reading.{Result, ok, bad}
+use Rattle.numbers.specs.ReadingLaws.{after-inv, cond-inv}
 use Rattle.numbers.specs.Places.{putAt, pastPut, Put}
 use Rattle.numbers.specs.PlaceLaws.{length-put, put-then, put-length}
-use Rattle.numbers.specs.declared.Refusal.{Refusal}
 use Rattle.numbers.specs.declared.Refusal.the-variants as R
 use Rattle.numbers.specs.declared.Place.{Place}
 use Rattle.numbers.specs.declared.Place.the-variants.{At, Refused}
 use Rattle.strings.specs.Strings.{stringBytes}
-use Rattle.strings.specs.Spans.{bytesIn, showSpan, showString, checkAt}
+use Rattle.strings.specs.Spans.{showSpan, showString, SpanPut}
 use Rattle.strings.specs.SpanLaws.{shown-in, shown-length, span-inv, string-inv, passing}
 use Rattle.fields.specs.Layouts.{Field, num, str, dat, strs, quids, Layout, q, Item, number, string, bytes, strings, qids, readMany, manyBytes, itemBytes, itemsBytes}
 use Rattle.fields.specs.LayoutLaws.{took-many}
 use Rattle.fields.specs.Values.{Value, val, numOf, startOf, lenOf, countOf, wholePart, show, firstOf, othersOf, shows}
-use Rattle.laying.specs.Laying.{limit, advance, shownSize, checkField, checkFields, headWidth, headOf, countedField, pastCounted, putField, pastPutField, putFields, pastPutFields, ByPass, FieldLaid, Laid, NumLaid}
+use Rattle.laying.specs.Laying.{advance, checkField, checkFields, headWidth, headOf, countedField, pastCounted, putField, pastPutField, putFields, pastPutFields, FieldMeasured, Measured, PutAll, Advanced}
 
 -- a part of the bytes up to its end
 pub drop-take : (k n : ℕ) (s : List ℕ) → drop k (take (k + n) s) ≡ take n (drop k s)
@@ -34,39 +32,68 @@ drop-take (suc k) n s = let e : suc k + n ≡ suc (k + n) = omega arith in rw e 
     go ih [] = sym (take-nil n)
     go ih (x ∷ xs) = ih xs
 
-pub laid-none : {lent : List ℕ} {ps : Bool} {o : List ℕ} {p : Place} → Laid [] lent [] ps o p o p
-unfolding checkFields putFields pastPutFields
-laid-none {ps = false} = record { bytes = refl; next = refl }
-laid-none {ps = true} = record { bytes = refl; next = refl }
+-- ---- measured one after another
 
-module _ {f : Field} {fs : Layout} {lent : List ℕ} {v : Value} {vs : List Value} {ps : Bool} {o o1 o2 : List ℕ} {p q e : Place} where
-  pub lay : FieldLaid f lent v ps o p o1 q → Laid fs lent vs ps o1 q o2 e → Laid (f ∷ fs) lent (v ∷ vs) ps o p o2 e
-  unfolding checkFields putFields pastPutFields
-  lay a b = go ps a b
-    where
-      go : (x : Bool) → FieldLaid f lent v x o p o1 q → Laid fs lent vs x o1 q o2 e → Laid (f ∷ fs) lent (v ∷ vs) x o p o2 e
-      go false a b = record { bytes = b .bytes ∙ a .bytes; next = b .next ∙ ap (checkFields fs lent vs) (a .next) }
-      go true a b = record {
-        bytes = b .bytes ∙ rw (a .bytes, a .next);
-        next = b .next ∙ rw (a .bytes, a .next);
-      }
+pub measured-none : {lent : List ℕ} {vs : List Value} {p : Place} → Measured [] lent vs p p
+unfolding checkFields
+measured-none = record { is = refl }
 
--- a qid in front
-pub lay-qid : {fs : Layout} {lent : List ℕ} {t v x : ℕ} {vs : List Value} {ps : Bool} {o o1 o2 : List ℕ} {p p' e : Place}
-    → Laid q lent (val t ∷ val v ∷ val x ∷ []) ps o p o1 p' → Laid fs lent vs ps o1 p' o2 e → Laid (num 1 ∷ num 4 ∷ num 8 ∷ fs) lent (val t ∷ val v ∷ val x ∷ vs) ps o p o2 e
-unfolding checkFields putFields pastPutFields
-lay-qid {ps = false} a b = record { bytes = b .bytes ∙ a .bytes; next = b .next ∙ rw (a .next) }
-lay-qid {ps = true} a b = record { bytes = b .bytes ∙ rw (a .bytes, a .next); next = b .next ∙ rw (a .bytes, a .next) }
+pub measure : {f : Field} {fs : Layout} {lent : List ℕ} {v : Value} {vs : List Value} {p q e : Place} → FieldMeasured f lent v p q → Measured fs lent vs q e
+    → Measured (f ∷ fs) lent (v ∷ vs) p e
+unfolding checkFields
+measure {fs = fs} {lent} {vs = vs} a b = record { is = b .is ∙ ap (checkFields fs lent vs) (a .is) }
+
+-- numbers of these widths, whatever they are, in front of a layout: one sum measures them
+abbrev pub total : List ℕ → ℕ
+total [] = 0
+total (w ∷ ws) = w + total ws
+
+abbrev pub numbers : List ℕ → Layout → Layout
+numbers [] fs = fs
+numbers (w ∷ ws) fs = num w ∷ numbers ws fs
+
+abbrev pub afterNumbers : List ℕ → List Value → List Value
+afterNumbers [] vs = vs
+afterNumbers (w ∷ ws) vs = afterNumbers ws (othersOf vs)
+
+pub advance-twice : (m n : ℕ) (p : Place) → advance n (advance m p) ≡ advance (m + n) p
+advance-twice m n (At a) = ap At (omega arith)
+advance-twice m n (Refused k) = refl
 
 size : (w x : ℕ) → length (itemBytes (number w x)) ≡ w
 unfolding itemBytes
 size w x = length-toLE w x
 
-pub lay-num : {w x : ℕ} {lent : List ℕ} {ps : Bool} {o o1 : List ℕ} {p q : Place} → NumLaid w x ps o p o1 q → FieldLaid (num w) lent (val x) ps o p o1 q
-unfolding checkField putField pastPutField show
-lay-num {w} {x} {ps = false} {p = At a} b = record { bytes = b .bytes; next = b .next ∙ ap (λ n. At (min (a + n) 4294967296)) (sym (size w x)) }
-lay-num {w} {x} {ps = false} {p = Refused k} b = record { bytes = b .bytes; next = b .next }
-lay-num {ps = true} b = record { bytes = b .bytes; next = b .next }
+check-number : (w : ℕ) (lent : List ℕ) (v : Value) (p : Place) → checkField (num w) lent v p ≡ advance w p
+unfolding checkField show
+check-number w lent v (At a) = ap (λ n. At (min (a + n) 4294967296)) (size w (numOf v))
+check-number w lent v (Refused k) = refl
+
+check-numbers : (w : ℕ) (ws : List ℕ) (fs : Layout) (lent : List ℕ) (vs : List Value) (p : Place)
+    → checkFields fs lent (afterNumbers (w ∷ ws) vs) (advance (total (w ∷ ws)) p) ≡ checkFields (numbers (w ∷ ws) fs) lent vs p
+unfolding checkFields
+check-numbers w [] fs lent vs p =
+    let z : w + 0 ≡ w = omega arith in
+    ap (checkFields fs lent (othersOf vs)) (ap (λ n. advance n p) z ∙ sym (check-number w lent (firstOf vs) p))
+check-numbers w (v ∷ ws) fs lent vs p =
+    ap (checkFields fs lent (afterNumbers (v ∷ ws) (othersOf vs))) (sym (advance-twice w (total (v ∷ ws)) p)) ∙ check-numbers v ws fs lent (othersOf vs) (advance w p)
+    ∙ ap (checkFields (numbers (v ∷ ws) fs) lent (othersOf vs)) (sym (check-number w lent (firstOf vs) p))
+
+pub measure-numbers : (w : ℕ) (ws : List ℕ) {fs : Layout} {lent : List ℕ} {vs : List Value} {p q e : Place} → Advanced (total (w ∷ ws)) p q → Measured fs lent (afterNumbers (w ∷ ws) vs) q e
+    → Measured (numbers (w ∷ ws) fs) lent vs p e
+measure-numbers w ws {fs} {lent} {vs} {p} a b =
+    record { is = b .is ∙ ap (checkFields fs lent (afterNumbers (w ∷ ws) vs)) (a .is) ∙ check-numbers w ws fs lent vs p }
+
+-- ---- put one after another
+
+pub put-done : {lent : List ℕ} {vs : List Value} {o : List ℕ} {p : Place} → PutAll [] lent vs o p o p
+unfolding putFields pastPutFields
+put-done = record { bytes = refl; next = refl }
+
+pub put-number : {w x : ℕ} {fs : Layout} {lent : List ℕ} {vs : List Value} {o o1 o2 : List ℕ} {p q e : Place} → Put (toLE w x) o p o1 q → PutAll fs lent vs o1 q o2 e
+    → PutAll (num w ∷ fs) lent (val x ∷ vs) o p o2 e
+unfolding putFields pastPutFields putField pastPutField
+put-number a b = record { bytes = b .bytes ∙ rw (a .bytes, a .next); next = b .next ∙ rw (a .bytes, a .next) }
 
 -- ---- the output keeps its length
 
@@ -87,11 +114,10 @@ fields-length [] lent vs o p = refl
 fields-length (f ∷ fs) lent vs o p =
     fields-length fs lent (othersOf vs) (putField f lent (firstOf vs) o p) (pastPutField f lent (firstOf vs) o p) ∙ field-length f lent (firstOf vs) o p
 
-pub laid-length : {fs : Layout} {lent : List ℕ} {vs : List Value} {ps : Bool} {o o' : List ℕ} {p q : Place} → Laid fs lent vs ps o p o' q → length o' ≡ length o
-laid-length {ps = false} a = ap length (a .bytes)
-laid-length {fs} {lent} {vs} {ps = true} {o} {o'} {p} a = ap length (a .bytes) ∙ fields-length fs lent vs o p
+pub put-length-all : {fs : Layout} {lent : List ℕ} {vs : List Value} {o o' : List ℕ} {p q : Place} → PutAll fs lent vs o p o' q → length o' ≡ length o
+put-length-all {fs} {lent} {vs} {o} {o'} {p} a = ap length (a .bytes) ∙ fields-length fs lent vs o p
 
--- ---- both passes as in the definition
+-- ---- put as in the definition
 
 -- fields that are no numbers: a count, and bytes after it
 abbrev pub Unless : Field → Type 0
@@ -100,6 +126,15 @@ Unless str = Unit {0}
 Unless dat = Unit {0}
 Unless strs = Unit {0}
 Unless quids = Unit {0}
+
+pub put-counted : (f : Field) {fs : Layout} {lent : List ℕ} {v : Value} {vs : List Value} {o o1 o2 o3 : List ℕ} {p q r e : Place} → Unless f
+    → Put (toLE (headWidth f) (headOf f v)) o p o1 q → SpanPut lent (startOf v) (lenOf v) o1 q o2 r → PutAll fs lent vs o2 r o3 e → PutAll (f ∷ fs) lent (v ∷ vs) o p o3 e
+unfolding putFields pastPutFields putField pastPutField
+put-counted (num w) u a b c = absurd u
+put-counted str u a b c = record { bytes = c .bytes ∙ rw (b .put .bytes, b .put .next, a .bytes, a .next); next = c .next ∙ rw (b .put .bytes, b .put .next, a .bytes, a .next) }
+put-counted dat u a b c = record { bytes = c .bytes ∙ rw (b .put .bytes, b .put .next, a .bytes, a .next); next = c .next ∙ rw (b .put .bytes, b .put .next, a .bytes, a .next) }
+put-counted strs u a b c = record { bytes = c .bytes ∙ rw (b .put .bytes, b .put .next, a .bytes, a .next); next = c .next ∙ rw (b .put .bytes, b .put .next, a .bytes, a .next) }
+put-counted quids u a b c = record { bytes = c .bytes ∙ rw (b .put .bytes, b .put .next, a .bytes, a .next); next = c .next ∙ rw (b .put .bytes, b .put .next, a .bytes, a .next) }
 
 -- an item that a value shows: its bytes are those of the span, after the count
 pub record AfterCount (f : Field) (lent : List ℕ) (v : Value) (i : Item) : Type 0 where
@@ -161,7 +196,7 @@ after-count quids lent v {i} u b e =
     let f : qids (countOf v) bs ≡ i = cc g in
     rw (← f) (record { tail = bs; shows = k .0; size = k .1; item = refl }))
 
--- ---- the second pass, where there is room
+-- ---- putting, where there is room
 
 put-none : (o : List ℕ) (a : ℕ) → a ≤ length o → Put [] o (At a) o (At a)
 unfolding putAt pastPut

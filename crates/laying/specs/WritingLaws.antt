@@ -1,34 +1,35 @@
--- A layout that is checked, settled and put is written as the definition says: once over any layout.
+-- A layout that is measured, settled and put is written as the definition says: once over any layout.
 use Prim.Native.Nat.{ℕ, _+_, _≤_, _<_, min}
 use native.Mathlib.Omega.{arith}
 use mathlib.Core.Path.{_≡_, refl, sym, ap, _∙_}
 use mathlib.Core.Bool.{Bool, true, false, cond}
-use mathlib.Core.List.{List, [], _∷_, _++_}
+use mathlib.Core.List.{List, [], _∷_}
 use lib.ListN.{length, length-append}
-use lib.Dec.{leb, ltb}
+use lib.Dec.{ltb}
 use borrow.Author.Tests.{le-leb, lt-leb, lt-ltb, le-ltb}
-use Rattle.numbers.specs.Numbers.{Bytes}
+use Rattle.numbers.specs.Numbers.{Bytes, toLE}
 use Rattle.numbers.specs.Reading.{Result, ok, bad, after}
 use Rattle.numbers.specs.ReadingLaws.{or-else, after-inv}
 use Rattle.numbers.specs.Places.{putAt, pastPut, Put}
-use Rattle.numbers.specs.PlaceLaws.{one-answer}
+use Rattle.numbers.specs.PlaceLaws.{one-answer, length-put}
 use Rattle.numbers.specs.declared.Refusal.{Refusal}
 use Rattle.numbers.specs.declared.Refusal.the-variants as R
 use Rattle.numbers.specs.declared.Place.{Place}
 use Rattle.numbers.specs.declared.Place.the-variants.{At, Refused}
+use Rattle.strings.specs.Spans.{SpanPut}
 use Rattle.fields.specs.FieldLaws.{others-bad}
 use Rattle.fields.specs.Layouts.{Field, num, str, dat, strs, quids, Layout, Item, itemBytes, itemsBytes}
-use Rattle.fields.specs.Values.{Value, show, firstOf, othersOf, shows}
-use Rattle.laying.specs.Laying.{limit, advance, checkField, checkFields, putFields, pastPutFields, Laid, writtenOut, writtenPast, Written, settledAt, Settled, begunAt, Begun, putField, pastPutField}
-use Rattle.laying.specs.LayingLaws.{put-fields, laid-none}
+use Rattle.fields.specs.Values.{Value, startOf, lenOf, show, firstOf, othersOf, shows}
+use Rattle.laying.specs.Laying.{limit, checkField, checkFields, putFields, pastPutFields, headWidth, headOf, FieldMeasured, Measured, PutAll, writtenOut, Written, settledAt, Settled, begunAt, Begun, putField, pastPutField}
+use Rattle.laying.specs.LayingLaws.{put-fields, Unless, measured-none, measure, put-done, put-counted}
 
 pub written-one : {fs : Layout} {lent o o1 o2 : List ℕ} {vs : List Value} {p q q' : Place} → Written fs lent vs o p o1 q → Written fs lent vs o p o2 q' → (o1 ≡ o2) × (q ≡ q')
 written-one a b = (one-answer (a .bytes) (b .bytes), one-answer (a .next) (b .next))
 
--- ---- what the first pass finds
+-- ---- what measuring finds
 
 -- a place that is exact below the limit, and past it where the sum is
-record Measured (e : Place) (sum : ℕ) : Type 0 where
+record Reaches (e : Place) (sum : ℕ) : Type 0 where
   pub at : ℕ
   pub is : e ≡ At at
   pub exact : at < limit → at ≡ sum
@@ -48,18 +49,18 @@ unfolding checkFields checkField
 stays [] lent vs k = refl
 stays (f ∷ fs) lent vs k = stays fs lent (othersOf vs) k
 
-measured : (fs : Layout) (lent : List ℕ) (vs : List Value) (a : ℕ) {is : List Item} {r : List ℕ} → shows fs lent vs ≡ ok is r
-    → Measured (checkFields fs lent vs (At a)) (a + length (itemsBytes is))
+reaches : (fs : Layout) (lent : List ℕ) (vs : List Value) (a : ℕ) {is : List Item} {r : List ℕ} → shows fs lent vs ≡ ok is r
+    → Reaches (checkFields fs lent vs (At a)) (a + length (itemsBytes is))
 unfolding shows itemsBytes checkFields
-measured [] lent vs a {is} e =
+reaches [] lent vs a {is} e =
     let f : [] ≡ is = cc e in rw (← f) (record { at = a; is = refl; exact = λ h. omega arith; over = λ h. omega arith })
-measured (f ∷ fs) lent vs a {is} e =
+reaches (f ∷ fs) lent vs a {is} e =
     after-inv (show f lent (firstOf vs)) _ e
     (λ i s e1 e2. after-inv (shows fs lent (othersOf vs)) _ e2
     (λ js t e3 e4.
     let g : i ∷ js ≡ is = cc e4 in
     let l = length-append (itemBytes i) (itemsBytes js) in
-    let m = measured fs lent (othersOf vs) (min (a + length (itemBytes i)) limit) e3 in
+    let m = reaches fs lent (othersOf vs) (min (a + length (itemBytes i)) limit) e3 in
     rw (← g, check-passed f lent (firstOf vs) a e1)
     (record {
       at = m .at;
@@ -111,16 +112,15 @@ settled-fits n l s h k = s ∙ rw (lt-ltb n limit h, le-leb n l k)
 clash : {k : Refusal} {n : ℕ} {q : Place} → q ≡ Refused k → q ≡ At n → ⊥
 clash e f = let d = sym e ∙ f in let z : _≡_ {A = ℕ} 0 1 = cc d in omega arith
 
--- refused after the first pass: the output is as it was
-written-not : {fs : Layout} {lent o o1 : List ℕ} {vs : List Value} {p e q : Place} {k : Refusal} → Laid fs lent vs false o p o1 e → Settled e (length o1) q → q ≡ Refused k
-    → Written fs lent vs o p o1 q
-written-not {fs} {lent} {o} {o1} {vs} {p} {e} {q} {k} c s h =
-    rw (c .bytes) (go p (s .is ∙ ap (λ x. settledAt x (length o1)) (c .next) ∙ ap (λ l. settledAt (checkFields fs lent vs p) (length l)) (c .bytes)))
+-- refused once measured: the output is as it was
+written-not : {fs : Layout} {lent o : List ℕ} {vs : List Value} {p e q : Place} {k : Refusal} → Measured fs lent vs p e → Settled e (length o) q → q ≡ Refused k
+    → Written fs lent vs o p o q
+written-not {fs} {lent} {o} {vs} {p} {e} {q} {k} c s h = go p (s .is ∙ ap (λ x. settledAt x (length o)) (c .is))
   where
     at : (a : ℕ) → q ≡ settledAt (checkFields fs lent vs (At a)) (length o) → (m : Result (List Item)) → shows fs lent vs ≡ m → Written fs lent vs o (At a) o q
     at a d (bad j) m = record { bytes = rw m; next = d ∙ rw (failed fs lent vs a m, m) }
     at a d (ok is r) m =
-        let w = measured fs lent vs a m in
+        let w = reaches fs lent vs a m in
         let g = d ∙ ap (λ x. settledAt x (length o)) (w .is) in
         or-else limit (w .at) (λ l. rw (settled-over (w .at) (length o) g l) (over-limit fs lent vs o a m (w .over l)))
         (λ l.
@@ -132,18 +132,17 @@ written-not {fs} {lent} {o} {o1} {vs} {p} {e} {q} {k} c s h =
     go (Refused j) d = record { bytes = refl; next = d ∙ rw (stays fs lent vs j) }
     go (At a) d = at a d (shows fs lent vs) refl
 
--- settled, and put by the second pass
-written-put : {fs : Layout} {lent o o1 o2 : List ℕ} {vs : List Value} {p e q r : Place} {n : ℕ} → Bytes lent → Laid fs lent vs false o p o1 e → Settled e (length o1) q → q ≡ At n
-    → Laid fs lent vs true o1 p o2 r → Written fs lent vs o p o2 r
-written-put {fs} {lent} {o} {o1} {o2} {vs} {p} {e} {q} {r} {n} b c s h l =
-    rw (l .bytes, l .next, c .bytes)
-    (go p (s .is ∙ ap (λ x. settledAt x (length o1)) (c .next) ∙ ap (λ l. settledAt (checkFields fs lent vs p) (length l)) (c .bytes)))
+-- settled, and put
+written-put : {fs : Layout} {lent o o2 : List ℕ} {vs : List Value} {p e q r : Place} {n : ℕ} → Bytes lent → Measured fs lent vs p e → Settled e (length o) q → q ≡ At n
+    → PutAll fs lent vs o p o2 r → Written fs lent vs o p o2 r
+written-put {fs} {lent} {o} {o2} {vs} {p} {e} {q} {r} {n} b c s h l =
+    rw (l .bytes, l .next) (go p (s .is ∙ ap (λ x. settledAt x (length o)) (c .is)))
   where
     at : (a : ℕ) → q ≡ settledAt (checkFields fs lent vs (At a)) (length o) → (m : Result (List Item)) → shows fs lent vs ≡ m
         → Written fs lent vs o (At a) (putFields fs lent vs o (At a)) (pastPutFields fs lent vs o (At a))
     at a d (bad j) m = absurd (clash {k = j} (d ∙ rw (failed fs lent vs a m)) h)
     at a d (ok is r) m =
-        let w = measured fs lent vs a m in
+        let w = reaches fs lent vs a m in
         let g = d ∙ ap (λ x. settledAt x (length o)) (w .is) in
         or-else limit (w .at) (λ l. absurd (clash (settled-over (w .at) (length o) g l) h))
         (λ l.
@@ -154,7 +153,7 @@ written-put {fs} {lent} {o} {o1} {o2} {vs} {p} {e} {q} {r} {n} b c s h l =
     go (Refused j) d = absurd (clash {k = j} (d ∙ rw (stays fs lent vs j)) h)
     go (At a) d = at a d (shows fs lent vs) refl
 
--- ---- both passes
+-- ---- both
 
 put-stays-out : (f : Field) (lent : List ℕ) (v : Value) (o : List ℕ) (k : Refusal) → putField f lent v o (Refused k) ≡ o
 unfolding putField putAt pastPut
@@ -179,21 +178,39 @@ nothing-put [] lent vs o k = (refl, refl)
 nothing-put (f ∷ fs) lent vs o k =
     rw (put-stays-out f lent (firstOf vs) o k, put-stays-refused f lent (firstOf vs) o k) (nothing-put fs lent (othersOf vs) o k)
 
--- the second pass, begun where the first one lets it
-pub written : {fs : Layout} {lent o o1 o2 : List ℕ} {vs : List Value} {p e q r : Place} → Bytes lent → Laid fs lent vs false o p o1 e → Begun p e (length o1) q
-    → Laid fs lent vs true o1 q o2 r → Written fs lent vs o p o2 r
-written {fs} {lent} {o} {o1} {o2} {vs} {p} {e} {q} {r} b c s l = go (settledAt e (length o1)) refl
+-- put from where measuring lets it begin
+pub written : {fs : Layout} {lent o o2 : List ℕ} {vs : List Value} {p e q r : Place} → Bytes lent → Measured fs lent vs p e → Begun p e (length o) q → PutAll fs lent vs o q o2 r
+    → Written fs lent vs o p o2 r
+written {fs} {lent} {o} {o2} {vs} {p} {e} {q} {r} b c s l = go (settledAt e (length o)) refl
   where
-    go : (x : Place) → settledAt e (length o1) ≡ x → Written fs lent vs o p o2 r
+    go : (x : Place) → settledAt e (length o) ≡ x → Written fs lent vs o p o2 r
     go (At n) f = let g : q ≡ p = s .is ∙ ap (begunAt p) f in written-put b c (record { is = sym f }) refl (rw g at l)
     go (Refused k) f =
         let g : q ≡ Refused k = s .is ∙ ap (begunAt p) f in
-        let h : Laid fs lent vs true o1 (Refused k) o2 r = rw g at l in
-        let n = nothing-put fs lent vs o1 k in
+        let h : PutAll fs lent vs o (Refused k) o2 r = rw g at l in
+        let n = nothing-put fs lent vs o k in
         rw (h .bytes ∙ n .0, h .next ∙ n .1) (written-not c (record { is = sym f }) refl)
+
+-- the output keeps its length
+pub written-length : {fs : Layout} {lent o o' : List ℕ} {vs : List Value} {p q : Place} → Written fs lent vs o p o' q → length o' ≡ length o
+written-length {fs} {lent} {o} {o'} {vs} {p} w = ap length (w .bytes) ∙ go (shows fs lent vs) p
+  where
+    kept : (b : Bool) (bs : List ℕ) (a : ℕ) → length (cond b (putAt bs o (At a)) o) ≡ length o
+    kept true bs a = length-put bs o (At a)
+    kept false bs a = refl
+
+    go : (m : Result (List Item)) (p' : Place) → length (writtenOut m o p') ≡ length o
+    go m (Refused k) = refl
+    go (bad k) (At a) = refl
+    go (ok is r) (At a) = kept (ltb (a + length (itemsBytes is)) limit) (itemsBytes is) a
 
 -- of no fields there is nothing to put, but the place must be one
 pub written-nothing : {lent o : List ℕ} {p q : Place} → Begun p p (length o) q → Written [] lent [] o p o q
 unfolding shows
 written-nothing s =
-    let w = written {lent = []} tt laid-none s laid-none in record { bytes = w .bytes; next = w .next }
+    let w = written {lent = []} {vs = []} tt measured-none s put-done in record { bytes = w .bytes; next = w .next }
+
+-- one field of a count and bytes
+pub counted-written : (f : Field) {lent o o1 o2 : List ℕ} {v : Value} {p e q r z : Place} → Unless f → Bytes lent → FieldMeasured f lent v p e → Begun p e (length o) q
+    → Put (toLE (headWidth f) (headOf f v)) o q o1 r → SpanPut lent (startOf v) (lenOf v) o1 r o2 z → Written (f ∷ []) lent (v ∷ []) o p o2 z
+counted-written f u b m s a c = written b (measure m measured-none) s (put-counted f u a c put-done)

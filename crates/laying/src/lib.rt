@@ -1,5 +1,5 @@
-// Fields laid into an output, in two passes over the same straight line: the first checks every field and measures, and touches nothing;
-// the second puts the bytes, and looks at no text again. A writer goes through its fields once for each pass.
+// Fields checked and measured at places. No output is touched here but by the writers of data and of vectors: a writer measures all its
+// fields, asks `begun`, and only then puts bytes, so that a refusal leaves the output as it was, and no text is looked at twice.
 
 pub mod elements;
 
@@ -8,15 +8,11 @@ use numbers::Place;
 use numbers::Refusal;
 use strings::Span;
 ghost use mathlib.Core.Path.{_≡_};
+ghost use mathlib.Core.List.{[], _∷_};
 ghost use Rattle.strings.specs.Spans.{SpanCheck};
 ghost use Rattle.fields.specs.Layouts.{str, dat, strs, quids};
 ghost use Rattle.fields.specs.Values.{span, part, cutOff};
-ghost use Rattle.laying.specs.Laying.{Advanced, NumLaid, FieldLaid, CountedPut, ShowCheck, Filled, Settled, Begun};
-
-// The pass is a plain truth value: passed as a number, it lets the compiler make a straight line for each pass.
-pub const CHECK: bool = false;
-
-pub const PUT: bool = true;
+ghost use Rattle.laying.specs.Laying.{Advanced, FieldMeasured, ShowCheck, Filled, Settled, Begun, Written};
 
 // The place `n` bytes on; past the largest frame every place is the limit, so that no sum wraps.
 pub fn advanced(p: Place, n: usize) -> Place
@@ -35,63 +31,18 @@ pub fn advanced(p: Place, n: usize) -> Place
     Place::At(next)
 }
 
-fn lay_num(out: &mut [u8], p: Place, x: u64, width: usize, put: bool) -> Place
-    ensures { λ r. ⌜ NumLaid width x put (now (out .entry)) p (now (out .exit)) r ⌝ }
+// A string at a place, checked: 9, 7, 5, 6; then the place after its count and its text.
+pub fn measure_str(lent: &[u8], v: Span, p: Place) -> Place
+    ensures { λ r. ⌜ FieldMeasured str (now (lent .entry)) (span (v .start) (v .len)) p r ⌝ }
 {
-    if put {
-        return numbers::put_num(out, p, x, width);
-    }
-    advanced(p, width)
-}
-
-pub fn lay_u8(out: &mut [u8], p: Place, x: u8, put: bool) -> Place
-    ensures { λ r. ⌜ NumLaid 1 x put (now (out .entry)) p (now (out .exit)) r ⌝ }
-{
-    lay_num(out, p, x as u64, 1, put)
-}
-
-pub fn lay_u16(out: &mut [u8], p: Place, x: u16, put: bool) -> Place
-    ensures { λ r. ⌜ NumLaid 2 x put (now (out .entry)) p (now (out .exit)) r ⌝ }
-{
-    lay_num(out, p, x as u64, 2, put)
-}
-
-pub fn lay_u32(out: &mut [u8], p: Place, x: u32, put: bool) -> Place
-    ensures { λ r. ⌜ NumLaid 4 x put (now (out .entry)) p (now (out .exit)) r ⌝ }
-{
-    lay_num(out, p, x as u64, 4, put)
-}
-
-pub fn lay_u64(out: &mut [u8], p: Place, x: u64, put: bool) -> Place
-    ensures { λ r. ⌜ NumLaid 8 x put (now (out .entry)) p (now (out .exit)) r ⌝ }
-{
-    lay_num(out, p, x, 8, put)
-}
-
-// A count of `width` bytes and the bytes that a span shows, measured or put.
-fn put_counted(out: &mut [u8], p: Place, n: usize, width: usize, lent: &[u8], v: Span) -> Place
-    ensures { λ r. ⌜ CountedPut width n (now (lent .entry)) (v .start) (v .len) (now (out .entry)) p (now (out .exit)) r ⌝ }
-{
-    let q = numbers::put_num(out, p, n as u64, width);
-    strings::put_bytes(out, q, lent, v)
-}
-
-pub fn lay_str(out: &mut [u8], p: Place, lent: &[u8], v: Span, put: bool) -> Place
-    ensures { λ r. ⌜ FieldLaid str (now (lent .entry)) (span (v .start) (v .len)) put (now (out .entry)) p (now (out .exit)) r ⌝ }
-{
-    if put {
-        return put_counted(out, p, v.len, 2, lent, v);
-    }
     let q = strings::check_str(lent, v, p);
     advanced(advanced(q, 2), v.len)
 }
 
-pub fn lay_data(out: &mut [u8], p: Place, lent: &[u8], v: Span, put: bool) -> Place
-    ensures { λ r. ⌜ FieldLaid dat (now (lent .entry)) (span (v .start) (v .len)) put (now (out .entry)) p (now (out .exit)) r ⌝ }
+// Data at a place, checked: 9; then the place after its count and its bytes.
+pub fn measure_data(lent: &[u8], v: Span, p: Place) -> Place
+    ensures { λ r. ⌜ FieldMeasured dat (now (lent .entry)) (span (v .start) (v .len)) p r ⌝ }
 {
-    if put {
-        return put_counted(out, p, v.len, 4, lent, v);
-    }
     let q = strings::check_span(lent, v, p);
     advanced(advanced(q, 4), v.len)
 }
@@ -159,29 +110,25 @@ pub fn check_qids(lent: &[u8], v: Part, p: Place) -> Place
     Place::Refused(Refusal::PartMalformed)
 }
 
-pub fn lay_names(out: &mut [u8], p: Place, lent: &[u8], v: Part, put: bool) -> Place
-    ensures { λ r. ⌜ FieldLaid strs (now (lent .entry)) (part (v .count) (v .elements .start) (v .elements .len)) put (now (out .entry)) p (now (out .exit)) r ⌝ }
+// A vector of strings at a place, checked; then the place after its count and its elements.
+pub fn measure_names(lent: &[u8], v: Part, p: Place) -> Place
+    ensures { λ r. ⌜ FieldMeasured strs (now (lent .entry)) (part (v .count) (v .elements .start) (v .elements .len)) p r ⌝ }
 {
     let elements = v.elements;
-    if put {
-        return put_counted(out, p, v.count as usize, 2, lent, elements);
-    }
     let q = check_names(lent, v, p);
     advanced(advanced(q, 2), elements.len)
 }
 
-pub fn lay_qids(out: &mut [u8], p: Place, lent: &[u8], v: Part, put: bool) -> Place
-    ensures { λ r. ⌜ FieldLaid quids (now (lent .entry)) (part (v .count) (v .elements .start) (v .elements .len)) put (now (out .entry)) p (now (out .exit)) r ⌝ }
+// A vector of qids at a place, checked; then the place after its count and its elements.
+pub fn measure_qids(lent: &[u8], v: Part, p: Place) -> Place
+    ensures { λ r. ⌜ FieldMeasured quids (now (lent .entry)) (part (v .count) (v .elements .start) (v .elements .len)) p r ⌝ }
 {
     let elements = v.elements;
-    if put {
-        return put_counted(out, p, v.count as usize, 2, lent, elements);
-    }
     let q = check_qids(lent, v, p);
     advanced(advanced(q, 2), elements.len)
 }
 
-// What the end that the first pass found means in an output of `len` bytes: 10, then 11, or the second pass may go.
+// What the end that measuring found means in an output of `len` bytes: 10, then 11, or the bytes may be put.
 pub fn settled(end: Place, len: usize) -> Place
     ensures { λ r. ⌜ Settled end len r ⌝ }
 {
@@ -197,7 +144,7 @@ pub fn settled(end: Place, len: usize) -> Place
     end
 }
 
-// Where the second pass begins: where the first one did, or nowhere if that pass found a reason to refuse.
+// Where putting begins: where measuring did, or nowhere if that found a reason to refuse.
 pub fn begun(p: Place, end: Place, len: usize) -> Place
     ensures { λ r. ⌜ Begun p end len r ⌝ }
 {
@@ -206,4 +153,36 @@ pub fn begun(p: Place, end: Place, len: usize) -> Place
         return q;
     };
     p
+}
+
+// Data written at a place, its count before it: 9, then 10, then 11; a refusal leaves the output as it was.
+pub fn write_data(out: &mut [u8], p: Place, lent: &[u8], v: Span) -> Place
+    ensures { λ r. ⌜ Written (dat ∷ []) (now (lent .entry)) (span (v .start) (v .len) ∷ []) (now (out .entry)) p (now (out .exit)) r ⌝ }
+{
+    let end = measure_data(lent, v, p);
+    let start = begun(p, end, out.len());
+    let q = numbers::put_num(out, start, v.len as u64, 4);
+    strings::put_bytes(out, q, lent, v)
+}
+
+// A vector of strings written at a place: what `check_names` refuses, then 10, then 11; a refusal leaves the output as it was.
+pub fn write_names(out: &mut [u8], p: Place, lent: &[u8], v: Part) -> Place
+    ensures { λ r. ⌜ Written (strs ∷ []) (now (lent .entry)) (part (v .count) (v .elements .start) (v .elements .len) ∷ []) (now (out .entry)) p (now (out .exit)) r ⌝ }
+{
+    let elements = v.elements;
+    let end = measure_names(lent, v, p);
+    let start = begun(p, end, out.len());
+    let q = numbers::put_u16(out, start, v.count);
+    strings::put_bytes(out, q, lent, elements)
+}
+
+// A vector of qids written at a place: what `check_qids` refuses, then 10, then 11; a refusal leaves the output as it was.
+pub fn write_qids(out: &mut [u8], p: Place, lent: &[u8], v: Part) -> Place
+    ensures { λ r. ⌜ Written (quids ∷ []) (now (lent .entry)) (part (v .count) (v .elements .start) (v .elements .len) ∷ []) (now (out .entry)) p (now (out .exit)) r ⌝ }
+{
+    let elements = v.elements;
+    let end = measure_qids(lent, v, p);
+    let start = begun(p, end, out.len());
+    let q = numbers::put_u16(out, start, v.count);
+    strings::put_bytes(out, q, lent, elements)
 }

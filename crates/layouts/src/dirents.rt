@@ -6,7 +6,7 @@ use crate::qids::Qid;
 use numbers::Place;
 use strings::Span;
 ghost use Rattle.fields.specs.Fields.{Fields};
-ghost use Rattle.laying.specs.Laying.{Laid, Written};
+ghost use Rattle.laying.specs.Laying.{Written};
 ghost use Rattle.layouts.specs.Tables.{layoutDirent};
 ghost use Rattle.layouts.specs.Records.{dirent};
 
@@ -44,22 +44,20 @@ pub fn read_dirent(s: &[u8], p: Place) -> ReadDirent
     ReadDirent { value, next: p4 }
 }
 
-fn lay_dirent(out: &mut [u8], p: Place, lent: &[u8], m: Dirent, put: bool) -> Place
-    ensures { λ r. ⌜ Laid layoutDirent (now (lent .entry)) (dirent m) put (now (out .entry)) p (now (out .exit)) r ⌝ }
-{
-    let qid = m.qid;
-    let p1 = qids::lay_qid(out, p, lent, qid, put);
-    let p2 = laying::lay_u64(out, p1, m.offset, put);
-    let p3 = laying::lay_u8(out, p2, m.ty, put);
-    let name = m.name;
-    laying::lay_str(out, p3, lent, name, put)
-}
-
 // A whole entry written at a place: 9, 7, 5, 6, then 10, then 11; a refusal leaves the output as it was.
 pub fn write_dirent(out: &mut [u8], p: Place, lent: &[u8], m: Dirent) -> Place
     ensures { λ r. ⌜ Written layoutDirent (now (lent .entry)) (dirent m) (now (out .entry)) p (now (out .exit)) r ⌝ }
 {
-    let end = lay_dirent(out, p, lent, m, laying::CHECK);
+    let p1 = laying::advanced(p, 22);
+    let name = m.name;
+    let end = laying::measure_str(lent, name, p1);
     let start = laying::begun(p, end, out.len());
-    lay_dirent(out, start, lent, m, laying::PUT)
+    let qid = m.qid;
+    let q1 = numbers::put_u8(out, start, qid.ty);
+    let q2 = numbers::put_u32(out, q1, qid.version);
+    let q3 = numbers::put_u64(out, q2, qid.path);
+    let q4 = numbers::put_u64(out, q3, m.offset);
+    let q5 = numbers::put_u8(out, q4, m.ty);
+    let q6 = numbers::put_num(out, q5, name.len as u64, 2);
+    strings::put_bytes(out, q6, lent, name)
 }

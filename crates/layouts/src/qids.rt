@@ -1,9 +1,10 @@
 // Qids: ty[1] version[4] path[8], 13 bytes.
 
 use numbers::Place;
+ghost use mathlib.Core.List.{[]};
 ghost use Rattle.fields.specs.Layouts.{q};
 ghost use Rattle.fields.specs.Fields.{Fields};
-ghost use Rattle.laying.specs.Laying.{Laid};
+ghost use Rattle.laying.specs.Laying.{Written};
 ghost use Rattle.layouts.specs.Records.{qid};
 
 // The layout is C's, so that Rust can lend a table of them.
@@ -36,10 +37,13 @@ pub fn read_qid(s: &[u8], p: Place) -> ReadQid
     ReadQid { value, next: p3 }
 }
 
-pub fn lay_qid(out: &mut [u8], p: Place, lent: &[u8], v: Qid, put: bool) -> Place
-    ensures { λ r. ⌜ Laid q (now (lent .entry)) (qid v) put (now (out .entry)) p (now (out .exit)) r ⌝ }
+// A qid written at a place, all 13 bytes or none: 10, then 11; a refusal leaves the output as it was.
+pub fn write_qid(out: &mut [u8], p: Place, v: Qid) -> Place
+    ensures { λ r. ⌜ Written q [] (qid v) (now (out .entry)) p (now (out .exit)) r ⌝ }
 {
-    let p1 = laying::lay_u8(out, p, v.ty, put);
-    let p2 = laying::lay_u32(out, p1, v.version, put);
-    laying::lay_u64(out, p2, v.path, put)
+    let end = laying::advanced(p, 13);
+    let start = laying::begun(p, end, out.len());
+    let q1 = numbers::put_u8(out, start, v.ty);
+    let q2 = numbers::put_u32(out, q1, v.version);
+    numbers::put_u64(out, q2, v.path)
 }

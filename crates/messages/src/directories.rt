@@ -8,7 +8,7 @@ use layouts::qids::Qid;
 use numbers::Place;
 use strings::Span;
 ghost use Rattle.fields.specs.Fields.{Fields};
-ghost use Rattle.laying.specs.Laying.{Laid, Written};
+ghost use Rattle.laying.specs.Laying.{Written};
 ghost use Rattle.layouts.specs.Tables.{layoutTsymlink, layoutRsymlink, layoutTmknod, layoutRmknod, layoutTrename, layoutTreadlink, layoutRreadlink, layoutTreaddir, layoutRreaddir, layoutTlink, layoutTmkdir, layoutRmkdir, layoutTrenameat, layoutTunlinkat};
 ghost use Rattle.messages.specs.Records.{tsymlink, rsymlink, tmknod, rmknod, trename, treadlink, rreadlink, treaddir, rreaddir, tlink, tmkdir, rmkdir, trenameat, tunlinkat};
 
@@ -48,25 +48,24 @@ pub fn read_tsymlink(s: &[u8], p: Place) -> ReadTsymlink
     ReadTsymlink { value, next: p4 }
 }
 
-fn lay_tsymlink(out: &mut [u8], p: Place, lent: &[u8], m: Tsymlink, put: bool) -> Place
-    ensures { λ r. ⌜ Laid layoutTsymlink (now (lent .entry)) (tsymlink m) put (now (out .entry)) p (now (out .exit)) r ⌝ }
-{
-    let fid = m.fid;
-    let p1 = laying::lay_u32(out, p, fid.0, put);
-    let name = m.name;
-    let p2 = laying::lay_str(out, p1, lent, name, put);
-    let symtgt = m.symtgt;
-    let p3 = laying::lay_str(out, p2, lent, symtgt, put);
-    let gid = m.gid;
-    laying::lay_u32(out, p3, gid.0, put)
-}
-
 pub fn write_tsymlink(out: &mut [u8], p: Place, lent: &[u8], m: Tsymlink) -> Place
     ensures { λ r. ⌜ Written layoutTsymlink (now (lent .entry)) (tsymlink m) (now (out .entry)) p (now (out .exit)) r ⌝ }
 {
-    let end = lay_tsymlink(out, p, lent, m, laying::CHECK);
+    let p1 = laying::advanced(p, 4);
+    let name = m.name;
+    let p2 = laying::measure_str(lent, name, p1);
+    let symtgt = m.symtgt;
+    let p3 = laying::measure_str(lent, symtgt, p2);
+    let end = laying::advanced(p3, 4);
     let start = laying::begun(p, end, out.len());
-    lay_tsymlink(out, start, lent, m, laying::PUT)
+    let fid = m.fid;
+    let q1 = numbers::put_u32(out, start, fid.0);
+    let q2 = numbers::put_num(out, q1, name.len as u64, 2);
+    let q3 = strings::put_bytes(out, q2, lent, name);
+    let q4 = numbers::put_num(out, q3, symtgt.len as u64, 2);
+    let q5 = strings::put_bytes(out, q4, lent, symtgt);
+    let gid = m.gid;
+    numbers::put_u32(out, q5, gid.0)
 }
 
 pub struct Rsymlink {
@@ -88,19 +87,15 @@ pub fn read_rsymlink(s: &[u8], p: Place) -> ReadRsymlink
     ReadRsymlink { value, next: p1 }
 }
 
-fn lay_rsymlink(out: &mut [u8], p: Place, lent: &[u8], m: Rsymlink, put: bool) -> Place
-    ensures { λ r. ⌜ Laid layoutRsymlink (now (lent .entry)) (rsymlink m) put (now (out .entry)) p (now (out .exit)) r ⌝ }
-{
-    let qid = m.qid;
-    qids::lay_qid(out, p, lent, qid, put)
-}
-
 pub fn write_rsymlink(out: &mut [u8], p: Place, lent: &[u8], m: Rsymlink) -> Place
     ensures { λ r. ⌜ Written layoutRsymlink (now (lent .entry)) (rsymlink m) (now (out .entry)) p (now (out .exit)) r ⌝ }
 {
-    let end = lay_rsymlink(out, p, lent, m, laying::CHECK);
+    let end = laying::advanced(p, 13);
     let start = laying::begun(p, end, out.len());
-    lay_rsymlink(out, start, lent, m, laying::PUT)
+    let qid = m.qid;
+    let q1 = numbers::put_u8(out, start, qid.ty);
+    let q2 = numbers::put_u32(out, q1, qid.version);
+    numbers::put_u64(out, q2, qid.path)
 }
 
 pub struct Tmknod {
@@ -146,26 +141,23 @@ pub fn read_tmknod(s: &[u8], p: Place) -> ReadTmknod
     ReadTmknod { value, next: p6 }
 }
 
-fn lay_tmknod(out: &mut [u8], p: Place, lent: &[u8], m: Tmknod, put: bool) -> Place
-    ensures { λ r. ⌜ Laid layoutTmknod (now (lent .entry)) (tmknod m) put (now (out .entry)) p (now (out .exit)) r ⌝ }
-{
-    let dfid = m.dfid;
-    let p1 = laying::lay_u32(out, p, dfid.0, put);
-    let name = m.name;
-    let p2 = laying::lay_str(out, p1, lent, name, put);
-    let p3 = laying::lay_u32(out, p2, m.mode, put);
-    let p4 = laying::lay_u32(out, p3, m.major, put);
-    let p5 = laying::lay_u32(out, p4, m.minor, put);
-    let gid = m.gid;
-    laying::lay_u32(out, p5, gid.0, put)
-}
-
 pub fn write_tmknod(out: &mut [u8], p: Place, lent: &[u8], m: Tmknod) -> Place
     ensures { λ r. ⌜ Written layoutTmknod (now (lent .entry)) (tmknod m) (now (out .entry)) p (now (out .exit)) r ⌝ }
 {
-    let end = lay_tmknod(out, p, lent, m, laying::CHECK);
+    let p1 = laying::advanced(p, 4);
+    let name = m.name;
+    let p2 = laying::measure_str(lent, name, p1);
+    let end = laying::advanced(p2, 16);
     let start = laying::begun(p, end, out.len());
-    lay_tmknod(out, start, lent, m, laying::PUT)
+    let dfid = m.dfid;
+    let q1 = numbers::put_u32(out, start, dfid.0);
+    let q2 = numbers::put_num(out, q1, name.len as u64, 2);
+    let q3 = strings::put_bytes(out, q2, lent, name);
+    let q4 = numbers::put_u32(out, q3, m.mode);
+    let q5 = numbers::put_u32(out, q4, m.major);
+    let q6 = numbers::put_u32(out, q5, m.minor);
+    let gid = m.gid;
+    numbers::put_u32(out, q6, gid.0)
 }
 
 pub struct Rmknod {
@@ -187,19 +179,15 @@ pub fn read_rmknod(s: &[u8], p: Place) -> ReadRmknod
     ReadRmknod { value, next: p1 }
 }
 
-fn lay_rmknod(out: &mut [u8], p: Place, lent: &[u8], m: Rmknod, put: bool) -> Place
-    ensures { λ r. ⌜ Laid layoutRmknod (now (lent .entry)) (rmknod m) put (now (out .entry)) p (now (out .exit)) r ⌝ }
-{
-    let qid = m.qid;
-    qids::lay_qid(out, p, lent, qid, put)
-}
-
 pub fn write_rmknod(out: &mut [u8], p: Place, lent: &[u8], m: Rmknod) -> Place
     ensures { λ r. ⌜ Written layoutRmknod (now (lent .entry)) (rmknod m) (now (out .entry)) p (now (out .exit)) r ⌝ }
 {
-    let end = lay_rmknod(out, p, lent, m, laying::CHECK);
+    let end = laying::advanced(p, 13);
     let start = laying::begun(p, end, out.len());
-    lay_rmknod(out, start, lent, m, laying::PUT)
+    let qid = m.qid;
+    let q1 = numbers::put_u8(out, start, qid.ty);
+    let q2 = numbers::put_u32(out, q1, qid.version);
+    numbers::put_u64(out, q2, qid.path)
 }
 
 pub struct Trename {
@@ -229,23 +217,19 @@ pub fn read_trename(s: &[u8], p: Place) -> ReadTrename
     ReadTrename { value, next: p3 }
 }
 
-fn lay_trename(out: &mut [u8], p: Place, lent: &[u8], m: Trename, put: bool) -> Place
-    ensures { λ r. ⌜ Laid layoutTrename (now (lent .entry)) (trename m) put (now (out .entry)) p (now (out .exit)) r ⌝ }
-{
-    let fid = m.fid;
-    let p1 = laying::lay_u32(out, p, fid.0, put);
-    let dfid = m.dfid;
-    let p2 = laying::lay_u32(out, p1, dfid.0, put);
-    let name = m.name;
-    laying::lay_str(out, p2, lent, name, put)
-}
-
 pub fn write_trename(out: &mut [u8], p: Place, lent: &[u8], m: Trename) -> Place
     ensures { λ r. ⌜ Written layoutTrename (now (lent .entry)) (trename m) (now (out .entry)) p (now (out .exit)) r ⌝ }
 {
-    let end = lay_trename(out, p, lent, m, laying::CHECK);
+    let p1 = laying::advanced(p, 8);
+    let name = m.name;
+    let end = laying::measure_str(lent, name, p1);
     let start = laying::begun(p, end, out.len());
-    lay_trename(out, start, lent, m, laying::PUT)
+    let fid = m.fid;
+    let q1 = numbers::put_u32(out, start, fid.0);
+    let dfid = m.dfid;
+    let q2 = numbers::put_u32(out, q1, dfid.0);
+    let q3 = numbers::put_num(out, q2, name.len as u64, 2);
+    strings::put_bytes(out, q3, lent, name)
 }
 
 pub struct Treadlink {
@@ -267,19 +251,13 @@ pub fn read_treadlink(s: &[u8], p: Place) -> ReadTreadlink
     ReadTreadlink { value, next: p1 }
 }
 
-fn lay_treadlink(out: &mut [u8], p: Place, lent: &[u8], m: Treadlink, put: bool) -> Place
-    ensures { λ r. ⌜ Laid layoutTreadlink (now (lent .entry)) (treadlink m) put (now (out .entry)) p (now (out .exit)) r ⌝ }
-{
-    let fid = m.fid;
-    laying::lay_u32(out, p, fid.0, put)
-}
-
 pub fn write_treadlink(out: &mut [u8], p: Place, lent: &[u8], m: Treadlink) -> Place
     ensures { λ r. ⌜ Written layoutTreadlink (now (lent .entry)) (treadlink m) (now (out .entry)) p (now (out .exit)) r ⌝ }
 {
-    let end = lay_treadlink(out, p, lent, m, laying::CHECK);
+    let end = laying::advanced(p, 4);
     let start = laying::begun(p, end, out.len());
-    lay_treadlink(out, start, lent, m, laying::PUT)
+    let fid = m.fid;
+    numbers::put_u32(out, start, fid.0)
 }
 
 pub struct Rreadlink {
@@ -301,19 +279,14 @@ pub fn read_rreadlink(s: &[u8], p: Place) -> ReadRreadlink
     ReadRreadlink { value, next: p1 }
 }
 
-fn lay_rreadlink(out: &mut [u8], p: Place, lent: &[u8], m: Rreadlink, put: bool) -> Place
-    ensures { λ r. ⌜ Laid layoutRreadlink (now (lent .entry)) (rreadlink m) put (now (out .entry)) p (now (out .exit)) r ⌝ }
-{
-    let target = m.target;
-    laying::lay_str(out, p, lent, target, put)
-}
-
 pub fn write_rreadlink(out: &mut [u8], p: Place, lent: &[u8], m: Rreadlink) -> Place
     ensures { λ r. ⌜ Written layoutRreadlink (now (lent .entry)) (rreadlink m) (now (out .entry)) p (now (out .exit)) r ⌝ }
 {
-    let end = lay_rreadlink(out, p, lent, m, laying::CHECK);
+    let target = m.target;
+    let end = laying::measure_str(lent, target, p);
     let start = laying::begun(p, end, out.len());
-    lay_rreadlink(out, start, lent, m, laying::PUT)
+    let q1 = numbers::put_num(out, start, target.len as u64, 2);
+    strings::put_bytes(out, q1, lent, target)
 }
 
 pub struct Treaddir {
@@ -345,21 +318,15 @@ pub fn read_treaddir(s: &[u8], p: Place) -> ReadTreaddir
     ReadTreaddir { value, next: p3 }
 }
 
-fn lay_treaddir(out: &mut [u8], p: Place, lent: &[u8], m: Treaddir, put: bool) -> Place
-    ensures { λ r. ⌜ Laid layoutTreaddir (now (lent .entry)) (treaddir m) put (now (out .entry)) p (now (out .exit)) r ⌝ }
-{
-    let fid = m.fid;
-    let p1 = laying::lay_u32(out, p, fid.0, put);
-    let p2 = laying::lay_u64(out, p1, m.offset, put);
-    laying::lay_u32(out, p2, m.count, put)
-}
-
 pub fn write_treaddir(out: &mut [u8], p: Place, lent: &[u8], m: Treaddir) -> Place
     ensures { λ r. ⌜ Written layoutTreaddir (now (lent .entry)) (treaddir m) (now (out .entry)) p (now (out .exit)) r ⌝ }
 {
-    let end = lay_treaddir(out, p, lent, m, laying::CHECK);
+    let end = laying::advanced(p, 16);
     let start = laying::begun(p, end, out.len());
-    lay_treaddir(out, start, lent, m, laying::PUT)
+    let fid = m.fid;
+    let q1 = numbers::put_u32(out, start, fid.0);
+    let q2 = numbers::put_u64(out, q1, m.offset);
+    numbers::put_u32(out, q2, m.count)
 }
 
 pub struct Rreaddir {
@@ -381,19 +348,14 @@ pub fn read_rreaddir(s: &[u8], p: Place) -> ReadRreaddir
     ReadRreaddir { value, next: p1 }
 }
 
-fn lay_rreaddir(out: &mut [u8], p: Place, lent: &[u8], m: Rreaddir, put: bool) -> Place
-    ensures { λ r. ⌜ Laid layoutRreaddir (now (lent .entry)) (rreaddir m) put (now (out .entry)) p (now (out .exit)) r ⌝ }
-{
-    let data = m.data;
-    laying::lay_data(out, p, lent, data, put)
-}
-
 pub fn write_rreaddir(out: &mut [u8], p: Place, lent: &[u8], m: Rreaddir) -> Place
     ensures { λ r. ⌜ Written layoutRreaddir (now (lent .entry)) (rreaddir m) (now (out .entry)) p (now (out .exit)) r ⌝ }
 {
-    let end = lay_rreaddir(out, p, lent, m, laying::CHECK);
+    let data = m.data;
+    let end = laying::measure_data(lent, data, p);
     let start = laying::begun(p, end, out.len());
-    lay_rreaddir(out, start, lent, m, laying::PUT)
+    let q1 = numbers::put_num(out, start, data.len as u64, 4);
+    strings::put_bytes(out, q1, lent, data)
 }
 
 pub struct Tlink {
@@ -423,23 +385,19 @@ pub fn read_tlink(s: &[u8], p: Place) -> ReadTlink
     ReadTlink { value, next: p3 }
 }
 
-fn lay_tlink(out: &mut [u8], p: Place, lent: &[u8], m: Tlink, put: bool) -> Place
-    ensures { λ r. ⌜ Laid layoutTlink (now (lent .entry)) (tlink m) put (now (out .entry)) p (now (out .exit)) r ⌝ }
-{
-    let dfid = m.dfid;
-    let p1 = laying::lay_u32(out, p, dfid.0, put);
-    let fid = m.fid;
-    let p2 = laying::lay_u32(out, p1, fid.0, put);
-    let name = m.name;
-    laying::lay_str(out, p2, lent, name, put)
-}
-
 pub fn write_tlink(out: &mut [u8], p: Place, lent: &[u8], m: Tlink) -> Place
     ensures { λ r. ⌜ Written layoutTlink (now (lent .entry)) (tlink m) (now (out .entry)) p (now (out .exit)) r ⌝ }
 {
-    let end = lay_tlink(out, p, lent, m, laying::CHECK);
+    let p1 = laying::advanced(p, 8);
+    let name = m.name;
+    let end = laying::measure_str(lent, name, p1);
     let start = laying::begun(p, end, out.len());
-    lay_tlink(out, start, lent, m, laying::PUT)
+    let dfid = m.dfid;
+    let q1 = numbers::put_u32(out, start, dfid.0);
+    let fid = m.fid;
+    let q2 = numbers::put_u32(out, q1, fid.0);
+    let q3 = numbers::put_num(out, q2, name.len as u64, 2);
+    strings::put_bytes(out, q3, lent, name)
 }
 
 pub struct Tmkdir {
@@ -477,24 +435,21 @@ pub fn read_tmkdir(s: &[u8], p: Place) -> ReadTmkdir
     ReadTmkdir { value, next: p4 }
 }
 
-fn lay_tmkdir(out: &mut [u8], p: Place, lent: &[u8], m: Tmkdir, put: bool) -> Place
-    ensures { λ r. ⌜ Laid layoutTmkdir (now (lent .entry)) (tmkdir m) put (now (out .entry)) p (now (out .exit)) r ⌝ }
-{
-    let dfid = m.dfid;
-    let p1 = laying::lay_u32(out, p, dfid.0, put);
-    let name = m.name;
-    let p2 = laying::lay_str(out, p1, lent, name, put);
-    let p3 = laying::lay_u32(out, p2, m.mode, put);
-    let gid = m.gid;
-    laying::lay_u32(out, p3, gid.0, put)
-}
-
 pub fn write_tmkdir(out: &mut [u8], p: Place, lent: &[u8], m: Tmkdir) -> Place
     ensures { λ r. ⌜ Written layoutTmkdir (now (lent .entry)) (tmkdir m) (now (out .entry)) p (now (out .exit)) r ⌝ }
 {
-    let end = lay_tmkdir(out, p, lent, m, laying::CHECK);
+    let p1 = laying::advanced(p, 4);
+    let name = m.name;
+    let p2 = laying::measure_str(lent, name, p1);
+    let end = laying::advanced(p2, 8);
     let start = laying::begun(p, end, out.len());
-    lay_tmkdir(out, start, lent, m, laying::PUT)
+    let dfid = m.dfid;
+    let q1 = numbers::put_u32(out, start, dfid.0);
+    let q2 = numbers::put_num(out, q1, name.len as u64, 2);
+    let q3 = strings::put_bytes(out, q2, lent, name);
+    let q4 = numbers::put_u32(out, q3, m.mode);
+    let gid = m.gid;
+    numbers::put_u32(out, q4, gid.0)
 }
 
 pub struct Rmkdir {
@@ -516,19 +471,15 @@ pub fn read_rmkdir(s: &[u8], p: Place) -> ReadRmkdir
     ReadRmkdir { value, next: p1 }
 }
 
-fn lay_rmkdir(out: &mut [u8], p: Place, lent: &[u8], m: Rmkdir, put: bool) -> Place
-    ensures { λ r. ⌜ Laid layoutRmkdir (now (lent .entry)) (rmkdir m) put (now (out .entry)) p (now (out .exit)) r ⌝ }
-{
-    let qid = m.qid;
-    qids::lay_qid(out, p, lent, qid, put)
-}
-
 pub fn write_rmkdir(out: &mut [u8], p: Place, lent: &[u8], m: Rmkdir) -> Place
     ensures { λ r. ⌜ Written layoutRmkdir (now (lent .entry)) (rmkdir m) (now (out .entry)) p (now (out .exit)) r ⌝ }
 {
-    let end = lay_rmkdir(out, p, lent, m, laying::CHECK);
+    let end = laying::advanced(p, 13);
     let start = laying::begun(p, end, out.len());
-    lay_rmkdir(out, start, lent, m, laying::PUT)
+    let qid = m.qid;
+    let q1 = numbers::put_u8(out, start, qid.ty);
+    let q2 = numbers::put_u32(out, q1, qid.version);
+    numbers::put_u64(out, q2, qid.path)
 }
 
 pub struct Trenameat {
@@ -567,25 +518,24 @@ pub fn read_trenameat(s: &[u8], p: Place) -> ReadTrenameat
     ReadTrenameat { value, next: p4 }
 }
 
-fn lay_trenameat(out: &mut [u8], p: Place, lent: &[u8], m: Trenameat, put: bool) -> Place
-    ensures { λ r. ⌜ Laid layoutTrenameat (now (lent .entry)) (trenameat m) put (now (out .entry)) p (now (out .exit)) r ⌝ }
-{
-    let olddirfid = m.olddirfid;
-    let p1 = laying::lay_u32(out, p, olddirfid.0, put);
-    let oldname = m.oldname;
-    let p2 = laying::lay_str(out, p1, lent, oldname, put);
-    let newdirfid = m.newdirfid;
-    let p3 = laying::lay_u32(out, p2, newdirfid.0, put);
-    let newname = m.newname;
-    laying::lay_str(out, p3, lent, newname, put)
-}
-
 pub fn write_trenameat(out: &mut [u8], p: Place, lent: &[u8], m: Trenameat) -> Place
     ensures { λ r. ⌜ Written layoutTrenameat (now (lent .entry)) (trenameat m) (now (out .entry)) p (now (out .exit)) r ⌝ }
 {
-    let end = lay_trenameat(out, p, lent, m, laying::CHECK);
+    let p1 = laying::advanced(p, 4);
+    let oldname = m.oldname;
+    let p2 = laying::measure_str(lent, oldname, p1);
+    let p3 = laying::advanced(p2, 4);
+    let newname = m.newname;
+    let end = laying::measure_str(lent, newname, p3);
     let start = laying::begun(p, end, out.len());
-    lay_trenameat(out, start, lent, m, laying::PUT)
+    let olddirfid = m.olddirfid;
+    let q1 = numbers::put_u32(out, start, olddirfid.0);
+    let q2 = numbers::put_num(out, q1, oldname.len as u64, 2);
+    let q3 = strings::put_bytes(out, q2, lent, oldname);
+    let newdirfid = m.newdirfid;
+    let q4 = numbers::put_u32(out, q3, newdirfid.0);
+    let q5 = numbers::put_num(out, q4, newname.len as u64, 2);
+    strings::put_bytes(out, q5, lent, newname)
 }
 
 pub struct Tunlinkat {
@@ -618,20 +568,17 @@ pub fn read_tunlinkat(s: &[u8], p: Place) -> ReadTunlinkat
     ReadTunlinkat { value, next: p3 }
 }
 
-fn lay_tunlinkat(out: &mut [u8], p: Place, lent: &[u8], m: Tunlinkat, put: bool) -> Place
-    ensures { λ r. ⌜ Laid layoutTunlinkat (now (lent .entry)) (tunlinkat m) put (now (out .entry)) p (now (out .exit)) r ⌝ }
-{
-    let dirfd = m.dirfd;
-    let p1 = laying::lay_u32(out, p, dirfd.0, put);
-    let name = m.name;
-    let p2 = laying::lay_str(out, p1, lent, name, put);
-    laying::lay_u32(out, p2, m.flags, put)
-}
-
 pub fn write_tunlinkat(out: &mut [u8], p: Place, lent: &[u8], m: Tunlinkat) -> Place
     ensures { λ r. ⌜ Written layoutTunlinkat (now (lent .entry)) (tunlinkat m) (now (out .entry)) p (now (out .exit)) r ⌝ }
 {
-    let end = lay_tunlinkat(out, p, lent, m, laying::CHECK);
+    let p1 = laying::advanced(p, 4);
+    let name = m.name;
+    let p2 = laying::measure_str(lent, name, p1);
+    let end = laying::advanced(p2, 4);
     let start = laying::begun(p, end, out.len());
-    lay_tunlinkat(out, start, lent, m, laying::PUT)
+    let dirfd = m.dirfd;
+    let q1 = numbers::put_u32(out, start, dirfd.0);
+    let q2 = numbers::put_num(out, q1, name.len as u64, 2);
+    let q3 = strings::put_bytes(out, q2, lent, name);
+    numbers::put_u32(out, q3, m.flags)
 }

@@ -8,7 +8,7 @@ use layouts::qids::Qid;
 use numbers::Place;
 use strings::Span;
 ghost use Rattle.fields.specs.Fields.{Fields};
-ghost use Rattle.laying.specs.Laying.{Laid, Written};
+ghost use Rattle.laying.specs.Laying.{Written};
 ghost use Rattle.layouts.specs.Tables.{layoutTlopen, layoutRlopen, layoutTlcreate, layoutRlcreate, layoutTfsync};
 ghost use Rattle.messages.specs.Records.{tlopen, rlopen, tlcreate, rlcreate, tfsync};
 
@@ -37,20 +37,14 @@ pub fn read_tlopen(s: &[u8], p: Place) -> ReadTlopen
     ReadTlopen { value, next: p2 }
 }
 
-fn lay_tlopen(out: &mut [u8], p: Place, lent: &[u8], m: Tlopen, put: bool) -> Place
-    ensures { λ r. ⌜ Laid layoutTlopen (now (lent .entry)) (tlopen m) put (now (out .entry)) p (now (out .exit)) r ⌝ }
-{
-    let fid = m.fid;
-    let p1 = laying::lay_u32(out, p, fid.0, put);
-    laying::lay_u32(out, p1, m.flags, put)
-}
-
 pub fn write_tlopen(out: &mut [u8], p: Place, lent: &[u8], m: Tlopen) -> Place
     ensures { λ r. ⌜ Written layoutTlopen (now (lent .entry)) (tlopen m) (now (out .entry)) p (now (out .exit)) r ⌝ }
 {
-    let end = lay_tlopen(out, p, lent, m, laying::CHECK);
+    let end = laying::advanced(p, 8);
     let start = laying::begun(p, end, out.len());
-    lay_tlopen(out, start, lent, m, laying::PUT)
+    let fid = m.fid;
+    let q1 = numbers::put_u32(out, start, fid.0);
+    numbers::put_u32(out, q1, m.flags)
 }
 
 pub struct Rlopen {
@@ -78,20 +72,16 @@ pub fn read_rlopen(s: &[u8], p: Place) -> ReadRlopen
     ReadRlopen { value, next: p2 }
 }
 
-fn lay_rlopen(out: &mut [u8], p: Place, lent: &[u8], m: Rlopen, put: bool) -> Place
-    ensures { λ r. ⌜ Laid layoutRlopen (now (lent .entry)) (rlopen m) put (now (out .entry)) p (now (out .exit)) r ⌝ }
-{
-    let qid = m.qid;
-    let p1 = qids::lay_qid(out, p, lent, qid, put);
-    laying::lay_u32(out, p1, m.iounit, put)
-}
-
 pub fn write_rlopen(out: &mut [u8], p: Place, lent: &[u8], m: Rlopen) -> Place
     ensures { λ r. ⌜ Written layoutRlopen (now (lent .entry)) (rlopen m) (now (out .entry)) p (now (out .exit)) r ⌝ }
 {
-    let end = lay_rlopen(out, p, lent, m, laying::CHECK);
+    let end = laying::advanced(p, 17);
     let start = laying::begun(p, end, out.len());
-    lay_rlopen(out, start, lent, m, laying::PUT)
+    let qid = m.qid;
+    let q1 = numbers::put_u8(out, start, qid.ty);
+    let q2 = numbers::put_u32(out, q1, qid.version);
+    let q3 = numbers::put_u64(out, q2, qid.path);
+    numbers::put_u32(out, q3, m.iounit)
 }
 
 pub struct Tlcreate {
@@ -133,25 +123,22 @@ pub fn read_tlcreate(s: &[u8], p: Place) -> ReadTlcreate
     ReadTlcreate { value, next: p5 }
 }
 
-fn lay_tlcreate(out: &mut [u8], p: Place, lent: &[u8], m: Tlcreate, put: bool) -> Place
-    ensures { λ r. ⌜ Laid layoutTlcreate (now (lent .entry)) (tlcreate m) put (now (out .entry)) p (now (out .exit)) r ⌝ }
-{
-    let fid = m.fid;
-    let p1 = laying::lay_u32(out, p, fid.0, put);
-    let name = m.name;
-    let p2 = laying::lay_str(out, p1, lent, name, put);
-    let p3 = laying::lay_u32(out, p2, m.flags, put);
-    let p4 = laying::lay_u32(out, p3, m.mode, put);
-    let gid = m.gid;
-    laying::lay_u32(out, p4, gid.0, put)
-}
-
 pub fn write_tlcreate(out: &mut [u8], p: Place, lent: &[u8], m: Tlcreate) -> Place
     ensures { λ r. ⌜ Written layoutTlcreate (now (lent .entry)) (tlcreate m) (now (out .entry)) p (now (out .exit)) r ⌝ }
 {
-    let end = lay_tlcreate(out, p, lent, m, laying::CHECK);
+    let p1 = laying::advanced(p, 4);
+    let name = m.name;
+    let p2 = laying::measure_str(lent, name, p1);
+    let end = laying::advanced(p2, 12);
     let start = laying::begun(p, end, out.len());
-    lay_tlcreate(out, start, lent, m, laying::PUT)
+    let fid = m.fid;
+    let q1 = numbers::put_u32(out, start, fid.0);
+    let q2 = numbers::put_num(out, q1, name.len as u64, 2);
+    let q3 = strings::put_bytes(out, q2, lent, name);
+    let q4 = numbers::put_u32(out, q3, m.flags);
+    let q5 = numbers::put_u32(out, q4, m.mode);
+    let gid = m.gid;
+    numbers::put_u32(out, q5, gid.0)
 }
 
 pub struct Rlcreate {
@@ -179,20 +166,16 @@ pub fn read_rlcreate(s: &[u8], p: Place) -> ReadRlcreate
     ReadRlcreate { value, next: p2 }
 }
 
-fn lay_rlcreate(out: &mut [u8], p: Place, lent: &[u8], m: Rlcreate, put: bool) -> Place
-    ensures { λ r. ⌜ Laid layoutRlcreate (now (lent .entry)) (rlcreate m) put (now (out .entry)) p (now (out .exit)) r ⌝ }
-{
-    let qid = m.qid;
-    let p1 = qids::lay_qid(out, p, lent, qid, put);
-    laying::lay_u32(out, p1, m.iounit, put)
-}
-
 pub fn write_rlcreate(out: &mut [u8], p: Place, lent: &[u8], m: Rlcreate) -> Place
     ensures { λ r. ⌜ Written layoutRlcreate (now (lent .entry)) (rlcreate m) (now (out .entry)) p (now (out .exit)) r ⌝ }
 {
-    let end = lay_rlcreate(out, p, lent, m, laying::CHECK);
+    let end = laying::advanced(p, 17);
     let start = laying::begun(p, end, out.len());
-    lay_rlcreate(out, start, lent, m, laying::PUT)
+    let qid = m.qid;
+    let q1 = numbers::put_u8(out, start, qid.ty);
+    let q2 = numbers::put_u32(out, q1, qid.version);
+    let q3 = numbers::put_u64(out, q2, qid.path);
+    numbers::put_u32(out, q3, m.iounit)
 }
 
 pub struct Tfsync {
@@ -220,18 +203,12 @@ pub fn read_tfsync(s: &[u8], p: Place) -> ReadTfsync
     ReadTfsync { value, next: p2 }
 }
 
-fn lay_tfsync(out: &mut [u8], p: Place, lent: &[u8], m: Tfsync, put: bool) -> Place
-    ensures { λ r. ⌜ Laid layoutTfsync (now (lent .entry)) (tfsync m) put (now (out .entry)) p (now (out .exit)) r ⌝ }
-{
-    let fid = m.fid;
-    let p1 = laying::lay_u32(out, p, fid.0, put);
-    laying::lay_u32(out, p1, m.datasync, put)
-}
-
 pub fn write_tfsync(out: &mut [u8], p: Place, lent: &[u8], m: Tfsync) -> Place
     ensures { λ r. ⌜ Written layoutTfsync (now (lent .entry)) (tfsync m) (now (out .entry)) p (now (out .exit)) r ⌝ }
 {
-    let end = lay_tfsync(out, p, lent, m, laying::CHECK);
+    let end = laying::advanced(p, 8);
     let start = laying::begun(p, end, out.len());
-    lay_tfsync(out, start, lent, m, laying::PUT)
+    let fid = m.fid;
+    let q1 = numbers::put_u32(out, start, fid.0);
+    numbers::put_u32(out, q1, m.datasync)
 }

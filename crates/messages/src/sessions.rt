@@ -7,7 +7,7 @@ use layouts::qids::Qid;
 use numbers::Place;
 use strings::Span;
 ghost use Rattle.fields.specs.Fields.{Fields};
-ghost use Rattle.laying.specs.Laying.{Laid, Written};
+ghost use Rattle.laying.specs.Laying.{Written};
 ghost use Rattle.layouts.specs.Tables.{layoutTauth, layoutRauth, layoutTattach, layoutRattach, layoutRlerror};
 ghost use Rattle.messages.specs.Records.{tauth, rauth, tattach, rattach, rlerror};
 
@@ -46,24 +46,23 @@ pub fn read_tauth(s: &[u8], p: Place) -> ReadTauth
     ReadTauth { value, next: p4 }
 }
 
-fn lay_tauth(out: &mut [u8], p: Place, lent: &[u8], m: Tauth, put: bool) -> Place
-    ensures { λ r. ⌜ Laid layoutTauth (now (lent .entry)) (tauth m) put (now (out .entry)) p (now (out .exit)) r ⌝ }
-{
-    let afid = m.afid;
-    let p1 = laying::lay_u32(out, p, afid.0, put);
-    let uname = m.uname;
-    let p2 = laying::lay_str(out, p1, lent, uname, put);
-    let aname = m.aname;
-    let p3 = laying::lay_str(out, p2, lent, aname, put);
-    laying::lay_u32(out, p3, m.n_uname, put)
-}
-
 pub fn write_tauth(out: &mut [u8], p: Place, lent: &[u8], m: Tauth) -> Place
     ensures { λ r. ⌜ Written layoutTauth (now (lent .entry)) (tauth m) (now (out .entry)) p (now (out .exit)) r ⌝ }
 {
-    let end = lay_tauth(out, p, lent, m, laying::CHECK);
+    let p1 = laying::advanced(p, 4);
+    let uname = m.uname;
+    let p2 = laying::measure_str(lent, uname, p1);
+    let aname = m.aname;
+    let p3 = laying::measure_str(lent, aname, p2);
+    let end = laying::advanced(p3, 4);
     let start = laying::begun(p, end, out.len());
-    lay_tauth(out, start, lent, m, laying::PUT)
+    let afid = m.afid;
+    let q1 = numbers::put_u32(out, start, afid.0);
+    let q2 = numbers::put_num(out, q1, uname.len as u64, 2);
+    let q3 = strings::put_bytes(out, q2, lent, uname);
+    let q4 = numbers::put_num(out, q3, aname.len as u64, 2);
+    let q5 = strings::put_bytes(out, q4, lent, aname);
+    numbers::put_u32(out, q5, m.n_uname)
 }
 
 pub struct Rauth {
@@ -85,19 +84,15 @@ pub fn read_rauth(s: &[u8], p: Place) -> ReadRauth
     ReadRauth { value, next: p1 }
 }
 
-fn lay_rauth(out: &mut [u8], p: Place, lent: &[u8], m: Rauth, put: bool) -> Place
-    ensures { λ r. ⌜ Laid layoutRauth (now (lent .entry)) (rauth m) put (now (out .entry)) p (now (out .exit)) r ⌝ }
-{
-    let aqid = m.aqid;
-    qids::lay_qid(out, p, lent, aqid, put)
-}
-
 pub fn write_rauth(out: &mut [u8], p: Place, lent: &[u8], m: Rauth) -> Place
     ensures { λ r. ⌜ Written layoutRauth (now (lent .entry)) (rauth m) (now (out .entry)) p (now (out .exit)) r ⌝ }
 {
-    let end = lay_rauth(out, p, lent, m, laying::CHECK);
+    let end = laying::advanced(p, 13);
     let start = laying::begun(p, end, out.len());
-    lay_rauth(out, start, lent, m, laying::PUT)
+    let aqid = m.aqid;
+    let q1 = numbers::put_u8(out, start, aqid.ty);
+    let q2 = numbers::put_u32(out, q1, aqid.version);
+    numbers::put_u64(out, q2, aqid.path)
 }
 
 pub struct Tattach {
@@ -140,26 +135,25 @@ pub fn read_tattach(s: &[u8], p: Place) -> ReadTattach
     ReadTattach { value, next: p5 }
 }
 
-fn lay_tattach(out: &mut [u8], p: Place, lent: &[u8], m: Tattach, put: bool) -> Place
-    ensures { λ r. ⌜ Laid layoutTattach (now (lent .entry)) (tattach m) put (now (out .entry)) p (now (out .exit)) r ⌝ }
-{
-    let fid = m.fid;
-    let p1 = laying::lay_u32(out, p, fid.0, put);
-    let afid = m.afid;
-    let p2 = laying::lay_u32(out, p1, afid.0, put);
-    let uname = m.uname;
-    let p3 = laying::lay_str(out, p2, lent, uname, put);
-    let aname = m.aname;
-    let p4 = laying::lay_str(out, p3, lent, aname, put);
-    laying::lay_u32(out, p4, m.n_uname, put)
-}
-
 pub fn write_tattach(out: &mut [u8], p: Place, lent: &[u8], m: Tattach) -> Place
     ensures { λ r. ⌜ Written layoutTattach (now (lent .entry)) (tattach m) (now (out .entry)) p (now (out .exit)) r ⌝ }
 {
-    let end = lay_tattach(out, p, lent, m, laying::CHECK);
+    let p1 = laying::advanced(p, 8);
+    let uname = m.uname;
+    let p2 = laying::measure_str(lent, uname, p1);
+    let aname = m.aname;
+    let p3 = laying::measure_str(lent, aname, p2);
+    let end = laying::advanced(p3, 4);
     let start = laying::begun(p, end, out.len());
-    lay_tattach(out, start, lent, m, laying::PUT)
+    let fid = m.fid;
+    let q1 = numbers::put_u32(out, start, fid.0);
+    let afid = m.afid;
+    let q2 = numbers::put_u32(out, q1, afid.0);
+    let q3 = numbers::put_num(out, q2, uname.len as u64, 2);
+    let q4 = strings::put_bytes(out, q3, lent, uname);
+    let q5 = numbers::put_num(out, q4, aname.len as u64, 2);
+    let q6 = strings::put_bytes(out, q5, lent, aname);
+    numbers::put_u32(out, q6, m.n_uname)
 }
 
 pub struct Rattach {
@@ -181,19 +175,15 @@ pub fn read_rattach(s: &[u8], p: Place) -> ReadRattach
     ReadRattach { value, next: p1 }
 }
 
-fn lay_rattach(out: &mut [u8], p: Place, lent: &[u8], m: Rattach, put: bool) -> Place
-    ensures { λ r. ⌜ Laid layoutRattach (now (lent .entry)) (rattach m) put (now (out .entry)) p (now (out .exit)) r ⌝ }
-{
-    let qid = m.qid;
-    qids::lay_qid(out, p, lent, qid, put)
-}
-
 pub fn write_rattach(out: &mut [u8], p: Place, lent: &[u8], m: Rattach) -> Place
     ensures { λ r. ⌜ Written layoutRattach (now (lent .entry)) (rattach m) (now (out .entry)) p (now (out .exit)) r ⌝ }
 {
-    let end = lay_rattach(out, p, lent, m, laying::CHECK);
+    let end = laying::advanced(p, 13);
     let start = laying::begun(p, end, out.len());
-    lay_rattach(out, start, lent, m, laying::PUT)
+    let qid = m.qid;
+    let q1 = numbers::put_u8(out, start, qid.ty);
+    let q2 = numbers::put_u32(out, q1, qid.version);
+    numbers::put_u64(out, q2, qid.path)
 }
 
 pub struct Rlerror {
@@ -214,16 +204,10 @@ pub fn read_rlerror(s: &[u8], p: Place) -> ReadRlerror
     ReadRlerror { value, next: p1 }
 }
 
-fn lay_rlerror(out: &mut [u8], p: Place, lent: &[u8], m: Rlerror, put: bool) -> Place
-    ensures { λ r. ⌜ Laid layoutRlerror (now (lent .entry)) (rlerror m) put (now (out .entry)) p (now (out .exit)) r ⌝ }
-{
-    laying::lay_u32(out, p, m.ecode, put)
-}
-
 pub fn write_rlerror(out: &mut [u8], p: Place, lent: &[u8], m: Rlerror) -> Place
     ensures { λ r. ⌜ Written layoutRlerror (now (lent .entry)) (rlerror m) (now (out .entry)) p (now (out .exit)) r ⌝ }
 {
-    let end = lay_rlerror(out, p, lent, m, laying::CHECK);
+    let end = laying::advanced(p, 4);
     let start = laying::begun(p, end, out.len());
-    lay_rlerror(out, start, lent, m, laying::PUT)
+    numbers::put_u32(out, start, m.ecode)
 }

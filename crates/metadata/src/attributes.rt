@@ -8,7 +8,7 @@ use layouts::qids::Qid;
 use numbers::Place;
 use strings::Span;
 ghost use Rattle.fields.specs.Fields.{Fields};
-ghost use Rattle.laying.specs.Laying.{Laid, Written};
+ghost use Rattle.laying.specs.Laying.{Written};
 ghost use Rattle.layouts.specs.Tables.{layoutTstatfs, layoutRstatfs, layoutTgetattr, layoutRgetattr, layoutTsetattr, layoutTxattrwalk, layoutRxattrwalk, layoutTxattrcreate};
 ghost use Rattle.metadata.specs.Records.{tstatfs, rstatfs, tgetattr, rgetattr, tsetattr, txattrwalk, rxattrwalk, txattrcreate};
 
@@ -31,19 +31,13 @@ pub fn read_tstatfs(s: &[u8], p: Place) -> ReadTstatfs
     ReadTstatfs { value, next: p1 }
 }
 
-fn lay_tstatfs(out: &mut [u8], p: Place, lent: &[u8], m: Tstatfs, put: bool) -> Place
-    ensures { λ r. ⌜ Laid layoutTstatfs (now (lent .entry)) (tstatfs m) put (now (out .entry)) p (now (out .exit)) r ⌝ }
-{
-    let fid = m.fid;
-    laying::lay_u32(out, p, fid.0, put)
-}
-
 pub fn write_tstatfs(out: &mut [u8], p: Place, lent: &[u8], m: Tstatfs) -> Place
     ensures { λ r. ⌜ Written layoutTstatfs (now (lent .entry)) (tstatfs m) (now (out .entry)) p (now (out .exit)) r ⌝ }
 {
-    let end = lay_tstatfs(out, p, lent, m, laying::CHECK);
+    let end = laying::advanced(p, 4);
     let start = laying::begun(p, end, out.len());
-    lay_tstatfs(out, start, lent, m, laying::PUT)
+    let fid = m.fid;
+    numbers::put_u32(out, start, fid.0)
 }
 
 pub struct Rstatfs {
@@ -98,26 +92,20 @@ pub fn read_rstatfs(s: &[u8], p: Place) -> ReadRstatfs
     ReadRstatfs { value, next: p9 }
 }
 
-fn lay_rstatfs(out: &mut [u8], p: Place, lent: &[u8], m: Rstatfs, put: bool) -> Place
-    ensures { λ r. ⌜ Laid layoutRstatfs (now (lent .entry)) (rstatfs m) put (now (out .entry)) p (now (out .exit)) r ⌝ }
-{
-    let p1 = laying::lay_u32(out, p, m.ty, put);
-    let p2 = laying::lay_u32(out, p1, m.bsize, put);
-    let p3 = laying::lay_u64(out, p2, m.blocks, put);
-    let p4 = laying::lay_u64(out, p3, m.bfree, put);
-    let p5 = laying::lay_u64(out, p4, m.bavail, put);
-    let p6 = laying::lay_u64(out, p5, m.files, put);
-    let p7 = laying::lay_u64(out, p6, m.ffree, put);
-    let p8 = laying::lay_u64(out, p7, m.fsid, put);
-    laying::lay_u32(out, p8, m.namelen, put)
-}
-
 pub fn write_rstatfs(out: &mut [u8], p: Place, lent: &[u8], m: Rstatfs) -> Place
     ensures { λ r. ⌜ Written layoutRstatfs (now (lent .entry)) (rstatfs m) (now (out .entry)) p (now (out .exit)) r ⌝ }
 {
-    let end = lay_rstatfs(out, p, lent, m, laying::CHECK);
+    let end = laying::advanced(p, 60);
     let start = laying::begun(p, end, out.len());
-    lay_rstatfs(out, start, lent, m, laying::PUT)
+    let q1 = numbers::put_u32(out, start, m.ty);
+    let q2 = numbers::put_u32(out, q1, m.bsize);
+    let q3 = numbers::put_u64(out, q2, m.blocks);
+    let q4 = numbers::put_u64(out, q3, m.bfree);
+    let q5 = numbers::put_u64(out, q4, m.bavail);
+    let q6 = numbers::put_u64(out, q5, m.files);
+    let q7 = numbers::put_u64(out, q6, m.ffree);
+    let q8 = numbers::put_u64(out, q7, m.fsid);
+    numbers::put_u32(out, q8, m.namelen)
 }
 
 pub struct Tgetattr {
@@ -145,20 +133,14 @@ pub fn read_tgetattr(s: &[u8], p: Place) -> ReadTgetattr
     ReadTgetattr { value, next: p2 }
 }
 
-fn lay_tgetattr(out: &mut [u8], p: Place, lent: &[u8], m: Tgetattr, put: bool) -> Place
-    ensures { λ r. ⌜ Laid layoutTgetattr (now (lent .entry)) (tgetattr m) put (now (out .entry)) p (now (out .exit)) r ⌝ }
-{
-    let fid = m.fid;
-    let p1 = laying::lay_u32(out, p, fid.0, put);
-    laying::lay_u64(out, p1, m.request_mask, put)
-}
-
 pub fn write_tgetattr(out: &mut [u8], p: Place, lent: &[u8], m: Tgetattr) -> Place
     ensures { λ r. ⌜ Written layoutTgetattr (now (lent .entry)) (tgetattr m) (now (out .entry)) p (now (out .exit)) r ⌝ }
 {
-    let end = lay_tgetattr(out, p, lent, m, laying::CHECK);
+    let end = laying::advanced(p, 12);
     let start = laying::begun(p, end, out.len());
-    lay_tgetattr(out, start, lent, m, laying::PUT)
+    let fid = m.fid;
+    let q1 = numbers::put_u32(out, start, fid.0);
+    numbers::put_u64(out, q1, m.request_mask)
 }
 
 pub struct Rgetattr {
@@ -259,39 +241,35 @@ pub fn read_rgetattr(s: &[u8], p: Place) -> ReadRgetattr
     ReadRgetattr { value, next: p20 }
 }
 
-fn lay_rgetattr(out: &mut [u8], p: Place, lent: &[u8], m: Rgetattr, put: bool) -> Place
-    ensures { λ r. ⌜ Laid layoutRgetattr (now (lent .entry)) (rgetattr m) put (now (out .entry)) p (now (out .exit)) r ⌝ }
-{
-    let p1 = laying::lay_u64(out, p, m.valid, put);
-    let qid = m.qid;
-    let p2 = qids::lay_qid(out, p1, lent, qid, put);
-    let p3 = laying::lay_u32(out, p2, m.mode, put);
-    let p4 = laying::lay_u32(out, p3, m.uid, put);
-    let gid = m.gid;
-    let p5 = laying::lay_u32(out, p4, gid.0, put);
-    let p6 = laying::lay_u64(out, p5, m.nlink, put);
-    let p7 = laying::lay_u64(out, p6, m.rdev, put);
-    let p8 = laying::lay_u64(out, p7, m.size, put);
-    let p9 = laying::lay_u64(out, p8, m.blksize, put);
-    let p10 = laying::lay_u64(out, p9, m.blocks, put);
-    let p11 = laying::lay_u64(out, p10, m.atime_sec, put);
-    let p12 = laying::lay_u64(out, p11, m.atime_nsec, put);
-    let p13 = laying::lay_u64(out, p12, m.mtime_sec, put);
-    let p14 = laying::lay_u64(out, p13, m.mtime_nsec, put);
-    let p15 = laying::lay_u64(out, p14, m.ctime_sec, put);
-    let p16 = laying::lay_u64(out, p15, m.ctime_nsec, put);
-    let p17 = laying::lay_u64(out, p16, m.btime_sec, put);
-    let p18 = laying::lay_u64(out, p17, m.btime_nsec, put);
-    let p19 = laying::lay_u64(out, p18, m.gen_, put);
-    laying::lay_u64(out, p19, m.data_version, put)
-}
-
 pub fn write_rgetattr(out: &mut [u8], p: Place, lent: &[u8], m: Rgetattr) -> Place
     ensures { λ r. ⌜ Written layoutRgetattr (now (lent .entry)) (rgetattr m) (now (out .entry)) p (now (out .exit)) r ⌝ }
 {
-    let end = lay_rgetattr(out, p, lent, m, laying::CHECK);
+    let end = laying::advanced(p, 153);
     let start = laying::begun(p, end, out.len());
-    lay_rgetattr(out, start, lent, m, laying::PUT)
+    let q1 = numbers::put_u64(out, start, m.valid);
+    let qid = m.qid;
+    let q2 = numbers::put_u8(out, q1, qid.ty);
+    let q3 = numbers::put_u32(out, q2, qid.version);
+    let q4 = numbers::put_u64(out, q3, qid.path);
+    let q5 = numbers::put_u32(out, q4, m.mode);
+    let q6 = numbers::put_u32(out, q5, m.uid);
+    let gid = m.gid;
+    let q7 = numbers::put_u32(out, q6, gid.0);
+    let q8 = numbers::put_u64(out, q7, m.nlink);
+    let q9 = numbers::put_u64(out, q8, m.rdev);
+    let q10 = numbers::put_u64(out, q9, m.size);
+    let q11 = numbers::put_u64(out, q10, m.blksize);
+    let q12 = numbers::put_u64(out, q11, m.blocks);
+    let q13 = numbers::put_u64(out, q12, m.atime_sec);
+    let q14 = numbers::put_u64(out, q13, m.atime_nsec);
+    let q15 = numbers::put_u64(out, q14, m.mtime_sec);
+    let q16 = numbers::put_u64(out, q15, m.mtime_nsec);
+    let q17 = numbers::put_u64(out, q16, m.ctime_sec);
+    let q18 = numbers::put_u64(out, q17, m.ctime_nsec);
+    let q19 = numbers::put_u64(out, q18, m.btime_sec);
+    let q20 = numbers::put_u64(out, q19, m.btime_nsec);
+    let q21 = numbers::put_u64(out, q20, m.gen_);
+    numbers::put_u64(out, q21, m.data_version)
 }
 
 pub struct Tsetattr {
@@ -352,29 +330,23 @@ pub fn read_tsetattr(s: &[u8], p: Place) -> ReadTsetattr
     ReadTsetattr { value, next: p10 }
 }
 
-fn lay_tsetattr(out: &mut [u8], p: Place, lent: &[u8], m: Tsetattr, put: bool) -> Place
-    ensures { λ r. ⌜ Laid layoutTsetattr (now (lent .entry)) (tsetattr m) put (now (out .entry)) p (now (out .exit)) r ⌝ }
-{
-    let fid = m.fid;
-    let p1 = laying::lay_u32(out, p, fid.0, put);
-    let p2 = laying::lay_u32(out, p1, m.valid, put);
-    let p3 = laying::lay_u32(out, p2, m.mode, put);
-    let p4 = laying::lay_u32(out, p3, m.uid, put);
-    let gid = m.gid;
-    let p5 = laying::lay_u32(out, p4, gid.0, put);
-    let p6 = laying::lay_u64(out, p5, m.size, put);
-    let p7 = laying::lay_u64(out, p6, m.atime_sec, put);
-    let p8 = laying::lay_u64(out, p7, m.atime_nsec, put);
-    let p9 = laying::lay_u64(out, p8, m.mtime_sec, put);
-    laying::lay_u64(out, p9, m.mtime_nsec, put)
-}
-
 pub fn write_tsetattr(out: &mut [u8], p: Place, lent: &[u8], m: Tsetattr) -> Place
     ensures { λ r. ⌜ Written layoutTsetattr (now (lent .entry)) (tsetattr m) (now (out .entry)) p (now (out .exit)) r ⌝ }
 {
-    let end = lay_tsetattr(out, p, lent, m, laying::CHECK);
+    let end = laying::advanced(p, 60);
     let start = laying::begun(p, end, out.len());
-    lay_tsetattr(out, start, lent, m, laying::PUT)
+    let fid = m.fid;
+    let q1 = numbers::put_u32(out, start, fid.0);
+    let q2 = numbers::put_u32(out, q1, m.valid);
+    let q3 = numbers::put_u32(out, q2, m.mode);
+    let q4 = numbers::put_u32(out, q3, m.uid);
+    let gid = m.gid;
+    let q5 = numbers::put_u32(out, q4, gid.0);
+    let q6 = numbers::put_u64(out, q5, m.size);
+    let q7 = numbers::put_u64(out, q6, m.atime_sec);
+    let q8 = numbers::put_u64(out, q7, m.atime_nsec);
+    let q9 = numbers::put_u64(out, q8, m.mtime_sec);
+    numbers::put_u64(out, q9, m.mtime_nsec)
 }
 
 pub struct Txattrwalk {
@@ -404,23 +376,19 @@ pub fn read_txattrwalk(s: &[u8], p: Place) -> ReadTxattrwalk
     ReadTxattrwalk { value, next: p3 }
 }
 
-fn lay_txattrwalk(out: &mut [u8], p: Place, lent: &[u8], m: Txattrwalk, put: bool) -> Place
-    ensures { λ r. ⌜ Laid layoutTxattrwalk (now (lent .entry)) (txattrwalk m) put (now (out .entry)) p (now (out .exit)) r ⌝ }
-{
-    let fid = m.fid;
-    let p1 = laying::lay_u32(out, p, fid.0, put);
-    let newfid = m.newfid;
-    let p2 = laying::lay_u32(out, p1, newfid.0, put);
-    let name = m.name;
-    laying::lay_str(out, p2, lent, name, put)
-}
-
 pub fn write_txattrwalk(out: &mut [u8], p: Place, lent: &[u8], m: Txattrwalk) -> Place
     ensures { λ r. ⌜ Written layoutTxattrwalk (now (lent .entry)) (txattrwalk m) (now (out .entry)) p (now (out .exit)) r ⌝ }
 {
-    let end = lay_txattrwalk(out, p, lent, m, laying::CHECK);
+    let p1 = laying::advanced(p, 8);
+    let name = m.name;
+    let end = laying::measure_str(lent, name, p1);
     let start = laying::begun(p, end, out.len());
-    lay_txattrwalk(out, start, lent, m, laying::PUT)
+    let fid = m.fid;
+    let q1 = numbers::put_u32(out, start, fid.0);
+    let newfid = m.newfid;
+    let q2 = numbers::put_u32(out, q1, newfid.0);
+    let q3 = numbers::put_num(out, q2, name.len as u64, 2);
+    strings::put_bytes(out, q3, lent, name)
 }
 
 pub struct Rxattrwalk {
@@ -441,18 +409,12 @@ pub fn read_rxattrwalk(s: &[u8], p: Place) -> ReadRxattrwalk
     ReadRxattrwalk { value, next: p1 }
 }
 
-fn lay_rxattrwalk(out: &mut [u8], p: Place, lent: &[u8], m: Rxattrwalk, put: bool) -> Place
-    ensures { λ r. ⌜ Laid layoutRxattrwalk (now (lent .entry)) (rxattrwalk m) put (now (out .entry)) p (now (out .exit)) r ⌝ }
-{
-    laying::lay_u64(out, p, m.size, put)
-}
-
 pub fn write_rxattrwalk(out: &mut [u8], p: Place, lent: &[u8], m: Rxattrwalk) -> Place
     ensures { λ r. ⌜ Written layoutRxattrwalk (now (lent .entry)) (rxattrwalk m) (now (out .entry)) p (now (out .exit)) r ⌝ }
 {
-    let end = lay_rxattrwalk(out, p, lent, m, laying::CHECK);
+    let end = laying::advanced(p, 8);
     let start = laying::begun(p, end, out.len());
-    lay_rxattrwalk(out, start, lent, m, laying::PUT)
+    numbers::put_u64(out, start, m.size)
 }
 
 pub struct Txattrcreate {
@@ -489,21 +451,18 @@ pub fn read_txattrcreate(s: &[u8], p: Place) -> ReadTxattrcreate
     ReadTxattrcreate { value, next: p4 }
 }
 
-fn lay_txattrcreate(out: &mut [u8], p: Place, lent: &[u8], m: Txattrcreate, put: bool) -> Place
-    ensures { λ r. ⌜ Laid layoutTxattrcreate (now (lent .entry)) (txattrcreate m) put (now (out .entry)) p (now (out .exit)) r ⌝ }
-{
-    let fid = m.fid;
-    let p1 = laying::lay_u32(out, p, fid.0, put);
-    let name = m.name;
-    let p2 = laying::lay_str(out, p1, lent, name, put);
-    let p3 = laying::lay_u64(out, p2, m.attr_size, put);
-    laying::lay_u32(out, p3, m.flags, put)
-}
-
 pub fn write_txattrcreate(out: &mut [u8], p: Place, lent: &[u8], m: Txattrcreate) -> Place
     ensures { λ r. ⌜ Written layoutTxattrcreate (now (lent .entry)) (txattrcreate m) (now (out .entry)) p (now (out .exit)) r ⌝ }
 {
-    let end = lay_txattrcreate(out, p, lent, m, laying::CHECK);
+    let p1 = laying::advanced(p, 4);
+    let name = m.name;
+    let p2 = laying::measure_str(lent, name, p1);
+    let end = laying::advanced(p2, 12);
     let start = laying::begun(p, end, out.len());
-    lay_txattrcreate(out, start, lent, m, laying::PUT)
+    let fid = m.fid;
+    let q1 = numbers::put_u32(out, start, fid.0);
+    let q2 = numbers::put_num(out, q1, name.len as u64, 2);
+    let q3 = strings::put_bytes(out, q2, lent, name);
+    let q4 = numbers::put_u64(out, q3, m.attr_size);
+    numbers::put_u32(out, q4, m.flags)
 }

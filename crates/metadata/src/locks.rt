@@ -5,7 +5,7 @@ use layouts::ids::Fid;
 use numbers::Place;
 use strings::Span;
 ghost use Rattle.fields.specs.Fields.{Fields};
-ghost use Rattle.laying.specs.Laying.{Laid, Written};
+ghost use Rattle.laying.specs.Laying.{Written};
 ghost use Rattle.layouts.specs.Tables.{layoutTlock, layoutRlock, layoutTgetlock, layoutRgetlock};
 ghost use Rattle.metadata.specs.Records.{tlock, rlock, tgetlock, rgetlock};
 
@@ -55,26 +55,22 @@ pub fn read_tlock(s: &[u8], p: Place) -> ReadTlock
     ReadTlock { value, next: p7 }
 }
 
-fn lay_tlock(out: &mut [u8], p: Place, lent: &[u8], m: Tlock, put: bool) -> Place
-    ensures { λ r. ⌜ Laid layoutTlock (now (lent .entry)) (tlock m) put (now (out .entry)) p (now (out .exit)) r ⌝ }
-{
-    let fid = m.fid;
-    let p1 = laying::lay_u32(out, p, fid.0, put);
-    let p2 = laying::lay_u8(out, p1, m.type_, put);
-    let p3 = laying::lay_u32(out, p2, m.flags, put);
-    let p4 = laying::lay_u64(out, p3, m.start, put);
-    let p5 = laying::lay_u64(out, p4, m.length, put);
-    let p6 = laying::lay_u32(out, p5, m.proc_id, put);
-    let client_id = m.client_id;
-    laying::lay_str(out, p6, lent, client_id, put)
-}
-
 pub fn write_tlock(out: &mut [u8], p: Place, lent: &[u8], m: Tlock) -> Place
     ensures { λ r. ⌜ Written layoutTlock (now (lent .entry)) (tlock m) (now (out .entry)) p (now (out .exit)) r ⌝ }
 {
-    let end = lay_tlock(out, p, lent, m, laying::CHECK);
+    let p1 = laying::advanced(p, 29);
+    let client_id = m.client_id;
+    let end = laying::measure_str(lent, client_id, p1);
     let start = laying::begun(p, end, out.len());
-    lay_tlock(out, start, lent, m, laying::PUT)
+    let fid = m.fid;
+    let q1 = numbers::put_u32(out, start, fid.0);
+    let q2 = numbers::put_u8(out, q1, m.type_);
+    let q3 = numbers::put_u32(out, q2, m.flags);
+    let q4 = numbers::put_u64(out, q3, m.start);
+    let q5 = numbers::put_u64(out, q4, m.length);
+    let q6 = numbers::put_u32(out, q5, m.proc_id);
+    let q7 = numbers::put_num(out, q6, client_id.len as u64, 2);
+    strings::put_bytes(out, q7, lent, client_id)
 }
 
 pub struct Rlock {
@@ -95,18 +91,12 @@ pub fn read_rlock(s: &[u8], p: Place) -> ReadRlock
     ReadRlock { value, next: p1 }
 }
 
-fn lay_rlock(out: &mut [u8], p: Place, lent: &[u8], m: Rlock, put: bool) -> Place
-    ensures { λ r. ⌜ Laid layoutRlock (now (lent .entry)) (rlock m) put (now (out .entry)) p (now (out .exit)) r ⌝ }
-{
-    laying::lay_u8(out, p, m.status, put)
-}
-
 pub fn write_rlock(out: &mut [u8], p: Place, lent: &[u8], m: Rlock) -> Place
     ensures { λ r. ⌜ Written layoutRlock (now (lent .entry)) (rlock m) (now (out .entry)) p (now (out .exit)) r ⌝ }
 {
-    let end = lay_rlock(out, p, lent, m, laying::CHECK);
+    let end = laying::advanced(p, 1);
     let start = laying::begun(p, end, out.len());
-    lay_rlock(out, start, lent, m, laying::PUT)
+    numbers::put_u8(out, start, m.status)
 }
 
 pub struct Tgetlock {
@@ -151,25 +141,21 @@ pub fn read_tgetlock(s: &[u8], p: Place) -> ReadTgetlock
     ReadTgetlock { value, next: p6 }
 }
 
-fn lay_tgetlock(out: &mut [u8], p: Place, lent: &[u8], m: Tgetlock, put: bool) -> Place
-    ensures { λ r. ⌜ Laid layoutTgetlock (now (lent .entry)) (tgetlock m) put (now (out .entry)) p (now (out .exit)) r ⌝ }
-{
-    let fid = m.fid;
-    let p1 = laying::lay_u32(out, p, fid.0, put);
-    let p2 = laying::lay_u8(out, p1, m.type_, put);
-    let p3 = laying::lay_u64(out, p2, m.start, put);
-    let p4 = laying::lay_u64(out, p3, m.length, put);
-    let p5 = laying::lay_u32(out, p4, m.proc_id, put);
-    let client_id = m.client_id;
-    laying::lay_str(out, p5, lent, client_id, put)
-}
-
 pub fn write_tgetlock(out: &mut [u8], p: Place, lent: &[u8], m: Tgetlock) -> Place
     ensures { λ r. ⌜ Written layoutTgetlock (now (lent .entry)) (tgetlock m) (now (out .entry)) p (now (out .exit)) r ⌝ }
 {
-    let end = lay_tgetlock(out, p, lent, m, laying::CHECK);
+    let p1 = laying::advanced(p, 25);
+    let client_id = m.client_id;
+    let end = laying::measure_str(lent, client_id, p1);
     let start = laying::begun(p, end, out.len());
-    lay_tgetlock(out, start, lent, m, laying::PUT)
+    let fid = m.fid;
+    let q1 = numbers::put_u32(out, start, fid.0);
+    let q2 = numbers::put_u8(out, q1, m.type_);
+    let q3 = numbers::put_u64(out, q2, m.start);
+    let q4 = numbers::put_u64(out, q3, m.length);
+    let q5 = numbers::put_u32(out, q4, m.proc_id);
+    let q6 = numbers::put_num(out, q5, client_id.len as u64, 2);
+    strings::put_bytes(out, q6, lent, client_id)
 }
 
 pub struct Rgetlock {
@@ -209,21 +195,17 @@ pub fn read_rgetlock(s: &[u8], p: Place) -> ReadRgetlock
     ReadRgetlock { value, next: p5 }
 }
 
-fn lay_rgetlock(out: &mut [u8], p: Place, lent: &[u8], m: Rgetlock, put: bool) -> Place
-    ensures { λ r. ⌜ Laid layoutRgetlock (now (lent .entry)) (rgetlock m) put (now (out .entry)) p (now (out .exit)) r ⌝ }
-{
-    let p1 = laying::lay_u8(out, p, m.type_, put);
-    let p2 = laying::lay_u64(out, p1, m.start, put);
-    let p3 = laying::lay_u64(out, p2, m.length, put);
-    let p4 = laying::lay_u32(out, p3, m.proc_id, put);
-    let client_id = m.client_id;
-    laying::lay_str(out, p4, lent, client_id, put)
-}
-
 pub fn write_rgetlock(out: &mut [u8], p: Place, lent: &[u8], m: Rgetlock) -> Place
     ensures { λ r. ⌜ Written layoutRgetlock (now (lent .entry)) (rgetlock m) (now (out .entry)) p (now (out .exit)) r ⌝ }
 {
-    let end = lay_rgetlock(out, p, lent, m, laying::CHECK);
+    let p1 = laying::advanced(p, 21);
+    let client_id = m.client_id;
+    let end = laying::measure_str(lent, client_id, p1);
     let start = laying::begun(p, end, out.len());
-    lay_rgetlock(out, start, lent, m, laying::PUT)
+    let q1 = numbers::put_u8(out, start, m.type_);
+    let q2 = numbers::put_u64(out, q1, m.start);
+    let q3 = numbers::put_u64(out, q2, m.length);
+    let q4 = numbers::put_u32(out, q3, m.proc_id);
+    let q5 = numbers::put_num(out, q4, client_id.len as u64, 2);
+    strings::put_bytes(out, q5, lent, client_id)
 }

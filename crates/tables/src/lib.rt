@@ -9,13 +9,13 @@ use strings::Span;
 ghost use mathlib.Core.Path.{_≡_};
 ghost use Prim.Native.Nat.{_+_, _*_, _<_, _≤_};
 ghost use lib.ListN.{length};
-ghost use Rattle.laying.specs.Laying.{Laid};
+ghost use Rattle.laying.specs.Laying.{Measured, PutAll};
 ghost use Rattle.tables.specs.Tables.{nameFields, nameValues, walkFields, walkValues, TwalkWritten, RwalkWritten};
 ghost use Rattle.tables.specs.Qids.{putQid, placed, rwalkPast, toFollow, headed};
 
-// The names of a table, in order, each a string. A row of the table is a span: its start and its length.
-fn lay_names(out: &mut [u8], p: Place, lent: &[u8], names: &[[usize; 2]], put: bool) -> Place
-    ensures { λ r. ⌜ Laid (nameFields (now (names .entry))) (now (lent .entry)) (nameValues (now (names .entry))) put (now (out .entry)) p (now (out .exit)) r ⌝ }
+// The names of a table, in order, each a string, measured from a place. A row of the table is a span: its start and its length.
+fn measure_names(lent: &[u8], names: &[[usize; 2]], p: Place) -> Place
+    ensures { λ r. ⌜ Measured (nameFields (now (names .entry))) (now (lent .entry)) (nameValues (now (names .entry))) p r ⌝ }
 {
     let mut at = p;
     let mut i = 0;
@@ -24,14 +24,32 @@ fn lay_names(out: &mut [u8], p: Place, lent: &[u8], names: &[[usize; 2]], put: b
             start: names[i][0],
             len: names[i][1],
         };
-        at = laying::lay_str(out, at, lent, name, put);
+        at = laying::measure_str(lent, name, at);
         i += 1;
     }
     at
 }
 
-// The body of a Twalk at a place.
-fn lay_twalk(
+// The same names put at a place, each after its count.
+fn put_names(out: &mut [u8], p: Place, lent: &[u8], names: &[[usize; 2]]) -> Place
+    ensures { λ r. ⌜ PutAll (nameFields (now (names .entry))) (now (lent .entry)) (nameValues (now (names .entry))) (now (out .entry)) p (now (out .exit)) r ⌝ }
+{
+    let mut at = p;
+    let mut i = 0;
+    while i < names.len() {
+        let name = Span {
+            start: names[i][0],
+            len: names[i][1],
+        };
+        let text = numbers::put_num(out, at, name.len as u64, 2);
+        at = strings::put_bytes(out, text, lent, name);
+        i += 1;
+    }
+    at
+}
+
+// The body of a Twalk put at a place.
+fn put_twalk(
     out: &mut [u8],
     p: Place,
     fid: Fid,
@@ -39,14 +57,13 @@ fn lay_twalk(
     count: u16,
     lent: &[u8],
     names: &[[usize; 2]],
-    put: bool,
 ) -> Place
-    ensures { λ r. ⌜ Laid (walkFields (now (names .entry))) (now (lent .entry)) (walkValues (fid .0) (newfid .0) count (now (names .entry))) put (now (out .entry)) p (now (out .exit)) r ⌝ }
+    ensures { λ r. ⌜ PutAll (walkFields (now (names .entry))) (now (lent .entry)) (walkValues (fid .0) (newfid .0) count (now (names .entry))) (now (out .entry)) p (now (out .exit)) r ⌝ }
 {
-    let a = laying::lay_u32(out, p, fid.0, put);
-    let b = laying::lay_u32(out, a, newfid.0, put);
-    let c = laying::lay_u16(out, b, count, put);
-    lay_names(out, c, lent, names, put)
+    let a = numbers::put_u32(out, p, fid.0);
+    let b = numbers::put_u32(out, a, newfid.0);
+    let c = numbers::put_u16(out, b, count);
+    put_names(out, c, lent, names)
 }
 
 // A Twalk whose names are spans of the lent bytes: 8; then the names in order; then 10; then 11. The answer is its length.
@@ -65,9 +82,10 @@ pub fn write_twalk(
         return p;
     };
     let count = names.len() as u16;
-    let end = lay_twalk(out, p, fid, newfid, count, lent, names, laying::CHECK);
+    let first = laying::advanced(p, 10);
+    let end = measure_names(lent, names, first);
     let start = laying::begun(p, end, out.len());
-    let past = lay_twalk(out, start, fid, newfid, count, lent, names, laying::PUT);
+    let past = put_twalk(out, start, fid, newfid, count, lent, names);
     framing::put_header(out, past, 110, tag.0)
 }
 

@@ -18,7 +18,6 @@ pub fn write(table: &Table, files: &mut Files) {
                 let place = format!("crates/{krate}/proofs/{family}");
                 let small = row.small();
                 files.put(format!("{place}/read_{small}/Proof.antt"), read_proof(row));
-                files.put(format!("{place}/lay_{small}/Proof.antt"), lay_proof(row));
                 files.put(
                     format!("{place}/write_{small}/Proof.antt"),
                     write_proof(row),
@@ -83,7 +82,7 @@ fn source(table: &Table, krate: &str, family: &str, rows: &[&Message]) -> String
         text += &format!("{line}\n");
     }
     text += "ghost use Rattle.fields.specs.Fields.{Fields};\n";
-    text += "ghost use Rattle.laying.specs.Laying.{Laid, Written};\n";
+    text += "ghost use Rattle.laying.specs.Laying.{Written};\n";
     text += &format!(
         "ghost use Rattle.layouts.specs.Tables.{{{}}};\n",
         layouts(rows)
@@ -93,13 +92,7 @@ fn source(table: &Table, krate: &str, family: &str, rows: &[&Message]) -> String
         values.join(", ")
     );
     for row in rows {
-        text += &format!(
-            "\n{}\n{}\n{}\n{}",
-            structs(row),
-            reader(row),
-            layer(row),
-            writer(row)
-        );
+        text += &format!("\n{}\n{}\n{}", structs(row), reader(row), writer(row));
     }
     text
 }
@@ -116,7 +109,7 @@ fn structs(m: &Message) -> String {
     )
 }
 
-/// What the functions of a kind are called after: `read_u32`, `lay_u32`.
+/// What the functions of a kind are called after: `read_u32`, `measure_str`.
 fn called(kind: Kind) -> String {
     match kind {
         Kind::Qid => "qid".to_string(),
@@ -176,52 +169,147 @@ fn reader(m: &Message) -> String {
     text
 }
 
-fn layer(m: &Message) -> String {
-    let (record, small, layout) = (m.record(), m.small(), m.layout());
-    let mut text = format!(
-        "fn lay_{small}(out: &mut [u8], p: Place, lent: &[u8], m: {record}, put: bool) -> Place\n    ensures {{ λ r. ⌜ Laid {layout} (now (lent .entry)) ({small} m) put (now (out .entry)) p (now (out .exit)) r ⌝ }}\n{{\n"
-    );
-    let mut before = "p".to_string();
-    for (i, f) in m.fields.iter().enumerate() {
-        let (n, name) = (i + 1, &f.name);
-        if !is_plain(f) {
-            text += &format!("    let {name} = m.{name};\n");
-        }
-        let value = match f.kind {
-            Kind::Number(_) => format!("m.{name}"),
-            kind if kind.is_wrapped() => format!("{name}.0"),
-            _ => format!("lent, {name}"),
-        };
-        let owner = if f.kind == Kind::Qid {
-            "qids"
-        } else {
-            "laying"
-        };
-        let call = format!(
-            "{owner}::lay_{}(out, {before}, {value}, put)",
-            called(f.kind)
-        );
-        match n == m.fields.len() {
-            true => text += &format!("    {call}\n}}\n"),
-            false => text += &format!("    let p{n} = {call};\n"),
-        }
-        before = format!("p{n}");
+/// A part of a record's writer, in order: what it does, and the field it does it for.
+enum Step<'a> {
+    /// Numbers that stand together are measured by one sum.
+    Numbers(Vec<u8>),
+    Measure(&'a Field),
+    Begun,
+    /// A place of its own, before the call that needs it.
+    Copy(String),
+    /// A number of that width; its value in the code.
+    Put(u8, String),
+    /// The count of a field, and its bytes.
+    Count(&'a Field),
+    Bytes(&'a Field),
+}
+
+/// The widths of the numbers of which a field consists.
+fn widths(kind: Kind) -> Option<Vec<u8>> {
+    match kind {
+        Kind::Qid => Some(vec![1, 4, 8]),
+        _ => kind.width().map(|width| vec![width]),
     }
-    text
+}
+
+fn is_part(kind: Kind) -> bool {
+    matches!(kind, Kind::Names | Kind::Qids)
+}
+
+/// Every field measured, then every field put: no byte is put before it is known that all can be.
+fn steps(m: &Message) -> Vec<Step<'_>> {
+    let mut all = vec![];
+    for f in &m.fields {
+        match (widths(f.kind), all.last_mut()) {
+            (Some(more), Some(Step::Numbers(run))) => run.extend(more),
+            (Some(run), _) => all.push(Step::Numbers(run)),
+            (None, _) => all.extend([Step::Copy(f.name.clone()), Step::Measure(f)]),
+        }
+    }
+    all.push(Step::Begun);
+    for f in &m.fields {
+        let name = &f.name;
+        match f.kind {
+            Kind::Number(width) => all.push(Step::Put(width, format!("m.{name}"))),
+            Kind::Qid => {
+                all.push(Step::Copy(name.clone()));
+                for (width, part) in [(1, "ty"), (4, "version"), (8, "path")] {
+                    all.push(Step::Put(width, format!("{name}.{part}")));
+                }
+            }
+            kind => match kind.width() {
+                Some(width) => all.extend([
+                    Step::Copy(name.clone()),
+                    Step::Put(width, format!("{name}.0")),
+                ]),
+                None => {
+                    all.push(Step::Count(f));
+                    if is_part(kind) {
+                        all.push(Step::Copy(format!("{name}.elements")));
+                    }
+                    all.push(Step::Bytes(f));
+                }
+            },
+        }
+    }
+    all
+}
+
+/// The function that a step calls, in its crate.
+fn call_of(step: &Step) -> String {
+    match step {
+        Step::Numbers(_) => "advanced".to_string(),
+        Step::Measure(f) => format!("measure_{}", called(f.kind)),
+        Step::Begun => "begun".to_string(),
+        Step::Put(width, _) => format!("put_u{}", width * 8),
+        Step::Count(f) if is_part(f.kind) => "put_u16".to_string(),
+        Step::Count(_) => "put_num".to_string(),
+        Step::Bytes(_) => "put_bytes".to_string(),
+        Step::Copy(_) => String::new(),
+    }
 }
 
 fn writer(m: &Message) -> String {
     let (record, small, layout) = (m.record(), m.small(), m.layout());
-    format!(
+    let mut text = format!(
         "pub fn write_{small}(out: &mut [u8], p: Place, lent: &[u8], m: {record}) -> Place
     ensures {{ λ r. ⌜ Written {layout} (now (lent .entry)) ({small} m) (now (out .entry)) p (now (out .exit)) r ⌝ }}
 {{
-    let end = lay_{small}(out, p, lent, m, laying::CHECK);
-    let start = laying::begun(p, end, out.len());
-    lay_{small}(out, start, lent, m, laying::PUT)
-}}
 "
-    )
+    );
+    let all = steps(m);
+    let begun = all
+        .iter()
+        .position(|s| matches!(s, Step::Begun))
+        .unwrap_or(0);
+    let (mut at, mut n) = ("p".to_string(), 0);
+    for (i, step) in all.iter().enumerate() {
+        if let Step::Copy(what) = step {
+            text += &match what.split_once('.') {
+                Some((_, part)) => format!("    let {part} = {what};\n"),
+                None => format!("    let {what} = m.{what};\n"),
+            };
+            continue;
+        }
+        let call = written_call(step, &at);
+        if i + 1 == all.len() {
+            text += &format!("    {call}\n}}\n");
+            break;
+        }
+        n = if i == begun { 0 } else { n + 1 };
+        at = match i {
+            _ if i + 1 == begun => "end".to_string(),
+            _ if i == begun => "start".to_string(),
+            _ if i < begun => format!("p{n}"),
+            _ => format!("q{n}"),
+        };
+        text += &format!("    let {at} = {call};\n");
+    }
+    text
+}
+
+/// The call of a step at the place that it has come to.
+fn written_call(step: &Step, at: &str) -> String {
+    let call = call_of(step);
+    match step {
+        Step::Copy(what) => what.clone(),
+        Step::Begun => format!("laying::{call}(p, {at}, out.len())"),
+        Step::Numbers(run) => {
+            let sum: usize = run.iter().map(|w| usize::from(*w)).sum();
+            format!("laying::{call}({at}, {sum})")
+        }
+        Step::Measure(f) => format!("laying::{call}(lent, {}, {at})", f.name),
+        Step::Put(_, value) => format!("numbers::{call}(out, {at}, {value})"),
+        Step::Count(f) if is_part(f.kind) => {
+            format!("numbers::{call}(out, {at}, {}.count)", f.name)
+        }
+        Step::Count(f) => {
+            let width = if f.kind == Kind::Str { 2 } else { 4 };
+            format!("numbers::{call}(out, {at}, {}.len as u64, {width})", f.name)
+        }
+        Step::Bytes(f) if is_part(f.kind) => format!("strings::{call}(out, {at}, lent, elements)"),
+        Step::Bytes(f) => format!("strings::{call}(out, {at}, lent, {})", f.name),
+    }
 }
 
 // ---- what a record's values are
@@ -375,88 +463,171 @@ fn places(
     (text, names)
 }
 
-/// From so many fields on a proof wants a law over plain variables.
-const MANY: usize = 13;
+/// From so many calls that put on, a proof wants a law over plain variables.
+const MANY: usize = 16;
 
-/// The law's name: how many fields there are.
-const WORDS: [&str; 10] = [
-    "thirteen",
-    "fourteen",
-    "fifteen",
-    "sixteen",
-    "seventeen",
-    "eighteen",
-    "nineteen",
-    "twenty",
-    "twenty-one",
-    "twenty-two",
-];
+/// How many places of the prover's record a call that puts leaves after it (the output comes back), and before it (the output is lent).
+const AFTER_PUT: usize = 2;
+const BEFORE_PUT: usize = 1;
 
-fn lay_proof(m: &Message) -> String {
-    let small = m.small();
-    // After a call that is lent the output it comes back, in four places; what is no plain number is copied out of the record before its call.
-    let (lets, names) = places(m, |_| 2, |_, next| 4 + usize::from(!is_plain(next)));
+/// `let q3 = c .before .before in ..`: the place after each call, the last first, and the places' names with the calls, in order; at last
+/// that of the lent bytes.
+fn call_places(all: &[Step]) -> (String, Vec<String>) {
     let mut calls = Occurrences::default();
-    let facts: Vec<String> = (m.fields.iter().zip(&names))
-        .map(|(f, c)| {
-            format!(
-                "({c} .{} .ensures)",
-                calls.next(&format!("lay-{}", called(f.kind)))
-            )
+    let facts: Vec<String> = all
+        .iter()
+        .map(|s| match s {
+            Step::Copy(_) => String::new(),
+            _ => calls.next(&call_of(s).replace('_', "-")),
         })
         .collect();
-    let many = m.fields.len() >= MANY;
-    let mut text = if many { plain_law(m) } else { String::new() };
-    if !many {
-        text += &format!(
-            "-- Each field by what laying it ensures, one after another.\nuse Rattle.laying.specs.LayingLaws.{{{}}}\n{}",
-            laying_laws(m),
-            uses(&m.dialect, &path(m, "lay"))
-        );
+    let (mut text, mut at, mut back) = (String::new(), "c".to_string(), 0);
+    let mut named = vec![];
+    for (i, step) in all.iter().enumerate().rev() {
+        let puts = matches!(step, Step::Put(..) | Step::Count(_) | Step::Bytes(_));
+        if let Step::Copy(_) = step {
+            back += 1;
+            continue;
+        }
+        if puts {
+            back += AFTER_PUT;
+        }
+        let calls = all[..=i].iter().filter(|s| !matches!(s, Step::Copy(_)));
+        let name = format!("c{}", calls.count());
+        text += &format!("    let {name} = {at}{} in\n", " .before".repeat(back));
+        named.insert(0, format!("({name} .{} .ensures)", facts[i]));
+        at = name;
+        back = 1 + if puts { BEFORE_PUT } else { 0 };
     }
-    text += &match many {
-        true => body(
-            &lets,
-            &format!("{} {}", WORDS[m.fields.len() - MANY], facts.join(" ")),
-        ),
-        false => body(&lets, &nested(&laid(m, &facts), "laid-none")),
+    text += &format!("    let l = {at}{} in\n", " .before".repeat(back));
+    (text, named)
+}
+
+/// The terms that the fields are measured and put by, from the facts that the calls ensure, in order; and the fact of `begun`.
+fn written_by(all: &[Step], facts: &[String]) -> (String, String, Vec<String>) {
+    let mut facts = facts.iter();
+    let mut next = || facts.next().expect("a fact for each call").clone();
+    let (mut measured, mut put, mut begun, mut count) =
+        (vec![], vec![], String::new(), String::new());
+    for step in all {
+        match step {
+            Step::Copy(_) => {}
+            Step::Numbers(run) => {
+                let others: String = run[1..].iter().map(|w| format!("{w} ∷ ")).collect();
+                measured.push(format!(
+                    "measure-numbers {} ({others}[]) {}",
+                    run[0],
+                    next()
+                ));
+            }
+            Step::Measure(_) => measured.push(format!("measure {}", next())),
+            Step::Begun => begun = next(),
+            Step::Put(..) => put.push(format!("put-number {}", next())),
+            Step::Count(_) => count = next(),
+            Step::Bytes(f) => put.push(format!(
+                "put-counted {} tt {count} {}",
+                kind_of(f.kind),
+                next()
+            )),
+        }
+    }
+    (nested(&measured, "measured-none"), begun, put)
+}
+
+/// The kind of field that a definition has, of what is no number.
+fn kind_of(kind: Kind) -> &'static str {
+    match kind {
+        Kind::Str => "str",
+        Kind::Data => "dat",
+        Kind::Names => "strs",
+        _ => "quids",
+    }
+}
+
+fn write_proof(m: &Message) -> String {
+    let small = m.small();
+    let all = steps(m);
+    let (lets, facts) = call_places(&all);
+    let (measured, begun, put) = written_by(&all, &facts);
+    let many = put.len() >= MANY;
+    let mut text = write_uses(m, &all, many);
+    let put = match many {
+        true => {
+            text += &plain_law(m, &all);
+            let puts = &facts[facts.len() - put.len()..];
+            format!("all-put {}", puts.join(" "))
+        }
+        false => nested(&put, "put-done"),
     };
-    text += "\nsame-length : tie.Need-same-length\nsame-length c = laid-length (returns c)\n\n";
-    let mut answers = vec![NOTHING.to_string(); m.fields.len()];
+    let bytes = "    let b = bytes-all (l .before .before .args .lent .now) (λ i. l .shared-slice-known .given i .fits) in\n";
+    text += &body(
+        &(lets + bytes),
+        &format!("written b ({measured}) {begun}\n    ({put})"),
+    );
+    text += "\nsame-length : tie.Need-same-length\nsame-length c = written-length (returns c)\n\n";
+    let mut answers = vec![NOTHING.to_string(); facts.len()];
     answers.extend(["same-length".to_string(), "returns".to_string()]);
-    text + &closed_short(&format!("lay-{small}"), &answers)
+    text + &closed_short(&format!("write-{small}"), &answers)
 }
 
-/// Each field by its law, from the fact that its call ensures.
-fn laid(m: &Message, facts: &[String]) -> Vec<String> {
-    let law = |(f, fact): (&Field, &String)| match f.kind {
-        Kind::Qid => format!("lay-qid {fact}"),
-        kind if kind.width().is_some() => format!("lay (lay-num {fact})"),
-        _ => format!("lay {fact}"),
+/// The head of a writer's proof: what it uses, and for many fields what their law names.
+fn write_uses(m: &Message, all: &[Step], many: bool) -> String {
+    let mut text =
+        "-- Each field measured, then each field put, by the law of every writer.\n".to_string();
+    let longest = all.iter().map(|s| match s {
+        Step::Numbers(run) => run.len(),
+        _ => 0,
+    });
+    text += match longest.max() {
+        _ if many => "use Prim.Native.Nat.{ℕ}\nuse mathlib.Core.List.{List, [], _∷_}\n",
+        None | Some(0) => "",
+        Some(1) => "use mathlib.Core.List.{[]}\n",
+        Some(_) => "use mathlib.Core.List.{[], _∷_}\n",
     };
-    m.fields.iter().zip(facts).map(law).collect()
+    text += match many {
+        true => "use Rattle.numbers.specs.Numbers.{bytes-all, toLE}\n",
+        false => "use Rattle.numbers.specs.Numbers.{bytes-all}\n",
+    };
+    let others = m.fields.iter().filter(|f| widths(f.kind).is_none());
+    let kinds: BTreeSet<&str> = others.map(|f| kind_of(f.kind)).collect();
+    if !kinds.is_empty() {
+        let kinds: Vec<&str> = kinds.into_iter().collect();
+        text += &format!("use Rattle.fields.specs.Layouts.{{{}}}\n", kinds.join(", "));
+    }
+    if many {
+        text += &format!("use Rattle.numbers.specs.Places.{{Put}}\nuse Rattle.numbers.specs.declared.Place.{{Place}}\nuse Rattle.fields.specs.Values.{{val}}\nuse Rattle.laying.specs.Laying.{{PutAll}}\nuse Rattle.layouts.specs.Tables.{{{}}}\n", m.layout());
+    }
+    text += &format!(
+        "use Rattle.laying.specs.LayingLaws.{{{}}}\nuse Rattle.laying.specs.WritingLaws.{{written, written-length}}\n",
+        written_laws(m)
+    );
+    text + &uses(&m.dialect, &path(m, "write"))
 }
 
-fn laying_laws(m: &Message) -> String {
+fn written_laws(m: &Message) -> String {
     laws(
         m,
         &[
-            ("lay-num", |k| k.width().is_some()),
-            ("lay", |k| k != Kind::Qid),
-            ("lay-qid", |k| k == Kind::Qid),
-            ("laid-none", |_| true),
-            ("laid-length", |_| true),
+            ("measure-numbers", |k| widths(k).is_some()),
+            ("measure", |k| widths(k).is_none()),
+            ("measured-none", |_| true),
+            ("put-number", |k| widths(k).is_some()),
+            ("put-counted", |k| widths(k).is_none()),
+            ("put-done", |_| true),
         ],
     )
 }
 
-/// The head of a proof of many fields, with the law over plain variables. Of such records there are only those of numbers and a qid.
-fn plain_law(m: &Message) -> String {
-    let count = m.fields.len();
-    let law = WORDS[count - MANY];
-    let numbers: Vec<usize> = (1..=count)
-        .filter(|i| m.fields[i - 1].kind != Kind::Qid)
+/// The law over plain variables that puts many fields. Of such records there are only those of numbers and qids.
+fn plain_law(m: &Message, all: &[Step]) -> String {
+    let widths: Vec<u8> = all
+        .iter()
+        .filter_map(|s| match s {
+            Step::Put(width, _) => Some(*width),
+            _ => None,
+        })
         .collect();
+    let count = widths.len();
     let list = |letter: char, from: usize| {
         (from..=count)
             .map(|i| format!("{letter}{i}"))
@@ -464,66 +635,28 @@ fn plain_law(m: &Message) -> String {
             .join(" ")
     };
     let mut text = format!(
-        "-- The {law} fields of an {}, one after another. The law is over plain variables: said of the code itself, each field would carry the
--- types of all that follow, which took 2.7 GB.
-use Prim.Native.Nat.{{ℕ}}
-use mathlib.Core.Bool.{{Bool}}
-use mathlib.Core.List.{{List, [], _∷_}}
-use Rattle.numbers.specs.declared.Place.{{Place}}
-use Rattle.fields.specs.Layouts.{{q}}
-use Rattle.fields.specs.Values.{{val}}
-use Rattle.laying.specs.Laying.{{NumLaid, Laid}}
-use Rattle.laying.specs.LayingLaws.{{{}}}
-use Rattle.layouts.specs.Tables.{{{}}}
-{}
-{law} : {{lent : List ℕ}} {{ps : Bool}} {{t v x {} : ℕ}} {{{} : List ℕ}} {{{} : Place}}
+        "
+-- over plain variables: said of the code itself, each field would carry the types of all that follow, which took 2.7 GB
+all-put : {{lent : List ℕ}} {{{} : ℕ}} {{{} : List ℕ}} {{{} : Place}}
 ",
-        m.record(),
-        laying_laws(m),
-        m.layout(),
-        uses(&m.dialect, &path(m, "lay")),
-        numbers.iter().map(|i| format!("n{i}")).collect::<Vec<_>>().join(" "),
+        list('n', 1),
         list('o', 0),
         list('p', 0)
     );
     let mut values = String::new();
-    for (i, f) in m.fields.iter().enumerate() {
+    for (i, width) in widths.iter().enumerate() {
         let n = i + 1;
-        let around = format!("ps o{i} p{i} o{n} p{n}");
-        match f.kind {
-            Kind::Qid => {
-                text += &format!("    → Laid q lent (val t ∷ val v ∷ val x ∷ []) {around}\n");
-                values += "val t ∷ val v ∷ val x ∷ ";
-            }
-            kind => {
-                text += &format!(
-                    "    → NumLaid {} n{n} {around}\n",
-                    kind.width().expect("only numbers and a qid")
-                );
-                values += &format!("val n{n} ∷ ");
-            }
-        }
+        text += &format!("    → Put (toLE {width} n{n}) o{i} p{i} o{n} p{n}\n");
+        values += &format!("val n{n} ∷ ");
     }
-    let facts: Vec<String> = (1..=count).map(|i| format!("a{i}")).collect();
+    let laws: Vec<String> = (1..=count).map(|i| format!("put-number a{i}")).collect();
     text += &format!(
-        "    → Laid {} lent ({values}[]) ps o0 p0 o{count} p{count}\n",
+        "    → PutAll {} lent ({values}[]) o0 p0 o{count} p{count}\n",
         m.layout()
     );
     text + &format!(
-        "{law} {} =\n    {}\n",
-        facts.join(" "),
-        nested(&laid(m, &facts), "laid-none")
+        "all-put {} =\n    {}\n",
+        list('a', 1),
+        nested(&laws, "put-done")
     )
-}
-
-fn write_proof(m: &Message) -> String {
-    let small = m.small();
-    let mut text = "-- The pass that checks and the pass that puts, by the law of every writer.\nuse borrow.Author.Needs.{needs}\nuse Rattle.numbers.specs.Numbers.{bytes-all}\nuse Rattle.laying.specs.WritingLaws.{written}\n".to_string();
-    text += &uses(&m.dialect, &path(m, "write"));
-    text += "\nsame-length : tie.Need-same-length\nsame-length c = search needs\n\nreturns : tie.Need-returns\nreturns c =\n";
-    text += "    let d = c .before .before .before .before in\n    let e = d .before .before .before in\n";
-    text += "    let b = bytes-all (e .before .before .before .before .args .lent .now) (λ i. e .before .before .shared-slice-known .given i .fits) in\n";
-    text += &format!("    written b (e .lay-{small} .ensures) (d .begun .ensures) (c .before .before .lay-{small}2 .ensures)\n\n");
-    let answers = [NOTHING, NOTHING, NOTHING, "same-length", "returns"].map(String::from);
-    text + &closed_short(&format!("write-{small}"), &answers)
 }

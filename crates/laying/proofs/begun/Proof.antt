@@ -1,4 +1,4 @@
--- The first pass refused, or the second begins where the first did.
+-- Measuring refused, or putting begins where it did.
 use borrow.Author.Needs.{needs}
 use Rattle.laying.proofs.Lays.{begins-not, begins}
 use Rattle.laying.proofs.begun.Statement.{statement}

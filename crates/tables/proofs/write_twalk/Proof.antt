@@ -1,4 +1,4 @@
--- Too many names; or checked, settled, put, and the header put before them.
+-- Too many names; or measured, settled, put, and the header put before them.
 use borrow.Author.Needs.{needs}
 use native.Mathlib.Omega.{arith}
 use mathlib.Core.Path.{refl}
@@ -29,11 +29,12 @@ returns-2 c =
     let h = c .before .before in
     let p = h .before .before .before .before in
     let s = p .before .before in
-    let l = s .before .before .before in
-    let e = l .before .before in
+    let l = s .before in
+    let v = l .before in
+    let e = v .before in
     let k = e .before .before in
     let b = bytes-all (k .before .before .before .args .lent .now) (λ i. k .before .shared-slice-known .given i .fits) in
-    twalk-put b (k .check-count .ensures) (e .enum-told .given .1) refl (l .lay-twalk .ensures) (s .begun .ensures) (p .lay-twalk2 .ensures) (h .put-header .ensures)
+    twalk-put b (k .check-count .ensures) (e .enum-told .given .1) refl (v .advanced .ensures) (l .measure-names .ensures) (s .begun .ensures) (p .put-twalk .ensures) (h .put-header .ensures)
 
 pub write-twalk-spec : {M : Type 1} → statement M
 write-twalk-spec =
@@ -44,6 +45,7 @@ write-twalk-spec =
     enum-told-2
     returns
     cast-count
+    (λ _ _. tt)
     (λ _ _. tt)
     (λ _ _. tt)
     (λ _ _. tt)
