@@ -11,7 +11,7 @@ use Rattle.numbers.specs.Numbers.{Bytes, toLE, length-toLE, bytes-take, bytes-d
 use Rattle.numbers.specs.Reading.{Result, ok, bad}
 use Rattle.numbers.specs.ReadingLaws.{after-inv, cond-inv}
 use Rattle.numbers.specs.Places.{putAt, pastPut, Put}
-use Rattle.numbers.specs.PlaceLaws.{length-put, put-then, put-length}
+use Rattle.numbers.specs.PlaceLaws.{put-then, put-length}
 use Rattle.numbers.specs.declared.Refusal.the-variants as R
 use Rattle.numbers.specs.declared.Place.{Place}
 use Rattle.numbers.specs.declared.Place.the-variants.{At, Refused}
@@ -94,28 +94,6 @@ pub put-number : {w x : ℕ} {fs : Layout} {lent : List ℕ} {vs : List Value} {
     → PutAll (num w ∷ fs) lent (val x ∷ vs) o p o2 e
 unfolding putFields pastPutFields putField pastPutField
 put-number a b = record { bytes = b .bytes ∙ rw (a .bytes, a .next); next = b .next ∙ rw (a .bytes, a .next) }
-
--- ---- the output keeps its length
-
-twice-put : (bs cs o : List ℕ) (p q : Place) → length (putAt cs (putAt bs o p) q) ≡ length o
-twice-put bs cs o p q = length-put cs (putAt bs o p) q ∙ length-put bs o p
-
-field-length : (f : Field) (lent : List ℕ) (v : Value) (o : List ℕ) (p : Place) → length (putField f lent v o p) ≡ length o
-unfolding putField
-field-length (num w) lent v o p = length-put (toLE w (numOf v)) o p
-field-length str lent v o p = twice-put (toLE 2 (lenOf v)) _ o p _
-field-length dat lent v o p = twice-put (toLE 4 (lenOf v)) _ o p _
-field-length strs lent v o p = twice-put (toLE 2 (countOf v)) _ o p _
-field-length quids lent v o p = twice-put (toLE 2 (countOf v)) _ o p _
-
-fields-length : (fs : Layout) (lent : List ℕ) (vs : List Value) (o : List ℕ) (p : Place) → length (putFields fs lent vs o p) ≡ length o
-unfolding putFields
-fields-length [] lent vs o p = refl
-fields-length (f ∷ fs) lent vs o p =
-    fields-length fs lent (othersOf vs) (putField f lent (firstOf vs) o p) (pastPutField f lent (firstOf vs) o p) ∙ field-length f lent (firstOf vs) o p
-
-pub put-length-all : {fs : Layout} {lent : List ℕ} {vs : List Value} {o o' : List ℕ} {p q : Place} → PutAll fs lent vs o p o' q → length o' ≡ length o
-put-length-all {fs} {lent} {vs} {o} {o'} {p} a = ap length (a .bytes) ∙ fields-length fs lent vs o p
 
 -- ---- put as in the definition
 
