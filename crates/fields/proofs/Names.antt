@@ -97,7 +97,7 @@ all-good {s} {x} {y} i l c e =
 
 -- ---- the ways out
 
--- what is left to scan at `at` comes to x
+-- scanning what is left from `at` on ends at x
 pub record Left (s : List ℕ) (at n : ℕ) (x : Place) : Type 0 where
   pub is : restAt (length s) (readMany n (drop at s)) ≡ x
 

@@ -22,7 +22,7 @@ unfoldable pub readHeader : List ℕ → Result Header
 readHeader s =
     after (readNum 4 s) (λ size r. cond (ltb size 4) (bad R.SizeBelowFour) (readTypeTag (take (size - 4) r)))
 
--- the refusal alone where the header can't be read (F4.4); else a tag beside what the body comes to (F4.5)
+-- the refusal alone where the header can't be read (F4.4); else a tag beside the body's answer (F4.5)
 pub data Frame : Type 0 where
   headless : Refusal → Frame
   framed : ℕ → Answer → Frame

@@ -1,4 +1,4 @@
--- An element of a vector stands where the definition says: what each way of asking comes to, over plain variables.
+-- An element of a vector stands where the definition says: what each way of asking answers, over plain variables.
 use Prim.Native.Nat.{ℕ, zero, suc, _+_, _-_, _*_, _≤_, _<_}
 use native.Mathlib.Omega.{arith}
 use mathlib.Core.Path.{_≡_, refl, sym, ap, ap₂, _∙_}

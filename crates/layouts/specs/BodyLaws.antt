@@ -20,7 +20,7 @@ use Rattle.layouts.specs.Bodies.{Answer, refused, finishAt, itemsAt, bod
 pub known-body : {l : Layout} {s : List ℕ} {p e : Place} {vs : List Value} (ty : ℕ) → Fields l s p vs e → finishAt ty vs e ≡ finishAt ty (valuesAt l s p) (pastFields l s p)
 known-body ty f = ap₂ (finishAt ty) (f .values) (f .next)
 
--- what the last arm of a match knows: that it is none of the numbers
+-- what the last arm of a match knows: that it is not one of the numbers
 abbrev pub Nots : Type 0 → List Row → ℕ → Type 0
 Nots N [] ty = N
 Nots N (row k l ∷ rs) ty = Nots (N × (ty ≡ k → ⊥)) rs ty

@@ -1,4 +1,4 @@
--- Which types a table knows, and which replies answer: what each way comes to.
+-- Which types a table knows, and which replies answer, for each way through the code.
 use Prim.Native.Nat.{ℕ, _+_}
 use native.Mathlib.Omega.{arith}
 use mathlib.Core.Path.{_≡_, refl, sym, _∙_}

@@ -3,7 +3,7 @@
 // A question is a letter, decimal numbers, a slash and bytes by their hexadecimal digits. A number that is left out is 0. The first is
 // a place in many of them, and `!K` there is a place that is refused by K already. Where a number is 1 or 0, it says yes or no. `*N K`
 // after the numbers makes N bytes of those given, the last K of them over and over. T and R, the seller's questions, have no numbers and
-// no slash. A line that is none of this is `malformed`.
+// no slash. Any other line is `malformed`.
 
 use numbers::Place;
 use numbers::Refusal;

@@ -1,4 +1,4 @@
--- What each way of asking at a position comes to, over plain variables.
+-- What each way of asking at a position answers, over plain variables.
 use Prim.Native.Nat.{ℕ, _-_, _%_}
 use native.Mathlib.Omega.{arith}
 use mathlib.Core.Path.{_≡_, sym, ap, _∙_}

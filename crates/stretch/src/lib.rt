@@ -10,7 +10,7 @@ ghost use mathlib.Core.Path.{_≡_};
 ghost use Prim.Native.Nat.{_-_};
 ghost use Rattle.stretch.specs.Views.{BodyOf, Leaves, viewBody, ListedAs, Asked};
 
-// What a frame's body comes to: that of a request if the type is even, else that of a reply.
+// A frame's body as it was read: that of a request if the type is even, else that of a reply.
 pub enum Body {
     Request(Tbody),
     Reply(Rbody),

@@ -18,7 +18,7 @@ const OPENED: [(u8, u16); 4] = [(101, 65_535), (105, 1), (111, 2), (13, 3)];
 
 const RWRITE: u8 = 119;
 
-/// What a stream comes to, with our frames in front or without.
+/// What a stream does, with our frames in front or without.
 #[derive(Debug, PartialEq, Eq)]
 struct Outcome {
     /// What the seller's server was given to read, in hex.
@@ -70,7 +70,7 @@ fn in_words(Outcome { served, tails, .. }: &Outcome) -> String {
     words
 }
 
-/// Whether it comes to what it must, and a line to say what it comes to.
+/// Whether it does what it must, and a line to say what it does.
 fn tell(who: &str, outcome: Outcome, must: Outcome) -> bool {
     println!("  {who:<17} {}", in_words(&outcome));
     if outcome != must {

@@ -182,7 +182,7 @@ fn write_anew(direction: Direction, bytes: &[u8], record: &[Value], draws: &mut 
     })
 }
 
-/// What comes to be written after so many bytes of an output, beside what the seller wrote: into
+/// What is written after so many bytes of an output, beside what the seller wrote: into
 /// outputs that are too short, by a byte and by more, into one that is just long enough, and into
 /// one with bytes to spare.
 pub fn in_rooms(

@@ -2,6 +2,7 @@
 
 use std::borrow::Cow;
 
+use ours::R_VALUES;
 use p9::draw::Draws;
 use p9::flat::Value;
 use p9::protocol::WireFormat;
@@ -84,9 +85,9 @@ pub fn lent(pieces: &[Piece], draws: &mut Draws) -> (Vec<u8>, Vec<usize>) {
     (lent, places)
 }
 
-/// Document 01's values in the layout's order, the spans at these places.
-pub fn values(pieces: &[Piece], places: &[usize]) -> [u64; 22] {
-    let mut values = Vec::with_capacity(22);
+/// The values in the layout's order (F3.2), the spans at these places.
+pub fn values(pieces: &[Piece], places: &[usize]) -> [u64; R_VALUES] {
+    let mut values = Vec::with_capacity(R_VALUES);
     for (piece, place) in pieces.iter().zip(places) {
         match piece {
             Piece::Number(number, _) => values.push(*number),
@@ -98,8 +99,8 @@ pub fn values(pieces: &[Piece], places: &[usize]) -> [u64; 22] {
             }
         }
     }
-    values.resize(22, 0);
-    values.try_into().expect("no record has more than 22")
+    values.resize(R_VALUES, 0);
+    values.try_into().expect("no record has more values")
 }
 
 /// Whether the bytes at these places are what the spans show.

@@ -1,7 +1,7 @@
 //! Flat records of any values, written: what no typed caller could hand over, too.
 //!
 //! Which values a record has is taken from the seller's own record of the type. What has to come of
-//! them is put together here as document 01 says it, since the seller's records have no spans.
+//! them is put together here by the rules of docs/FORMAT.md, since the seller's records have no spans.
 
 use judge::Direction;
 use ours::{Flat, R_VALUES};

@@ -1,4 +1,4 @@
-//! The rows of docs/DIFFERENCES.md that no frame of a drawn record comes to, by their numbers there.
+//! The rows of docs/DIFFERENCES.md that no frame of a drawn record reaches, by their numbers there.
 //!
 //! Of 3, 4 and 5 only ours is run: the seller's crate writes 4 GB for each, which `compare/oracle
 //! wrap` has it do. Ours refuses 4 and 5 before it looks at the data, so that no memory is filled.

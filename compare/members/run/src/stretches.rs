@@ -38,7 +38,7 @@ pub fn stretch(bytes: &[u8], draws: &mut Draws) -> Outcome {
     }
 }
 
-/// What is at a position, and what a frame there comes to in its direction.
+/// What is at a position, and what the reader of its direction says of a frame there.
 type Step = (Told, Option<Flat>);
 
 fn beside(bytes: &[u8], position: usize, theirs: &Step) -> Option<Outcome> {
@@ -55,7 +55,7 @@ fn way(ty: u8) -> Direction {
     }
 }
 
-/// Whether the next number, another one and another tag answer it, as document 01 says.
+/// Whether the next number, another one and another tag answer it, by F7.1.
 fn pairs(ty: u8, tag: u16) -> Option<Outcome> {
     let known = !unknown(Direction::T).contains(&ty);
     let replies = [

@@ -129,7 +129,7 @@ pub fn qid(theirs: &Qid) -> ours::Qid {
     }
 }
 
-/// A number that is none of the paper's equals none of ours.
+/// A number that the paper does not have equals none of ours.
 pub fn refusal(error: &io::Error) -> u8 {
     number(error).unwrap_or(u8::MAX)
 }

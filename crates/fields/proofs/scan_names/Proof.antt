@@ -1,4 +1,4 @@
--- The outer invariant: what is left to scan comes to what was asked. The inner one: what is left of the text is what all of it is.
+-- The outer invariant: scanning what is left answers what was asked. The inner one: what is left of the text is what all of it is.
 use Prim.Native.Nat.{_≤_, _<_, _-_, _+_}
 use mathlib.Core.Path.{_≡_, refl, sym, _∙_}
 use native.Mathlib.Omega.{arith}
