@@ -154,7 +154,7 @@ pub struct Mark {
 }
 
 /// Whether a reply answers a request: the tags are equal, the request's type is known, and the
-/// reply's is that number plus one. An Rlerror answers none by this rule, which is the paper's.
+/// reply's is that number plus one. An Rlerror answers none by this rule.
 ///
 /// ```
 /// use sheafsledge::{answers, Mark};

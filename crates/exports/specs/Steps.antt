@@ -1,4 +1,4 @@
--- A stretch asked at a position, as Rust has the answer: "one frame and the next position, or the end where exactly nothing is left, or a refusal".
+-- A stretch asked at a position, as Rust has the answer (F6.2).
 use Prim.Native.Nat.{ℕ, _-_}
 use native.Mathlib.Omega.{arith}
 use mathlib.Core.Path.{_≡_, refl, sym, ap, ap₂, _∙_}
@@ -27,7 +27,7 @@ module _ {s : List ℕ} {p ty tag e : ℕ} (w : WholeAt s p ty tag e) where
   abbrev said : Answer
   said = answerIn (readFrame (tableFor tableT tableR ty) (between p e s))
 
-  -- "exactly size bytes go to the T reader if the type is even, else to the R reader; type, tag and answer are listed; tail is size minus bytes used"
+  -- what is listed of a frame (F6.3 to F6.5)
   pub listed-there : frame p (e - p) ty tag said (tailIn (e - p) said) e ≡ frameAt tableT tableR s p
   unfolding answerOf
   listed-there =

@@ -17,7 +17,7 @@ use Rattle.exports.specs.declared.Outcome.{Outcome}
 abbrev pub twalkOf : ℕ → ℕ → List ℕ → List (List ℕ) → Result (List Item)
 twalkOf fid newfid lent t = fromTable (length t) (shows (walkFields t) lent (walkValues fid newfid (length t) t))
 
--- Rwalk: "vector of q"
+-- an Rwalk is a vector of qids (F3.2)
 abbrev pub rwalkOf : List Qid → Result (List Item)
 rwalkOf t = fromTable (length t) (ok (number 2 (length t) ∷ qidItems t) [])
 
