@@ -14,8 +14,9 @@ pub const SPAN_VALUES: usize = 2;
 
 /// What the library answers for all that it reads or writes: 0 and the place after it, or the
 /// refusal. Of a frame there is a tag too, and a type where it is accepted or stands at a position;
-/// `held` says that there is one. Values go into the caller's room: where a frame is refused they
-/// are 0, where anything else is, they are as they were.
+/// `held` says that there is one. Values go to the front of the caller's room, as many as what is
+/// read has; after them, and where it is refused, the room is as it was. A position of a stretch
+/// that is refused stands in `place`; no other refusal has a place.
 #[repr(C)]
 #[derive(Clone, Copy, Debug, Default, PartialEq, Eq)]
 pub struct Outcome {

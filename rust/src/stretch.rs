@@ -95,6 +95,7 @@ impl<'a> Iterator for Stretch<'a> {
         let at = self.position.take()?;
         let step = ffi::frame_at(self.bytes, at);
         if let Some(refusal) = Refusal::of(step.refusal) {
+            let at = step.place;
             return Some(Err(Stop { at, refusal }));
         }
         if !step.held {

@@ -27,6 +27,9 @@ use boundary::Outcome;
 const QUESTIONS: &str = include_str!("cases/questions");
 const ANSWERS: &str = include_str!("cases/answers");
 
+/// What lent values hold before, so that one that is not written is seen.
+const BEFORE: u64 = 238;
+
 /// As many bytes, and as much room, as a question may want.
 const MOST: u64 = 170_000;
 

@@ -1,18 +1,18 @@
 -- What crosses to Rust for all that is read or written: one outcome, and the room that was lent, which a reader fills and a writer writes into.
 use Prim.Native.Nat.{ℕ}
-use mathlib.Core.Path.{_≡_, refl, ap, ap₂, _∙_}
+use mathlib.Core.Path.{_≡_, ap, _∙_}
 use mathlib.Core.Bool.{Bool, false}
 use mathlib.Core.List.{List}
+use mathlib.Core.Option.{some}
 use Rattle.numbers.specs.PlaceLaws.{one-answer}
 use Rattle.numbers.specs.Refusals.{numberOf}
-use Rattle.numbers.specs.declared.Refusal.{Refusal}
 use Rattle.numbers.specs.declared.Place.{Place}
 use Rattle.numbers.specs.declared.Place.the-variants.{At, Refused}
 use Rattle.fields.specs.Layouts.{Layout}
 use Rattle.fields.specs.Values.{Value, shows}
-use Rattle.fields.specs.Fields.{Fields, valuesAt, pastFields}
+use Rattle.fields.specs.Fields.{valuesAt, pastFields}
 use Rattle.laying.specs.Laying.{writtenOut, writtenPast, Written}
-use Rattle.flat.specs.Flat.{flat, fieldValues}
+use Rattle.flat.specs.Flat.{laid, fieldValues, FlatRead}
 use Rattle.exports.specs.declared.Outcome.{Outcome}
 
 -- F4.7: a refusal is told by its number, and no bytes count as used. The tag stands beside it where a request's header was read
@@ -48,21 +48,9 @@ fields-written v w e = let x = rw v at w in record { is = wrote (x .bytes) (x .n
 
 -- ---- reading
 
--- what the room holds: what was read; refused, what it held before
-abbrev pub filled : Place → List ℕ → List ℕ → List ℕ
-filled (At e) ns before = ns
-filled (Refused k) ns before = before
+-- the values of a layout's fields, flat at the front of the lent ones; refused, these are as they were
+pub record FieldsRead (l : Layout) (s : List ℕ) (p : Place) (before after : List ℕ) (r : Outcome) : Type 0 where
+  pub is : Answered (ended (pastFields l s p)) (laid (pastFields l s p) (valuesAt l s p) before) after r
 
--- the values of a layout's fields, flat in n places
-pub record FieldsRead (n : ℕ) (l : Layout) (s : List ℕ) (p : Place) (before after : List ℕ) (r : Outcome) : Type 0 where
-  pub is : Answered (ended (pastFields l s p)) (filled (pastFields l s p) (flat n (valuesAt l s p)) before) after r
-
-module _ {n : ℕ} {l : Layout} {s before after : List ℕ} {p e : Place} {vs : List Value} {r : Outcome} (f : Fields l s p vs e) (x : r ≡ ended e) where
-  told : after ≡ filled e (flat n vs) before → FieldsRead n l s p before after r
-  told g = record { is = record { answer = x ∙ ap ended (f .next); left = g ∙ ap₂ (λ e (vs : List Value). filled e (flat n vs) before) (f .next) (f .values) } }
-
-  pub fields-read : {a : ℕ} → e ≡ At a → after ≡ flat n vs → FieldsRead n l s p before after r
-  fields-read h g = told (rw h g)
-
-  pub fields-refused : {k : Refusal} → e ≡ Refused k → after ≡ before → FieldsRead n l s p before after r
-  fields-refused h g = told (rw h g)
+pub fields-read : {l : Layout} {s before after : List ℕ} {p q : Place} {r : Outcome} → FlatRead (some l) s p before after q → r ≡ ended q → FieldsRead l s p before after r
+fields-read f e = record { is = record { answer = e ∙ ap ended (f .next); left = f .values } }

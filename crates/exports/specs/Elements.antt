@@ -24,8 +24,8 @@ use Rattle.strings.specs.declared.Span.{Span}
 use Rattle.laying.specs.Elements.{elementIn, askedFor, elementAt, viewElement}
 use Rattle.laying.specs.declared.elements.Element.{Element}
 use Rattle.laying.specs.declared.elements.Element.the-variants as E
-use Rattle.flat.specs.Flat.{flat}
-use Rattle.exports.specs.Answers.{ended, Answered, filled}
+use Rattle.flat.specs.Flat.{stored, laid}
+use Rattle.exports.specs.Answers.{ended, Answered}
 use Rattle.exports.specs.declared.Outcome.{Outcome}
 
 abbrev endOf : Value → ℕ
@@ -35,13 +35,13 @@ abbrev pub pastElement : Result Value → Place
 pastElement (ok v r) = At (endOf v)
 pastElement (bad k) = Refused k
 
-abbrev spanIn : Result Value → List ℕ
-spanIn (ok v r) = flat 2 (v ∷ [])
-spanIn (bad k) = []
+abbrev foundIn : Result Value → List Value
+foundIn (ok v r) = v ∷ []
+foundIn (bad k) = []
 
 -- F4.18; refused, the two numbers are as they were
 pub record Spanned (e : Result Value) (before after : List ℕ) (r : Outcome) : Type 0 where
-  pub is : Answered (ended (pastElement e)) (filled (pastElement e) (spanIn e) before) after r
+  pub is : Answered (ended (pastElement e)) (laid (pastElement e) (foundIn e) before) after r
 
 -- ---- its end is a number of eight bytes, as it lies within the lent bytes
 
@@ -125,7 +125,7 @@ module _ (e : Element) where
   unfolding viewElement
   ends-at h n = rw h at n
 
-  pub spanned-found : {before after : List ℕ} {s : Span} {r : Outcome} → e ≡ E.Found s → after ≡ s .start ∷ s .len ∷ [] → r ≡ ended (At (s .start + s .len)) → Spanned (viewElement e) before after r
+  pub spanned-found : {before after : List ℕ} {s : Span} {r : Outcome} → e ≡ E.Found s → after ≡ stored before 0 (s .start ∷ s .len ∷ []) → r ≡ ended (At (s .start + s .len)) → Spanned (viewElement e) before after r
   unfolding viewElement
   spanned-found h a x = rw h (record { is = record { answer = x; left = a } })
 

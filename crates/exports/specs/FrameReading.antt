@@ -3,7 +3,7 @@ use Prim.Native.Nat.{ℕ}
 use native.Mathlib.Omega.{arith}
 use mathlib.Core.Path.{_≡_, refl, sym, ap, _∙_}
 use mathlib.Core.Bool.{true}
-use mathlib.Core.List.{List, []}
+use mathlib.Core.List.{List}
 use mathlib.Core.Option.{Option, none, some}
 use lib.ListN.{take}
 use Rattle.numbers.specs.Numbers.{Bytes}
@@ -21,80 +21,92 @@ use Rattle.framing.specs.Headers.{HeadIs}
 use Rattle.framing.specs.HeaderLaws.{head-yes, frame-is, frame-headless}
 use Rattle.framing.specs.declared.Head.{Head}
 use Rattle.framing.specs.declared.Head.the-variants as H
-use Rattle.flat.specs.Flat.{flat, widthT, widthR, rowValues, FlatRead}
+use Rattle.flat.specs.Flat.{laid, rowValues, FlatRead}
 use Rattle.exports.specs.Answers.{outcomeOf, ended}
 use Rattle.exports.specs.declared.Outcome.{Outcome}
-use Rattle.exports.specs.Frames.{frameOutcome, valuesIn, FrameRead}
+use Rattle.exports.specs.Frames.{frameOutcome, frameLaid, FrameRead}
 
 -- ---- a direction
 
--- its rows, how many values it has room for, what a frame becomes whose body fails, and how that is told by the place after the body
+-- its rows, what a frame becomes whose body fails, and how that is told
 pub record FlatDirection : Type 0 where
   pub rows : List Row
-  pub width : ℕ
   pub whole : Frame → Frame
-  pub fails : ℕ → Place → Outcome
+  pub fails : ℕ → Refusal → Outcome
   pub none : (k : Refusal) → whole (headless k) ≡ headless k
   pub good : (tag ty e : ℕ) (vs : List Value) → whole (framed tag (accepted ty vs e)) ≡ framed tag (accepted ty vs e)
-  pub told : (tag : ℕ) (k : Refusal) → fails tag (Refused k) ≡ frameOutcome (whole (framed tag (refused k)))
-  pub bare : (tag : ℕ) (k : Refusal) → [] ≡ valuesIn (whole (framed tag (refused k)))
+  pub told : (tag : ℕ) (k : Refusal) → fails tag k ≡ frameOutcome (whole (framed tag (refused k)))
+  pub bare : (tag : ℕ) (k : Refusal) (ns : List ℕ) → ns ≡ frameLaid (whole (framed tag (refused k))) ns
 
-abbrev pub requests : FlatDirection
-requests =
+abbrev pub flatRequests : FlatDirection
+flatRequests =
     record {
       rows = tableT;
-      width = widthT;
       whole = λ f. f;
-      fails = λ tag q. outcomeOf 0 tag true q;
+      fails = λ tag k. outcomeOf 0 tag true (Refused k);
       none = λ k. refl;
       good = λ tag ty e vs. refl;
       told = λ tag k. refl;
-      bare = λ tag k. refl;
+      bare = λ tag k ns. refl;
     }
 
-abbrev pub replies : FlatDirection
-replies =
+abbrev pub flatReplies : FlatDirection
+flatReplies =
     record {
       rows = tableR;
-      width = widthR;
       whole = refusedWhole;
-      fails = λ tag q. ended q;
+      fails = λ tag k. ended (Refused k);
       none = λ k. refl;
       good = λ tag ty e vs. refl;
       told = λ tag k. refl;
-      bare = λ tag k. refl;
+      bare = λ tag k ns. refl;
     }
 
 -- ---- a body
 
-module _ (ty : ℕ) {n : ℕ} {s ns : List ℕ} {p q : Place} where
-  body-accepted : {e : ℕ} (l : Option Layout) → FlatRead n l s p ns q → q ≡ At e → accepted ty (rowValues l s p) e ≡ bodyAt l ty s p
+module _ (ty : ℕ) {s ns ms : List ℕ} {p q : Place} where
+  body-accepted : {e : ℕ} (l : Option Layout) → FlatRead l s p ns ms q → q ≡ At e → accepted ty (rowValues l s p) e ≡ bodyAt l ty s p
   body-accepted none f h = absurd (let g = sym h ∙ f .next in let z : _≡_ {A = ℕ} 0 1 = cc g in omega arith)
   body-accepted (some l) f h = ap (finishAt ty (valuesAt l s p)) (sym h ∙ f .next)
 
-  body-refused : {k : Refusal} (l : Option Layout) → FlatRead n l s p ns q → q ≡ Refused k → refused k ≡ bodyAt l ty s p
+  body-refused : {k : Refusal} (l : Option Layout) → FlatRead l s p ns ms q → q ≡ Refused k → refused k ≡ bodyAt l ty s p
   body-refused {k} none f h = let g = sym h ∙ f .next in let j : k ≡ R.UnknownType = cc g in ap refused j
   body-refused (some l) f h = ap (finishAt ty (valuesAt l s p)) (sym h ∙ f .next)
 
+-- by the place that is answered
+values-left : {s ns ms : List ℕ} {p q : Place} (l : Option Layout) → FlatRead l s p ns ms q → ms ≡ laid q (rowValues l s p) ns
+values-left {s} {ns} {ms} {p} {q} l f = f .values ∙ ap (λ e. laid e (rowValues l s p) ns) (sym (f .next))
+
 -- ---- a frame, of any direction
 
-module _ (d : FlatDirection) (s : List ℕ) where
-  read-as : {f g : Frame} {ns : List ℕ} {r : Outcome} → d .whole f ≡ g → f ≡ readFrame (d .rows) s → r ≡ frameOutcome g → ns ≡ flat (d .width) (valuesIn g)
-      → FrameRead (d .width) (d .whole (readFrame (d .rows) s)) ns r
+module _ (d : FlatDirection) (s : List ℕ) {ns ms : List ℕ} {r : Outcome} where
+  read-as : {f g : Frame} → d .whole f ≡ g → f ≡ readFrame (d .rows) s → r ≡ frameOutcome g → ms ≡ frameLaid g ns → FrameRead (d .whole (readFrame (d .rows) s)) ns ms r
   read-as w e a v = let h = sym (ap (d .whole) e) ∙ w in rw h (record { is = record { answer = a; left = v } })
 
   module _ {g : Head} (h : HeadIs s g) where
-    pub headless-read : {k : Refusal} {ns : List ℕ} {r : Outcome} → g ≡ H.Refused k → r ≡ ended (Refused k) → ns ≡ flat (d .width) []
-        → FrameRead (d .width) (d .whole (readFrame (d .rows) s)) ns r
+    pub headless-read : {k : Refusal} → g ≡ H.Refused k → r ≡ ended (Refused k) → ms ≡ ns → FrameRead (d .whole (readFrame (d .rows) s)) ns ms r
     unfolding HeadIs
     headless-read {k} e = read-as (d .none k) (frame-headless s (d .rows) (rw e at h))
 
-    module _ {n ty tag : ℕ} {ns : List ℕ} {q : Place} (b : Bytes s) (e : g ≡ H.Held n ty tag) (f : FlatRead (d .width) (lookup (d .rows) ty) (take n s) (At 7) ns q) where
-      pub frame-read : {a : ℕ} {r : Outcome} → q ≡ At a → r ≡ outcomeOf ty tag true q → FrameRead (d .width) (d .whole (readFrame (d .rows) s)) ns r
+    module _ {n ty tag : ℕ} {q : Place} (b : Bytes s) (e : g ≡ H.Held n ty tag) (f : FlatRead (lookup (d .rows) ty) (take n s) (At 7) ns ms q) where
+      pub frame-read : {a : ℕ} → q ≡ At a → r ≡ outcomeOf ty tag true q → FrameRead (d .whole (readFrame (d .rows) s)) ns ms r
       frame-read {a} i x =
-          let vs : List Value = rowValues (lookup (d .rows) ty) (take n s) (At 7) in
-          read-as (d .good tag ty a vs) (ap (framed tag) (body-accepted ty (lookup (d .rows) ty) f i) ∙ frame-is (d .rows) b (head-yes s h e)) (x ∙ ap (outcomeOf ty tag true) i) (f .values)
+          let its : Option Layout = lookup (d .rows) ty in
+          let vs : List Value = rowValues its (take n s) (At 7) in
+          read-as (d .good tag ty a vs) (ap (framed tag) (body-accepted ty its f i) ∙ frame-is (d .rows) b (head-yes s h e)) (x ∙ ap (outcomeOf ty tag true) i) (values-left its f ∙ ap (λ z. laid z vs ns) i)
 
-      pub body-failed : {k : Refusal} {zs : List ℕ} {r : Outcome} → q ≡ Refused k → r ≡ d .fails tag q → zs ≡ flat (d .width) [] → FrameRead (d .width) (d .whole (readFrame (d .rows) s)) zs r
-      body-failed {k} i x z =
-          read-as refl (ap (framed tag) (body-refused ty (lookup (d .rows) ty) f i) ∙ frame-is (d .rows) b (head-yes s h e)) (x ∙ ap (d .fails tag) i ∙ d .told tag k) (z ∙ ap (flat (d .width)) (d .bare tag k))
+      pub body-failed : {k : Refusal} → q ≡ Refused k → r ≡ d .fails tag k → FrameRead (d .whole (readFrame (d .rows) s)) ns ms r
+      body-failed {k} i x =
+          let its : Option Layout = lookup (d .rows) ty in
+          let vs : List Value = rowValues its (take n s) (At 7) in
+          read-as refl (ap (framed tag) (body-refused ty its f i) ∙ frame-is (d .rows) b (head-yes s h e)) (x ∙ d .told tag k) (values-left its f ∙ ap (λ z. laid z vs ns) i ∙ d .bare tag k ns)
+
+-- a request is told in one way, whether its body fails or not
+by-place : {X : Type 0} (q : Place) → ((a : ℕ) → q ≡ At a → X) → ((k : Refusal) → q ≡ Refused k → X) → X
+by-place (At a) f g = f a refl
+by-place (Refused k) f g = g k refl
+
+pub request-read : (s : List ℕ) {n ty tag : ℕ} {ns ms : List ℕ} {g : Head} {q : Place} {r : Outcome} → HeadIs s g → Bytes s → g ≡ H.Held n ty tag → FlatRead (lookup tableT ty) (take n s) (At 7) ns ms q → r ≡ outcomeOf ty tag true q
+    → FrameRead (readFrame tableT s) ns ms r
+request-read s {ty = ty} {tag = tag} {q = q} h b e f x =
+    by-place q (λ a i. frame-read flatRequests s h b e f i x) (λ k i. body-failed flatRequests s h b e f i (x ∙ ap (outcomeOf ty tag true) i))

@@ -1,18 +1,17 @@
 -- What crosses to Rust for a frame: its outcome, its values in the room that is lent for them, and what writing one from such values leaves.
 use Prim.Native.Nat.{ℕ}
 use mathlib.Core.Bool.{true, cond}
-use mathlib.Core.List.{List, []}
+use mathlib.Core.List.{List}
 use lib.Dec.{eqb}
 use Rattle.numbers.specs.Reading.{Result, bad}
 use Rattle.numbers.specs.declared.Refusal.the-variants as R
 use Rattle.numbers.specs.declared.Place.the-variants.{At, Refused}
 use Rattle.fields.specs.Layouts.{Item}
-use Rattle.fields.specs.Values.{Value}
 use Rattle.layouts.specs.Tables.{Row, lookup}
 use Rattle.layouts.specs.Bodies.{Answer, accepted, refused}
 use Rattle.framing.specs.Frames.{Frame, headless, framed}
 use Rattle.framing.specs.Writing.{frameOut, framePast}
-use Rattle.flat.specs.Flat.{flat, showsFrom}
+use Rattle.flat.specs.Flat.{flatValues, stored, showsFrom}
 use Rattle.exports.specs.Answers.{outcomeOf, ended, Answered}
 use Rattle.exports.specs.declared.Outcome.{Outcome}
 
@@ -27,18 +26,17 @@ abbrev pub frameOutcome : Frame → Outcome
 frameOutcome (headless k) = ended (Refused k)
 frameOutcome (framed tag a) = bodyOutcome tag a
 
--- the values of an accepted body; a refused frame has none
-abbrev pub valuesOf : Answer → List Value
-valuesOf (accepted ty vs n) = vs
-valuesOf (refused k) = []
+-- what the lent values are afterwards: those of an accepted body at their front; refused, as they were
+abbrev pub answerLaid : Answer → List ℕ → List ℕ
+answerLaid (accepted ty vs n) before = stored before 0 (flatValues vs)
+answerLaid (refused k) before = before
 
-abbrev pub valuesIn : Frame → List Value
-valuesIn (headless k) = []
-valuesIn (framed tag a) = valuesOf a
+abbrev pub frameLaid : Frame → List ℕ → List ℕ
+frameLaid (headless k) before = before
+frameLaid (framed tag a) before = answerLaid a before
 
--- refused, all n values are 0
-pub record FrameRead (n : ℕ) (f : Frame) (ns : List ℕ) (r : Outcome) : Type 0 where
-  pub is : Answered (frameOutcome f) (flat n (valuesIn f)) ns r
+pub record FrameRead (f : Frame) (before after : List ℕ) (r : Outcome) : Type 0 where
+  pub is : Answered (frameOutcome f) (frameLaid f before) after r
 
 -- ---- writing
 

@@ -2,9 +2,11 @@
 use Prim.Native.Nat.{ℕ, _-_}
 use native.Mathlib.Omega.{arith}
 use mathlib.Core.Path.{_≡_, refl, sym, ap, ap₂, _∙_}
-use mathlib.Core.Bool.{true}
+use mathlib.Core.Bool.{true, false}
 use mathlib.Core.List.{List}
-use Rattle.numbers.specs.declared.Place.the-variants.{At, Refused}
+use Rattle.numbers.specs.Refusals.{numberOf}
+use Rattle.numbers.specs.declared.Refusal.{Refusal}
+use Rattle.numbers.specs.declared.Place.the-variants.{At}
 use Rattle.layouts.specs.Tables.{tableT, tableR}
 use Rattle.layouts.specs.Bodies.{Answer}
 use Rattle.framing.specs.Frames.{readFrame}
@@ -14,11 +16,15 @@ use Rattle.framing.specs.CutLaws.{length-whole, frame-same}
 use Rattle.exports.specs.Answers.{outcomeOf, ended}
 use Rattle.exports.specs.declared.Outcome.{Outcome}
 
+-- a refusal of a stretch stands beside the position (F6.2)
+abbrev pub stopped : Refusal → ℕ → Outcome
+stopped k at = record { refusal = numberOf k; ty = 0; tag = 0; held = false; place = at }
+
 -- a frame is told by its type, its tag and the place after it; the end by its own place, and no frame
 abbrev pub stepOutcome : Step → Outcome
 stepOutcome (frame at size ty tag a tail next) = outcomeOf ty tag true (At next)
 stepOutcome (end at) = ended (At at)
-stepOutcome (stop k at) = ended (Refused k)
+stepOutcome (stop k at) = stopped k at
 
 -- ---- a whole frame
 

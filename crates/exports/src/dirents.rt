@@ -13,23 +13,21 @@ ghost use mathlib.Core.Path.{_≡_};
 ghost use Rattle.numbers.specs.declared.Place.the-variants.{At};
 ghost use Rattle.layouts.specs.Tables.{layoutDirent};
 ghost use Rattle.layouts.specs.Records.{dirent};
-ghost use Rattle.flat.specs.Flat.{flat, fieldValues};
+ghost use Rattle.flat.specs.Flat.{flatValues, stored, fieldValues};
 ghost use Rattle.exports.specs.Answers.{FieldsRead, FieldsWritten};
 
-fn flat_dirent(d: Dirent) -> [u64; 7]
-    ensures { λ r. ⌜ r ≡ flat 7 (dirent d) ⌝ }
+fn flat_dirent(d: Dirent, values: &mut [u64; 7])
+    ensures { λ _. ⌜ now (values .exit) ≡ stored (now (values .entry)) 0 (flatValues (dirent d)) ⌝ }
 {
     let qid = d.qid;
     let name = d.name;
-    [
-        qid.ty as u64,
-        qid.version as u64,
-        qid.path,
-        d.offset,
-        d.ty as u64,
-        name.start as u64,
-        name.len as u64,
-    ]
+    values[0] = qid.ty as u64;
+    values[1] = qid.version as u64;
+    values[2] = qid.path;
+    values[3] = d.offset;
+    values[4] = d.ty as u64;
+    values[5] = name.start as u64;
+    values[6] = name.len as u64;
 }
 
 fn dirent_of(v: [u64; 7]) -> Dirent
@@ -55,14 +53,14 @@ fn dirent_of(v: [u64; 7]) -> Dirent
 // Refused, the values are as they were.
 #[no_mangle]
 pub extern "C" fn sheafsledge_read_dirent(bytes: &[u8], at: usize, values: &mut [u64; 7]) -> Outcome
-    ensures { λ r. ⌜ FieldsRead 7 layoutDirent (now (bytes .entry)) (At at) (now (values .entry)) (now (values .exit)) r ⌝ }
+    ensures { λ r. ⌜ FieldsRead layoutDirent (now (bytes .entry)) (At at) (now (values .entry)) (now (values .exit)) r ⌝ }
 {
     let r = dirents::read_dirent(bytes, Place::At(at));
     let next = r.next;
     let Place::At(_) = next else {
         return crate::ended(next);
     };
-    *values = flat_dirent(r.value);
+    flat_dirent(r.value, values);
     crate::ended(next)
 }
 

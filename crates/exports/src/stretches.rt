@@ -4,12 +4,13 @@ use crate::Outcome;
 use framing::Cut;
 use layouts::ids::Tag;
 use numbers::Place;
+use numbers::Refusal;
 use pairs::Mark;
 ghost use mathlib.Core.Path.{_≡_};
 ghost use Rattle.layouts.specs.Tables.{tableT, tableR};
 ghost use Rattle.framing.specs.Stretch.{frameAt};
 ghost use Rattle.pairs.specs.Pairs.{pairs};
-ghost use Rattle.exports.specs.Steps.{stepOutcome};
+ghost use Rattle.exports.specs.Steps.{stopped, stepOutcome};
 
 // The frame is the bytes from the position to the place; at the end, where there is none, the place is the position. What is in it, the
 // reader of its direction says of exactly these bytes (`listed-there`): with one caller each, the readers of the bodies stand in the two
@@ -22,7 +23,21 @@ pub extern "C" fn sheafsledge_frame_at(bytes: &[u8], position: usize) -> Outcome
     match cut {
         Cut::Whole(ty, tag, next) => crate::outcome_of(ty, tag, true, Place::At(next)),
         Cut::End => crate::ended(Place::At(position)),
-        Cut::Refused(k) => crate::ended(Place::Refused(k)),
+        Cut::Refused(k) => stopped(k, position),
+    }
+}
+
+// A stretch that cannot be read on, and where.
+fn stopped(k: Refusal, position: usize) -> Outcome
+    ensures { λ r. ⌜ r ≡ stopped k position ⌝ }
+{
+    let refusal = numbers::number(k);
+    Outcome {
+        refusal,
+        ty: 0,
+        tag: 0,
+        held: false,
+        place: position,
     }
 }
 

@@ -15,7 +15,7 @@ ghost use Rattle.fields.specs.Layouts.{q, strs, quids};
 ghost use Rattle.fields.specs.Values.{part};
 ghost use Rattle.laying.specs.Elements.{elementAt, viewElement};
 ghost use Rattle.layouts.specs.Records.{qid};
-ghost use Rattle.flat.specs.Flat.{flat};
+ghost use Rattle.flat.specs.Flat.{flatValues, stored};
 ghost use Rattle.exports.specs.Answers.{FieldsRead};
 ghost use Rattle.exports.specs.Elements.{Ends, Spanned};
 ghost use Rattle.exports.specs.Walks.{twalkOf, rwalkOf, TableWrote};
@@ -27,7 +27,8 @@ fn spanned(e: Element, span: &mut [u64; 2]) -> Outcome
 {
     match e {
         Element::Found(s) => {
-            *span = [s.start as u64, s.len as u64];
+            span[0] = s.start as u64;
+            span[1] = s.len as u64;
             crate::ended(Place::At(s.start + s.len))
         }
         Element::Refused(k) => crate::ended(Place::Refused(k)),
@@ -68,23 +69,25 @@ pub extern "C" fn sheafsledge_qid_at(
     spanned(laying::elements::qid_at(lent, v, i), span)
 }
 
-fn flat_qid(v: Qid) -> [u64; 3]
-    ensures { λ r. ⌜ r ≡ flat 3 (qid v) ⌝ }
+fn flat_qid(v: Qid, values: &mut [u64; 3])
+    ensures { λ _. ⌜ now (values .exit) ≡ stored (now (values .entry)) 0 (flatValues (qid v)) ⌝ }
 {
-    [v.ty as u64, v.version as u64, v.path]
+    values[0] = v.ty as u64;
+    values[1] = v.version as u64;
+    values[2] = v.path;
 }
 
 // Refused, the values are as they were.
 #[no_mangle]
 pub extern "C" fn sheafsledge_read_qid(bytes: &[u8], at: usize, values: &mut [u64; 3]) -> Outcome
-    ensures { λ r. ⌜ FieldsRead 3 q (now (bytes .entry)) (At at) (now (values .entry)) (now (values .exit)) r ⌝ }
+    ensures { λ r. ⌜ FieldsRead q (now (bytes .entry)) (At at) (now (values .entry)) (now (values .exit)) r ⌝ }
 {
     let r = qids::read_qid(bytes, Place::At(at));
     let next = r.next;
     let Place::At(_) = next else {
         return crate::ended(next);
     };
-    *values = flat_qid(r.value);
+    flat_qid(r.value, values);
     crate::ended(next)
 }
 

@@ -1,11 +1,11 @@
 -- A record's values one after the other, and a layout's values taken from such a run of numbers.
-use Prim.Native.Nat.{ℕ, zero, suc, _+_, _^_, _%_, max}
+use Prim.Native.Nat.{ℕ, suc, _+_, _^_, _%_, max}
 use mathlib.Core.Path.{_≡_}
 use mathlib.Core.Bool.{cond}
 use mathlib.Core.List.{List, [], _∷_, _++_}
 use mathlib.Core.Option.{Option, none, some}
-use lib.ListN.{getD}
-use lib.Dec.{ltb}
+use lib.ListN.{length, getD, set}
+use lib.Dec.{leb, ltb}
 use Rattle.fields.specs.Layouts.{num, str, dat, strs, quids, Layout, Item}
 use Rattle.fields.specs.Values.{Value, val, span, part, shows}
 use Rattle.fields.specs.Fields.{valuesAt, pastFields}
@@ -14,7 +14,7 @@ use Rattle.layouts.specs.Tables.{Row, row}
 use Rattle.numbers.specs.Reading.{Result, bad}
 use Rattle.numbers.specs.declared.Refusal.the-variants as R
 use Rattle.numbers.specs.declared.Place.{Place}
-use Rattle.numbers.specs.declared.Place.the-variants.{Refused}
+use Rattle.numbers.specs.declared.Place.the-variants.{At, Refused}
 
 -- ---- out of the values
 
@@ -27,14 +27,15 @@ abbrev pub flatValues : List Value → List ℕ
 flatValues [] = []
 flatValues (v ∷ vs) = numbersOf v ++ flatValues vs
 
--- the first n, with 0 after them as far as there are fewer
-abbrev pub padded : ℕ → List ℕ → List ℕ
-padded zero ns = []
-padded (suc n) [] = 0 ∷ padded n []
-padded (suc n) (x ∷ ns) = x ∷ padded n ns
+-- numbers over the lent ones, from the i-th on
+abbrev pub stored : List ℕ → ℕ → List ℕ → List ℕ
+stored ns i [] = ns
+stored ns i (x ∷ xs) = stored (set ns i x) (suc i) xs
 
-abbrev pub flat : ℕ → List Value → List ℕ
-flat n vs = padded n (flatValues vs)
+-- what the lent numbers are once values were read: at the front those of the values, after them as they were; refused, all are as they were
+abbrev pub laid : Place → List Value → List ℕ → List ℕ
+laid (At e) vs ns = stored ns 0 (flatValues vs)
+laid (Refused k) vs ns = ns
 
 -- ---- and back
 
@@ -54,7 +55,7 @@ valuesFrom i (quids ∷ fs) ns = part (low 2 (getD ns i 0)) (getD ns (i + 1) 0) 
 abbrev pub fieldValues : Layout → List ℕ → List Value
 fieldValues l ns = valuesFrom 0 l ns
 
--- ---- a body read flat: the values of the type's row in n places, as far as they could be read, and the place after its fields
+-- ---- a body read flat, by the layout of the type's row: 3 where it has none
 
 abbrev pub rowValues : Option Layout → List ℕ → Place → List Value
 rowValues none s p = []
@@ -64,9 +65,19 @@ abbrev pub rowPast : Option Layout → List ℕ → Place → Place
 rowPast none s p = Refused R.UnknownType
 rowPast (some l) s p = pastFields l s p
 
-pub record FlatRead (n : ℕ) (l : Option Layout) (s : List ℕ) (p : Place) (ns : List ℕ) (q : Place) : Type 0 where
-  pub values : ns ≡ flat n (rowValues l s p)
+pub record FlatRead (l : Option Layout) (s : List ℕ) (p : Place) (before after : List ℕ) (q : Place) : Type 0 where
+  pub values : after ≡ laid (rowPast l s p) (rowValues l s p) before
   pub next : q ≡ rowPast l s p
+
+-- ---- a body of numbers alone
+
+-- the place n bytes on; 1 where they are not all held
+abbrev pub skipped : ℕ → List ℕ → Place → Place
+skipped n s (At a) = cond (leb (a + n) (length s)) (At (a + n)) (Refused R.Short)
+skipped n s (Refused k) = Refused k
+
+pub record Skipped (n : ℕ) (s : List ℕ) (p q : Place) : Type 0 where
+  pub is : q ≡ skipped n s p
 
 -- ---- a body written from such a run of numbers, by the layout of the type's row: 3 where it has none
 

@@ -20,15 +20,13 @@ use strings::Span;
 ghost use mathlib.Core.Path.{_≡_};
 ghost use Rattle.layouts.specs.Tables.{layoutTstatfs, layoutRstatfs, layoutTgetattr, layoutRgetattr, layoutTsetattr, layoutTxattrwalk, layoutRxattrwalk, layoutTxattrcreate};
 ghost use Rattle.metadata.specs.Records.{tstatfs, rstatfs, tgetattr, rgetattr, tsetattr, txattrwalk, rxattrwalk, txattrcreate};
-ghost use Rattle.flat.specs.Flat.{flat, fieldValues, widthT, widthR};
+ghost use Rattle.flat.specs.Flat.{flatValues, stored, fieldValues};
 
-pub fn flat_tstatfs(m: Tstatfs) -> [u64; WIDTH_T]
-    ensures { λ r. ⌜ r ≡ flat widthT (tstatfs m) ⌝ }
+pub fn flat_tstatfs(m: Tstatfs, values: &mut [u64; WIDTH_T])
+    ensures { λ _. ⌜ now (values .exit) ≡ stored (now (values .entry)) 0 (flatValues (tstatfs m)) ⌝ }
 {
     let fid = m.fid;
-    let mut v = [0u64; WIDTH_T];
-    v[0] = fid.0 as u64;
-    v
+    values[0] = fid.0 as u64;
 }
 
 pub fn tstatfs_of(v: [u64; WIDTH_T]) -> Tstatfs
@@ -38,20 +36,18 @@ pub fn tstatfs_of(v: [u64; WIDTH_T]) -> Tstatfs
     Tstatfs { fid }
 }
 
-pub fn flat_rstatfs(m: Rstatfs) -> [u64; WIDTH_R]
-    ensures { λ r. ⌜ r ≡ flat widthR (rstatfs m) ⌝ }
+pub fn flat_rstatfs(m: Rstatfs, values: &mut [u64; WIDTH_R])
+    ensures { λ _. ⌜ now (values .exit) ≡ stored (now (values .entry)) 0 (flatValues (rstatfs m)) ⌝ }
 {
-    let mut v = [0u64; WIDTH_R];
-    v[0] = m.ty as u64;
-    v[1] = m.bsize as u64;
-    v[2] = m.blocks;
-    v[3] = m.bfree;
-    v[4] = m.bavail;
-    v[5] = m.files;
-    v[6] = m.ffree;
-    v[7] = m.fsid;
-    v[8] = m.namelen as u64;
-    v
+    values[0] = m.ty as u64;
+    values[1] = m.bsize as u64;
+    values[2] = m.blocks;
+    values[3] = m.bfree;
+    values[4] = m.bavail;
+    values[5] = m.files;
+    values[6] = m.ffree;
+    values[7] = m.fsid;
+    values[8] = m.namelen as u64;
 }
 
 pub fn rstatfs_of(v: [u64; WIDTH_R]) -> Rstatfs
@@ -70,14 +66,12 @@ pub fn rstatfs_of(v: [u64; WIDTH_R]) -> Rstatfs
     }
 }
 
-pub fn flat_tgetattr(m: Tgetattr) -> [u64; WIDTH_T]
-    ensures { λ r. ⌜ r ≡ flat widthT (tgetattr m) ⌝ }
+pub fn flat_tgetattr(m: Tgetattr, values: &mut [u64; WIDTH_T])
+    ensures { λ _. ⌜ now (values .exit) ≡ stored (now (values .entry)) 0 (flatValues (tgetattr m)) ⌝ }
 {
     let fid = m.fid;
-    let mut v = [0u64; WIDTH_T];
-    v[0] = fid.0 as u64;
-    v[1] = m.request_mask;
-    v
+    values[0] = fid.0 as u64;
+    values[1] = m.request_mask;
 }
 
 pub fn tgetattr_of(v: [u64; WIDTH_T]) -> Tgetattr
@@ -90,35 +84,33 @@ pub fn tgetattr_of(v: [u64; WIDTH_T]) -> Tgetattr
     }
 }
 
-pub fn flat_rgetattr(m: Rgetattr) -> [u64; WIDTH_R]
-    ensures { λ r. ⌜ r ≡ flat widthR (rgetattr m) ⌝ }
+pub fn flat_rgetattr(m: Rgetattr, values: &mut [u64; WIDTH_R])
+    ensures { λ _. ⌜ now (values .exit) ≡ stored (now (values .entry)) 0 (flatValues (rgetattr m)) ⌝ }
 {
     let qid = m.qid;
     let gid = m.gid;
-    [
-        m.valid,
-        qid.ty as u64,
-        qid.version as u64,
-        qid.path,
-        m.mode as u64,
-        m.uid as u64,
-        gid.0 as u64,
-        m.nlink,
-        m.rdev,
-        m.size,
-        m.blksize,
-        m.blocks,
-        m.atime_sec,
-        m.atime_nsec,
-        m.mtime_sec,
-        m.mtime_nsec,
-        m.ctime_sec,
-        m.ctime_nsec,
-        m.btime_sec,
-        m.btime_nsec,
-        m.gen_,
-        m.data_version,
-    ]
+    values[0] = m.valid;
+    values[1] = qid.ty as u64;
+    values[2] = qid.version as u64;
+    values[3] = qid.path;
+    values[4] = m.mode as u64;
+    values[5] = m.uid as u64;
+    values[6] = gid.0 as u64;
+    values[7] = m.nlink;
+    values[8] = m.rdev;
+    values[9] = m.size;
+    values[10] = m.blksize;
+    values[11] = m.blocks;
+    values[12] = m.atime_sec;
+    values[13] = m.atime_nsec;
+    values[14] = m.mtime_sec;
+    values[15] = m.mtime_nsec;
+    values[16] = m.ctime_sec;
+    values[17] = m.ctime_nsec;
+    values[18] = m.btime_sec;
+    values[19] = m.btime_nsec;
+    values[20] = m.gen_;
+    values[21] = m.data_version;
 }
 
 pub fn rgetattr_of(v: [u64; WIDTH_R]) -> Rgetattr
@@ -154,23 +146,21 @@ pub fn rgetattr_of(v: [u64; WIDTH_R]) -> Rgetattr
     }
 }
 
-pub fn flat_tsetattr(m: Tsetattr) -> [u64; WIDTH_T]
-    ensures { λ r. ⌜ r ≡ flat widthT (tsetattr m) ⌝ }
+pub fn flat_tsetattr(m: Tsetattr, values: &mut [u64; WIDTH_T])
+    ensures { λ _. ⌜ now (values .exit) ≡ stored (now (values .entry)) 0 (flatValues (tsetattr m)) ⌝ }
 {
     let fid = m.fid;
     let gid = m.gid;
-    [
-        fid.0 as u64,
-        m.valid as u64,
-        m.mode as u64,
-        m.uid as u64,
-        gid.0 as u64,
-        m.size,
-        m.atime_sec,
-        m.atime_nsec,
-        m.mtime_sec,
-        m.mtime_nsec,
-    ]
+    values[0] = fid.0 as u64;
+    values[1] = m.valid as u64;
+    values[2] = m.mode as u64;
+    values[3] = m.uid as u64;
+    values[4] = gid.0 as u64;
+    values[5] = m.size;
+    values[6] = m.atime_sec;
+    values[7] = m.atime_nsec;
+    values[8] = m.mtime_sec;
+    values[9] = m.mtime_nsec;
 }
 
 pub fn tsetattr_of(v: [u64; WIDTH_T]) -> Tsetattr
@@ -192,18 +182,16 @@ pub fn tsetattr_of(v: [u64; WIDTH_T]) -> Tsetattr
     }
 }
 
-pub fn flat_txattrwalk(m: Txattrwalk) -> [u64; WIDTH_T]
-    ensures { λ r. ⌜ r ≡ flat widthT (txattrwalk m) ⌝ }
+pub fn flat_txattrwalk(m: Txattrwalk, values: &mut [u64; WIDTH_T])
+    ensures { λ _. ⌜ now (values .exit) ≡ stored (now (values .entry)) 0 (flatValues (txattrwalk m)) ⌝ }
 {
     let fid = m.fid;
     let newfid = m.newfid;
     let name = m.name;
-    let mut v = [0u64; WIDTH_T];
-    v[0] = fid.0 as u64;
-    v[1] = newfid.0 as u64;
-    v[2] = name.start as u64;
-    v[3] = name.len as u64;
-    v
+    values[0] = fid.0 as u64;
+    values[1] = newfid.0 as u64;
+    values[2] = name.start as u64;
+    values[3] = name.len as u64;
 }
 
 pub fn txattrwalk_of(v: [u64; WIDTH_T]) -> Txattrwalk
@@ -218,12 +206,10 @@ pub fn txattrwalk_of(v: [u64; WIDTH_T]) -> Txattrwalk
     Txattrwalk { fid, newfid, name }
 }
 
-pub fn flat_rxattrwalk(m: Rxattrwalk) -> [u64; WIDTH_R]
-    ensures { λ r. ⌜ r ≡ flat widthR (rxattrwalk m) ⌝ }
+pub fn flat_rxattrwalk(m: Rxattrwalk, values: &mut [u64; WIDTH_R])
+    ensures { λ _. ⌜ now (values .exit) ≡ stored (now (values .entry)) 0 (flatValues (rxattrwalk m)) ⌝ }
 {
-    let mut v = [0u64; WIDTH_R];
-    v[0] = m.size;
-    v
+    values[0] = m.size;
 }
 
 pub fn rxattrwalk_of(v: [u64; WIDTH_R]) -> Rxattrwalk
@@ -232,23 +218,16 @@ pub fn rxattrwalk_of(v: [u64; WIDTH_R]) -> Rxattrwalk
     Rxattrwalk { size: v[0] }
 }
 
-pub fn flat_txattrcreate(m: Txattrcreate) -> [u64; WIDTH_T]
-    ensures { λ r. ⌜ r ≡ flat widthT (txattrcreate m) ⌝ }
+pub fn flat_txattrcreate(m: Txattrcreate, values: &mut [u64; WIDTH_T])
+    ensures { λ _. ⌜ now (values .exit) ≡ stored (now (values .entry)) 0 (flatValues (txattrcreate m)) ⌝ }
 {
     let fid = m.fid;
     let name = m.name;
-    [
-        fid.0 as u64,
-        name.start as u64,
-        name.len as u64,
-        m.attr_size,
-        m.flags as u64,
-        0,
-        0,
-        0,
-        0,
-        0,
-    ]
+    values[0] = fid.0 as u64;
+    values[1] = name.start as u64;
+    values[2] = name.len as u64;
+    values[3] = m.attr_size;
+    values[4] = m.flags as u64;
 }
 
 pub fn txattrcreate_of(v: [u64; WIDTH_T]) -> Txattrcreate

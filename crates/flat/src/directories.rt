@@ -26,27 +26,21 @@ use strings::Span;
 ghost use mathlib.Core.Path.{_≡_};
 ghost use Rattle.layouts.specs.Tables.{layoutTsymlink, layoutRsymlink, layoutTmknod, layoutRmknod, layoutTrename, layoutTreadlink, layoutRreadlink, layoutTreaddir, layoutRreaddir, layoutTlink, layoutTmkdir, layoutRmkdir, layoutTrenameat, layoutTunlinkat};
 ghost use Rattle.messages.specs.Records.{tsymlink, rsymlink, tmknod, rmknod, trename, treadlink, rreadlink, treaddir, rreaddir, tlink, tmkdir, rmkdir, trenameat, tunlinkat};
-ghost use Rattle.flat.specs.Flat.{flat, fieldValues, widthT, widthR};
+ghost use Rattle.flat.specs.Flat.{flatValues, stored, fieldValues};
 
-pub fn flat_tsymlink(m: Tsymlink) -> [u64; WIDTH_T]
-    ensures { λ r. ⌜ r ≡ flat widthT (tsymlink m) ⌝ }
+pub fn flat_tsymlink(m: Tsymlink, values: &mut [u64; WIDTH_T])
+    ensures { λ _. ⌜ now (values .exit) ≡ stored (now (values .entry)) 0 (flatValues (tsymlink m)) ⌝ }
 {
     let fid = m.fid;
     let name = m.name;
     let symtgt = m.symtgt;
     let gid = m.gid;
-    [
-        fid.0 as u64,
-        name.start as u64,
-        name.len as u64,
-        symtgt.start as u64,
-        symtgt.len as u64,
-        gid.0 as u64,
-        0,
-        0,
-        0,
-        0,
-    ]
+    values[0] = fid.0 as u64;
+    values[1] = name.start as u64;
+    values[2] = name.len as u64;
+    values[3] = symtgt.start as u64;
+    values[4] = symtgt.len as u64;
+    values[5] = gid.0 as u64;
 }
 
 pub fn tsymlink_of(v: [u64; WIDTH_T]) -> Tsymlink
@@ -70,15 +64,13 @@ pub fn tsymlink_of(v: [u64; WIDTH_T]) -> Tsymlink
     }
 }
 
-pub fn flat_rsymlink(m: Rsymlink) -> [u64; WIDTH_R]
-    ensures { λ r. ⌜ r ≡ flat widthR (rsymlink m) ⌝ }
+pub fn flat_rsymlink(m: Rsymlink, values: &mut [u64; WIDTH_R])
+    ensures { λ _. ⌜ now (values .exit) ≡ stored (now (values .entry)) 0 (flatValues (rsymlink m)) ⌝ }
 {
     let qid = m.qid;
-    let mut v = [0u64; WIDTH_R];
-    v[0] = qid.ty as u64;
-    v[1] = qid.version as u64;
-    v[2] = qid.path;
-    v
+    values[0] = qid.ty as u64;
+    values[1] = qid.version as u64;
+    values[2] = qid.path;
 }
 
 pub fn rsymlink_of(v: [u64; WIDTH_R]) -> Rsymlink
@@ -92,24 +84,19 @@ pub fn rsymlink_of(v: [u64; WIDTH_R]) -> Rsymlink
     Rsymlink { qid }
 }
 
-pub fn flat_tmknod(m: Tmknod) -> [u64; WIDTH_T]
-    ensures { λ r. ⌜ r ≡ flat widthT (tmknod m) ⌝ }
+pub fn flat_tmknod(m: Tmknod, values: &mut [u64; WIDTH_T])
+    ensures { λ _. ⌜ now (values .exit) ≡ stored (now (values .entry)) 0 (flatValues (tmknod m)) ⌝ }
 {
     let dfid = m.dfid;
     let name = m.name;
     let gid = m.gid;
-    [
-        dfid.0 as u64,
-        name.start as u64,
-        name.len as u64,
-        m.mode as u64,
-        m.major as u64,
-        m.minor as u64,
-        gid.0 as u64,
-        0,
-        0,
-        0,
-    ]
+    values[0] = dfid.0 as u64;
+    values[1] = name.start as u64;
+    values[2] = name.len as u64;
+    values[3] = m.mode as u64;
+    values[4] = m.major as u64;
+    values[5] = m.minor as u64;
+    values[6] = gid.0 as u64;
 }
 
 pub fn tmknod_of(v: [u64; WIDTH_T]) -> Tmknod
@@ -131,15 +118,13 @@ pub fn tmknod_of(v: [u64; WIDTH_T]) -> Tmknod
     }
 }
 
-pub fn flat_rmknod(m: Rmknod) -> [u64; WIDTH_R]
-    ensures { λ r. ⌜ r ≡ flat widthR (rmknod m) ⌝ }
+pub fn flat_rmknod(m: Rmknod, values: &mut [u64; WIDTH_R])
+    ensures { λ _. ⌜ now (values .exit) ≡ stored (now (values .entry)) 0 (flatValues (rmknod m)) ⌝ }
 {
     let qid = m.qid;
-    let mut v = [0u64; WIDTH_R];
-    v[0] = qid.ty as u64;
-    v[1] = qid.version as u64;
-    v[2] = qid.path;
-    v
+    values[0] = qid.ty as u64;
+    values[1] = qid.version as u64;
+    values[2] = qid.path;
 }
 
 pub fn rmknod_of(v: [u64; WIDTH_R]) -> Rmknod
@@ -153,18 +138,16 @@ pub fn rmknod_of(v: [u64; WIDTH_R]) -> Rmknod
     Rmknod { qid }
 }
 
-pub fn flat_trename(m: Trename) -> [u64; WIDTH_T]
-    ensures { λ r. ⌜ r ≡ flat widthT (trename m) ⌝ }
+pub fn flat_trename(m: Trename, values: &mut [u64; WIDTH_T])
+    ensures { λ _. ⌜ now (values .exit) ≡ stored (now (values .entry)) 0 (flatValues (trename m)) ⌝ }
 {
     let fid = m.fid;
     let dfid = m.dfid;
     let name = m.name;
-    let mut v = [0u64; WIDTH_T];
-    v[0] = fid.0 as u64;
-    v[1] = dfid.0 as u64;
-    v[2] = name.start as u64;
-    v[3] = name.len as u64;
-    v
+    values[0] = fid.0 as u64;
+    values[1] = dfid.0 as u64;
+    values[2] = name.start as u64;
+    values[3] = name.len as u64;
 }
 
 pub fn trename_of(v: [u64; WIDTH_T]) -> Trename
@@ -179,13 +162,11 @@ pub fn trename_of(v: [u64; WIDTH_T]) -> Trename
     Trename { fid, dfid, name }
 }
 
-pub fn flat_treadlink(m: Treadlink) -> [u64; WIDTH_T]
-    ensures { λ r. ⌜ r ≡ flat widthT (treadlink m) ⌝ }
+pub fn flat_treadlink(m: Treadlink, values: &mut [u64; WIDTH_T])
+    ensures { λ _. ⌜ now (values .exit) ≡ stored (now (values .entry)) 0 (flatValues (treadlink m)) ⌝ }
 {
     let fid = m.fid;
-    let mut v = [0u64; WIDTH_T];
-    v[0] = fid.0 as u64;
-    v
+    values[0] = fid.0 as u64;
 }
 
 pub fn treadlink_of(v: [u64; WIDTH_T]) -> Treadlink
@@ -195,14 +176,12 @@ pub fn treadlink_of(v: [u64; WIDTH_T]) -> Treadlink
     Treadlink { fid }
 }
 
-pub fn flat_rreadlink(m: Rreadlink) -> [u64; WIDTH_R]
-    ensures { λ r. ⌜ r ≡ flat widthR (rreadlink m) ⌝ }
+pub fn flat_rreadlink(m: Rreadlink, values: &mut [u64; WIDTH_R])
+    ensures { λ _. ⌜ now (values .exit) ≡ stored (now (values .entry)) 0 (flatValues (rreadlink m)) ⌝ }
 {
     let target = m.target;
-    let mut v = [0u64; WIDTH_R];
-    v[0] = target.start as u64;
-    v[1] = target.len as u64;
-    v
+    values[0] = target.start as u64;
+    values[1] = target.len as u64;
 }
 
 pub fn rreadlink_of(v: [u64; WIDTH_R]) -> Rreadlink
@@ -215,15 +194,13 @@ pub fn rreadlink_of(v: [u64; WIDTH_R]) -> Rreadlink
     Rreadlink { target }
 }
 
-pub fn flat_treaddir(m: Treaddir) -> [u64; WIDTH_T]
-    ensures { λ r. ⌜ r ≡ flat widthT (treaddir m) ⌝ }
+pub fn flat_treaddir(m: Treaddir, values: &mut [u64; WIDTH_T])
+    ensures { λ _. ⌜ now (values .exit) ≡ stored (now (values .entry)) 0 (flatValues (treaddir m)) ⌝ }
 {
     let fid = m.fid;
-    let mut v = [0u64; WIDTH_T];
-    v[0] = fid.0 as u64;
-    v[1] = m.offset;
-    v[2] = m.count as u64;
-    v
+    values[0] = fid.0 as u64;
+    values[1] = m.offset;
+    values[2] = m.count as u64;
 }
 
 pub fn treaddir_of(v: [u64; WIDTH_T]) -> Treaddir
@@ -237,14 +214,12 @@ pub fn treaddir_of(v: [u64; WIDTH_T]) -> Treaddir
     }
 }
 
-pub fn flat_rreaddir(m: Rreaddir) -> [u64; WIDTH_R]
-    ensures { λ r. ⌜ r ≡ flat widthR (rreaddir m) ⌝ }
+pub fn flat_rreaddir(m: Rreaddir, values: &mut [u64; WIDTH_R])
+    ensures { λ _. ⌜ now (values .exit) ≡ stored (now (values .entry)) 0 (flatValues (rreaddir m)) ⌝ }
 {
     let data = m.data;
-    let mut v = [0u64; WIDTH_R];
-    v[0] = data.start as u64;
-    v[1] = data.len as u64;
-    v
+    values[0] = data.start as u64;
+    values[1] = data.len as u64;
 }
 
 pub fn rreaddir_of(v: [u64; WIDTH_R]) -> Rreaddir
@@ -257,18 +232,16 @@ pub fn rreaddir_of(v: [u64; WIDTH_R]) -> Rreaddir
     Rreaddir { data }
 }
 
-pub fn flat_tlink(m: Tlink) -> [u64; WIDTH_T]
-    ensures { λ r. ⌜ r ≡ flat widthT (tlink m) ⌝ }
+pub fn flat_tlink(m: Tlink, values: &mut [u64; WIDTH_T])
+    ensures { λ _. ⌜ now (values .exit) ≡ stored (now (values .entry)) 0 (flatValues (tlink m)) ⌝ }
 {
     let dfid = m.dfid;
     let fid = m.fid;
     let name = m.name;
-    let mut v = [0u64; WIDTH_T];
-    v[0] = dfid.0 as u64;
-    v[1] = fid.0 as u64;
-    v[2] = name.start as u64;
-    v[3] = name.len as u64;
-    v
+    values[0] = dfid.0 as u64;
+    values[1] = fid.0 as u64;
+    values[2] = name.start as u64;
+    values[3] = name.len as u64;
 }
 
 pub fn tlink_of(v: [u64; WIDTH_T]) -> Tlink
@@ -283,24 +256,17 @@ pub fn tlink_of(v: [u64; WIDTH_T]) -> Tlink
     Tlink { dfid, fid, name }
 }
 
-pub fn flat_tmkdir(m: Tmkdir) -> [u64; WIDTH_T]
-    ensures { λ r. ⌜ r ≡ flat widthT (tmkdir m) ⌝ }
+pub fn flat_tmkdir(m: Tmkdir, values: &mut [u64; WIDTH_T])
+    ensures { λ _. ⌜ now (values .exit) ≡ stored (now (values .entry)) 0 (flatValues (tmkdir m)) ⌝ }
 {
     let dfid = m.dfid;
     let name = m.name;
     let gid = m.gid;
-    [
-        dfid.0 as u64,
-        name.start as u64,
-        name.len as u64,
-        m.mode as u64,
-        gid.0 as u64,
-        0,
-        0,
-        0,
-        0,
-        0,
-    ]
+    values[0] = dfid.0 as u64;
+    values[1] = name.start as u64;
+    values[2] = name.len as u64;
+    values[3] = m.mode as u64;
+    values[4] = gid.0 as u64;
 }
 
 pub fn tmkdir_of(v: [u64; WIDTH_T]) -> Tmkdir
@@ -320,15 +286,13 @@ pub fn tmkdir_of(v: [u64; WIDTH_T]) -> Tmkdir
     }
 }
 
-pub fn flat_rmkdir(m: Rmkdir) -> [u64; WIDTH_R]
-    ensures { λ r. ⌜ r ≡ flat widthR (rmkdir m) ⌝ }
+pub fn flat_rmkdir(m: Rmkdir, values: &mut [u64; WIDTH_R])
+    ensures { λ _. ⌜ now (values .exit) ≡ stored (now (values .entry)) 0 (flatValues (rmkdir m)) ⌝ }
 {
     let qid = m.qid;
-    let mut v = [0u64; WIDTH_R];
-    v[0] = qid.ty as u64;
-    v[1] = qid.version as u64;
-    v[2] = qid.path;
-    v
+    values[0] = qid.ty as u64;
+    values[1] = qid.version as u64;
+    values[2] = qid.path;
 }
 
 pub fn rmkdir_of(v: [u64; WIDTH_R]) -> Rmkdir
@@ -342,25 +306,19 @@ pub fn rmkdir_of(v: [u64; WIDTH_R]) -> Rmkdir
     Rmkdir { qid }
 }
 
-pub fn flat_trenameat(m: Trenameat) -> [u64; WIDTH_T]
-    ensures { λ r. ⌜ r ≡ flat widthT (trenameat m) ⌝ }
+pub fn flat_trenameat(m: Trenameat, values: &mut [u64; WIDTH_T])
+    ensures { λ _. ⌜ now (values .exit) ≡ stored (now (values .entry)) 0 (flatValues (trenameat m)) ⌝ }
 {
     let olddirfid = m.olddirfid;
     let oldname = m.oldname;
     let newdirfid = m.newdirfid;
     let newname = m.newname;
-    [
-        olddirfid.0 as u64,
-        oldname.start as u64,
-        oldname.len as u64,
-        newdirfid.0 as u64,
-        newname.start as u64,
-        newname.len as u64,
-        0,
-        0,
-        0,
-        0,
-    ]
+    values[0] = olddirfid.0 as u64;
+    values[1] = oldname.start as u64;
+    values[2] = oldname.len as u64;
+    values[3] = newdirfid.0 as u64;
+    values[4] = newname.start as u64;
+    values[5] = newname.len as u64;
 }
 
 pub fn trenameat_of(v: [u64; WIDTH_T]) -> Trenameat
@@ -384,17 +342,15 @@ pub fn trenameat_of(v: [u64; WIDTH_T]) -> Trenameat
     }
 }
 
-pub fn flat_tunlinkat(m: Tunlinkat) -> [u64; WIDTH_T]
-    ensures { λ r. ⌜ r ≡ flat widthT (tunlinkat m) ⌝ }
+pub fn flat_tunlinkat(m: Tunlinkat, values: &mut [u64; WIDTH_T])
+    ensures { λ _. ⌜ now (values .exit) ≡ stored (now (values .entry)) 0 (flatValues (tunlinkat m)) ⌝ }
 {
     let dirfd = m.dirfd;
     let name = m.name;
-    let mut v = [0u64; WIDTH_T];
-    v[0] = dirfd.0 as u64;
-    v[1] = name.start as u64;
-    v[2] = name.len as u64;
-    v[3] = m.flags as u64;
-    v
+    values[0] = dirfd.0 as u64;
+    values[1] = name.start as u64;
+    values[2] = name.len as u64;
+    values[3] = m.flags as u64;
 }
 
 pub fn tunlinkat_of(v: [u64; WIDTH_T]) -> Tunlinkat

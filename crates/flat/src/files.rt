@@ -23,16 +23,14 @@ ghost use mathlib.Core.Path.{_≡_};
 ghost use Rattle.layouts.specs.Tables.{layoutTlopen, layoutRlopen, layoutTlcreate, layoutRlcreate, layoutTread, layoutRread, layoutTwrite, layoutRwrite, layoutTfsync, layoutTremove};
 ghost use Rattle.common.specs.Records.{tread, rread, twrite, rwrite, tremove};
 ghost use Rattle.messages.specs.Records.{tlopen, rlopen, tlcreate, rlcreate, tfsync};
-ghost use Rattle.flat.specs.Flat.{flat, fieldValues, widthT, widthR};
+ghost use Rattle.flat.specs.Flat.{flatValues, stored, fieldValues};
 
-pub fn flat_tlopen(m: Tlopen) -> [u64; WIDTH_T]
-    ensures { λ r. ⌜ r ≡ flat widthT (tlopen m) ⌝ }
+pub fn flat_tlopen(m: Tlopen, values: &mut [u64; WIDTH_T])
+    ensures { λ _. ⌜ now (values .exit) ≡ stored (now (values .entry)) 0 (flatValues (tlopen m)) ⌝ }
 {
     let fid = m.fid;
-    let mut v = [0u64; WIDTH_T];
-    v[0] = fid.0 as u64;
-    v[1] = m.flags as u64;
-    v
+    values[0] = fid.0 as u64;
+    values[1] = m.flags as u64;
 }
 
 pub fn tlopen_of(v: [u64; WIDTH_T]) -> Tlopen
@@ -45,16 +43,14 @@ pub fn tlopen_of(v: [u64; WIDTH_T]) -> Tlopen
     }
 }
 
-pub fn flat_rlopen(m: Rlopen) -> [u64; WIDTH_R]
-    ensures { λ r. ⌜ r ≡ flat widthR (rlopen m) ⌝ }
+pub fn flat_rlopen(m: Rlopen, values: &mut [u64; WIDTH_R])
+    ensures { λ _. ⌜ now (values .exit) ≡ stored (now (values .entry)) 0 (flatValues (rlopen m)) ⌝ }
 {
     let qid = m.qid;
-    let mut v = [0u64; WIDTH_R];
-    v[0] = qid.ty as u64;
-    v[1] = qid.version as u64;
-    v[2] = qid.path;
-    v[3] = m.iounit as u64;
-    v
+    values[0] = qid.ty as u64;
+    values[1] = qid.version as u64;
+    values[2] = qid.path;
+    values[3] = m.iounit as u64;
 }
 
 pub fn rlopen_of(v: [u64; WIDTH_R]) -> Rlopen
@@ -71,24 +67,18 @@ pub fn rlopen_of(v: [u64; WIDTH_R]) -> Rlopen
     }
 }
 
-pub fn flat_tlcreate(m: Tlcreate) -> [u64; WIDTH_T]
-    ensures { λ r. ⌜ r ≡ flat widthT (tlcreate m) ⌝ }
+pub fn flat_tlcreate(m: Tlcreate, values: &mut [u64; WIDTH_T])
+    ensures { λ _. ⌜ now (values .exit) ≡ stored (now (values .entry)) 0 (flatValues (tlcreate m)) ⌝ }
 {
     let fid = m.fid;
     let name = m.name;
     let gid = m.gid;
-    [
-        fid.0 as u64,
-        name.start as u64,
-        name.len as u64,
-        m.flags as u64,
-        m.mode as u64,
-        gid.0 as u64,
-        0,
-        0,
-        0,
-        0,
-    ]
+    values[0] = fid.0 as u64;
+    values[1] = name.start as u64;
+    values[2] = name.len as u64;
+    values[3] = m.flags as u64;
+    values[4] = m.mode as u64;
+    values[5] = gid.0 as u64;
 }
 
 pub fn tlcreate_of(v: [u64; WIDTH_T]) -> Tlcreate
@@ -109,16 +99,14 @@ pub fn tlcreate_of(v: [u64; WIDTH_T]) -> Tlcreate
     }
 }
 
-pub fn flat_rlcreate(m: Rlcreate) -> [u64; WIDTH_R]
-    ensures { λ r. ⌜ r ≡ flat widthR (rlcreate m) ⌝ }
+pub fn flat_rlcreate(m: Rlcreate, values: &mut [u64; WIDTH_R])
+    ensures { λ _. ⌜ now (values .exit) ≡ stored (now (values .entry)) 0 (flatValues (rlcreate m)) ⌝ }
 {
     let qid = m.qid;
-    let mut v = [0u64; WIDTH_R];
-    v[0] = qid.ty as u64;
-    v[1] = qid.version as u64;
-    v[2] = qid.path;
-    v[3] = m.iounit as u64;
-    v
+    values[0] = qid.ty as u64;
+    values[1] = qid.version as u64;
+    values[2] = qid.path;
+    values[3] = m.iounit as u64;
 }
 
 pub fn rlcreate_of(v: [u64; WIDTH_R]) -> Rlcreate
@@ -135,15 +123,13 @@ pub fn rlcreate_of(v: [u64; WIDTH_R]) -> Rlcreate
     }
 }
 
-pub fn flat_tread(m: Tread) -> [u64; WIDTH_T]
-    ensures { λ r. ⌜ r ≡ flat widthT (tread m) ⌝ }
+pub fn flat_tread(m: Tread, values: &mut [u64; WIDTH_T])
+    ensures { λ _. ⌜ now (values .exit) ≡ stored (now (values .entry)) 0 (flatValues (tread m)) ⌝ }
 {
     let fid = m.fid;
-    let mut v = [0u64; WIDTH_T];
-    v[0] = fid.0 as u64;
-    v[1] = m.offset;
-    v[2] = m.count as u64;
-    v
+    values[0] = fid.0 as u64;
+    values[1] = m.offset;
+    values[2] = m.count as u64;
 }
 
 pub fn tread_of(v: [u64; WIDTH_T]) -> Tread
@@ -157,14 +143,12 @@ pub fn tread_of(v: [u64; WIDTH_T]) -> Tread
     }
 }
 
-pub fn flat_rread(m: Rread) -> [u64; WIDTH_R]
-    ensures { λ r. ⌜ r ≡ flat widthR (rread m) ⌝ }
+pub fn flat_rread(m: Rread, values: &mut [u64; WIDTH_R])
+    ensures { λ _. ⌜ now (values .exit) ≡ stored (now (values .entry)) 0 (flatValues (rread m)) ⌝ }
 {
     let data = m.data;
-    let mut v = [0u64; WIDTH_R];
-    v[0] = data.start as u64;
-    v[1] = data.len as u64;
-    v
+    values[0] = data.start as u64;
+    values[1] = data.len as u64;
 }
 
 pub fn rread_of(v: [u64; WIDTH_R]) -> Rread
@@ -177,17 +161,15 @@ pub fn rread_of(v: [u64; WIDTH_R]) -> Rread
     Rread { data }
 }
 
-pub fn flat_twrite(m: Twrite) -> [u64; WIDTH_T]
-    ensures { λ r. ⌜ r ≡ flat widthT (twrite m) ⌝ }
+pub fn flat_twrite(m: Twrite, values: &mut [u64; WIDTH_T])
+    ensures { λ _. ⌜ now (values .exit) ≡ stored (now (values .entry)) 0 (flatValues (twrite m)) ⌝ }
 {
     let fid = m.fid;
     let data = m.data;
-    let mut v = [0u64; WIDTH_T];
-    v[0] = fid.0 as u64;
-    v[1] = m.offset;
-    v[2] = data.start as u64;
-    v[3] = data.len as u64;
-    v
+    values[0] = fid.0 as u64;
+    values[1] = m.offset;
+    values[2] = data.start as u64;
+    values[3] = data.len as u64;
 }
 
 pub fn twrite_of(v: [u64; WIDTH_T]) -> Twrite
@@ -205,12 +187,10 @@ pub fn twrite_of(v: [u64; WIDTH_T]) -> Twrite
     }
 }
 
-pub fn flat_rwrite(m: Rwrite) -> [u64; WIDTH_R]
-    ensures { λ r. ⌜ r ≡ flat widthR (rwrite m) ⌝ }
+pub fn flat_rwrite(m: Rwrite, values: &mut [u64; WIDTH_R])
+    ensures { λ _. ⌜ now (values .exit) ≡ stored (now (values .entry)) 0 (flatValues (rwrite m)) ⌝ }
 {
-    let mut v = [0u64; WIDTH_R];
-    v[0] = m.count as u64;
-    v
+    values[0] = m.count as u64;
 }
 
 pub fn rwrite_of(v: [u64; WIDTH_R]) -> Rwrite
@@ -221,14 +201,12 @@ pub fn rwrite_of(v: [u64; WIDTH_R]) -> Rwrite
     }
 }
 
-pub fn flat_tfsync(m: Tfsync) -> [u64; WIDTH_T]
-    ensures { λ r. ⌜ r ≡ flat widthT (tfsync m) ⌝ }
+pub fn flat_tfsync(m: Tfsync, values: &mut [u64; WIDTH_T])
+    ensures { λ _. ⌜ now (values .exit) ≡ stored (now (values .entry)) 0 (flatValues (tfsync m)) ⌝ }
 {
     let fid = m.fid;
-    let mut v = [0u64; WIDTH_T];
-    v[0] = fid.0 as u64;
-    v[1] = m.datasync as u64;
-    v
+    values[0] = fid.0 as u64;
+    values[1] = m.datasync as u64;
 }
 
 pub fn tfsync_of(v: [u64; WIDTH_T]) -> Tfsync
@@ -241,13 +219,11 @@ pub fn tfsync_of(v: [u64; WIDTH_T]) -> Tfsync
     }
 }
 
-pub fn flat_tremove(m: Tremove) -> [u64; WIDTH_T]
-    ensures { λ r. ⌜ r ≡ flat widthT (tremove m) ⌝ }
+pub fn flat_tremove(m: Tremove, values: &mut [u64; WIDTH_T])
+    ensures { λ _. ⌜ now (values .exit) ≡ stored (now (values .entry)) 0 (flatValues (tremove m)) ⌝ }
 {
     let fid = m.fid;
-    let mut v = [0u64; WIDTH_T];
-    v[0] = fid.0 as u64;
-    v
+    values[0] = fid.0 as u64;
 }
 
 pub fn tremove_of(v: [u64; WIDTH_T]) -> Tremove

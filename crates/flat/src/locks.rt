@@ -14,25 +14,21 @@ use strings::Span;
 ghost use mathlib.Core.Path.{_≡_};
 ghost use Rattle.layouts.specs.Tables.{layoutTlock, layoutRlock, layoutTgetlock, layoutRgetlock};
 ghost use Rattle.metadata.specs.Records.{tlock, rlock, tgetlock, rgetlock};
-ghost use Rattle.flat.specs.Flat.{flat, fieldValues, widthT, widthR};
+ghost use Rattle.flat.specs.Flat.{flatValues, stored, fieldValues};
 
-pub fn flat_tlock(m: Tlock) -> [u64; WIDTH_T]
-    ensures { λ r. ⌜ r ≡ flat widthT (tlock m) ⌝ }
+pub fn flat_tlock(m: Tlock, values: &mut [u64; WIDTH_T])
+    ensures { λ _. ⌜ now (values .exit) ≡ stored (now (values .entry)) 0 (flatValues (tlock m)) ⌝ }
 {
     let fid = m.fid;
     let client_id = m.client_id;
-    [
-        fid.0 as u64,
-        m.type_ as u64,
-        m.flags as u64,
-        m.start,
-        m.length,
-        m.proc_id as u64,
-        client_id.start as u64,
-        client_id.len as u64,
-        0,
-        0,
-    ]
+    values[0] = fid.0 as u64;
+    values[1] = m.type_ as u64;
+    values[2] = m.flags as u64;
+    values[3] = m.start;
+    values[4] = m.length;
+    values[5] = m.proc_id as u64;
+    values[6] = client_id.start as u64;
+    values[7] = client_id.len as u64;
 }
 
 pub fn tlock_of(v: [u64; WIDTH_T]) -> Tlock
@@ -54,12 +50,10 @@ pub fn tlock_of(v: [u64; WIDTH_T]) -> Tlock
     }
 }
 
-pub fn flat_rlock(m: Rlock) -> [u64; WIDTH_R]
-    ensures { λ r. ⌜ r ≡ flat widthR (rlock m) ⌝ }
+pub fn flat_rlock(m: Rlock, values: &mut [u64; WIDTH_R])
+    ensures { λ _. ⌜ now (values .exit) ≡ stored (now (values .entry)) 0 (flatValues (rlock m)) ⌝ }
 {
-    let mut v = [0u64; WIDTH_R];
-    v[0] = m.status as u64;
-    v
+    values[0] = m.status as u64;
 }
 
 pub fn rlock_of(v: [u64; WIDTH_R]) -> Rlock
@@ -70,23 +64,18 @@ pub fn rlock_of(v: [u64; WIDTH_R]) -> Rlock
     }
 }
 
-pub fn flat_tgetlock(m: Tgetlock) -> [u64; WIDTH_T]
-    ensures { λ r. ⌜ r ≡ flat widthT (tgetlock m) ⌝ }
+pub fn flat_tgetlock(m: Tgetlock, values: &mut [u64; WIDTH_T])
+    ensures { λ _. ⌜ now (values .exit) ≡ stored (now (values .entry)) 0 (flatValues (tgetlock m)) ⌝ }
 {
     let fid = m.fid;
     let client_id = m.client_id;
-    [
-        fid.0 as u64,
-        m.type_ as u64,
-        m.start,
-        m.length,
-        m.proc_id as u64,
-        client_id.start as u64,
-        client_id.len as u64,
-        0,
-        0,
-        0,
-    ]
+    values[0] = fid.0 as u64;
+    values[1] = m.type_ as u64;
+    values[2] = m.start;
+    values[3] = m.length;
+    values[4] = m.proc_id as u64;
+    values[5] = client_id.start as u64;
+    values[6] = client_id.len as u64;
 }
 
 pub fn tgetlock_of(v: [u64; WIDTH_T]) -> Tgetlock
@@ -107,18 +96,16 @@ pub fn tgetlock_of(v: [u64; WIDTH_T]) -> Tgetlock
     }
 }
 
-pub fn flat_rgetlock(m: Rgetlock) -> [u64; WIDTH_R]
-    ensures { λ r. ⌜ r ≡ flat widthR (rgetlock m) ⌝ }
+pub fn flat_rgetlock(m: Rgetlock, values: &mut [u64; WIDTH_R])
+    ensures { λ _. ⌜ now (values .exit) ≡ stored (now (values .entry)) 0 (flatValues (rgetlock m)) ⌝ }
 {
     let client_id = m.client_id;
-    let mut v = [0u64; WIDTH_R];
-    v[0] = m.type_ as u64;
-    v[1] = m.start;
-    v[2] = m.length;
-    v[3] = m.proc_id as u64;
-    v[4] = client_id.start as u64;
-    v[5] = client_id.len as u64;
-    v
+    values[0] = m.type_ as u64;
+    values[1] = m.start;
+    values[2] = m.length;
+    values[3] = m.proc_id as u64;
+    values[4] = client_id.start as u64;
+    values[5] = client_id.len as u64;
 }
 
 pub fn rgetlock_of(v: [u64; WIDTH_R]) -> Rgetlock

@@ -23,17 +23,15 @@ ghost use mathlib.Core.Path.{_≡_};
 ghost use Rattle.layouts.specs.Tables.{layoutTversion, layoutRversion, layoutTauth, layoutRauth, layoutTattach, layoutRattach, layoutTflush, layoutTclunk, layoutRlerror};
 ghost use Rattle.common.specs.Records.{tversion, rversion, tflush, tclunk};
 ghost use Rattle.messages.specs.Records.{tauth, rauth, tattach, rattach, rlerror};
-ghost use Rattle.flat.specs.Flat.{flat, fieldValues, widthT, widthR};
+ghost use Rattle.flat.specs.Flat.{flatValues, stored, fieldValues};
 
-pub fn flat_tversion(m: Tversion) -> [u64; WIDTH_T]
-    ensures { λ r. ⌜ r ≡ flat widthT (tversion m) ⌝ }
+pub fn flat_tversion(m: Tversion, values: &mut [u64; WIDTH_T])
+    ensures { λ _. ⌜ now (values .exit) ≡ stored (now (values .entry)) 0 (flatValues (tversion m)) ⌝ }
 {
     let version = m.version;
-    let mut v = [0u64; WIDTH_T];
-    v[0] = m.msize as u64;
-    v[1] = version.start as u64;
-    v[2] = version.len as u64;
-    v
+    values[0] = m.msize as u64;
+    values[1] = version.start as u64;
+    values[2] = version.len as u64;
 }
 
 pub fn tversion_of(v: [u64; WIDTH_T]) -> Tversion
@@ -49,15 +47,13 @@ pub fn tversion_of(v: [u64; WIDTH_T]) -> Tversion
     }
 }
 
-pub fn flat_rversion(m: Rversion) -> [u64; WIDTH_R]
-    ensures { λ r. ⌜ r ≡ flat widthR (rversion m) ⌝ }
+pub fn flat_rversion(m: Rversion, values: &mut [u64; WIDTH_R])
+    ensures { λ _. ⌜ now (values .exit) ≡ stored (now (values .entry)) 0 (flatValues (rversion m)) ⌝ }
 {
     let version = m.version;
-    let mut v = [0u64; WIDTH_R];
-    v[0] = m.msize as u64;
-    v[1] = version.start as u64;
-    v[2] = version.len as u64;
-    v
+    values[0] = m.msize as u64;
+    values[1] = version.start as u64;
+    values[2] = version.len as u64;
 }
 
 pub fn rversion_of(v: [u64; WIDTH_R]) -> Rversion
@@ -73,24 +69,18 @@ pub fn rversion_of(v: [u64; WIDTH_R]) -> Rversion
     }
 }
 
-pub fn flat_tauth(m: Tauth) -> [u64; WIDTH_T]
-    ensures { λ r. ⌜ r ≡ flat widthT (tauth m) ⌝ }
+pub fn flat_tauth(m: Tauth, values: &mut [u64; WIDTH_T])
+    ensures { λ _. ⌜ now (values .exit) ≡ stored (now (values .entry)) 0 (flatValues (tauth m)) ⌝ }
 {
     let afid = m.afid;
     let uname = m.uname;
     let aname = m.aname;
-    [
-        afid.0 as u64,
-        uname.start as u64,
-        uname.len as u64,
-        aname.start as u64,
-        aname.len as u64,
-        m.n_uname as u64,
-        0,
-        0,
-        0,
-        0,
-    ]
+    values[0] = afid.0 as u64;
+    values[1] = uname.start as u64;
+    values[2] = uname.len as u64;
+    values[3] = aname.start as u64;
+    values[4] = aname.len as u64;
+    values[5] = m.n_uname as u64;
 }
 
 pub fn tauth_of(v: [u64; WIDTH_T]) -> Tauth
@@ -113,15 +103,13 @@ pub fn tauth_of(v: [u64; WIDTH_T]) -> Tauth
     }
 }
 
-pub fn flat_rauth(m: Rauth) -> [u64; WIDTH_R]
-    ensures { λ r. ⌜ r ≡ flat widthR (rauth m) ⌝ }
+pub fn flat_rauth(m: Rauth, values: &mut [u64; WIDTH_R])
+    ensures { λ _. ⌜ now (values .exit) ≡ stored (now (values .entry)) 0 (flatValues (rauth m)) ⌝ }
 {
     let aqid = m.aqid;
-    let mut v = [0u64; WIDTH_R];
-    v[0] = aqid.ty as u64;
-    v[1] = aqid.version as u64;
-    v[2] = aqid.path;
-    v
+    values[0] = aqid.ty as u64;
+    values[1] = aqid.version as u64;
+    values[2] = aqid.path;
 }
 
 pub fn rauth_of(v: [u64; WIDTH_R]) -> Rauth
@@ -135,25 +123,20 @@ pub fn rauth_of(v: [u64; WIDTH_R]) -> Rauth
     Rauth { aqid }
 }
 
-pub fn flat_tattach(m: Tattach) -> [u64; WIDTH_T]
-    ensures { λ r. ⌜ r ≡ flat widthT (tattach m) ⌝ }
+pub fn flat_tattach(m: Tattach, values: &mut [u64; WIDTH_T])
+    ensures { λ _. ⌜ now (values .exit) ≡ stored (now (values .entry)) 0 (flatValues (tattach m)) ⌝ }
 {
     let fid = m.fid;
     let afid = m.afid;
     let uname = m.uname;
     let aname = m.aname;
-    [
-        fid.0 as u64,
-        afid.0 as u64,
-        uname.start as u64,
-        uname.len as u64,
-        aname.start as u64,
-        aname.len as u64,
-        m.n_uname as u64,
-        0,
-        0,
-        0,
-    ]
+    values[0] = fid.0 as u64;
+    values[1] = afid.0 as u64;
+    values[2] = uname.start as u64;
+    values[3] = uname.len as u64;
+    values[4] = aname.start as u64;
+    values[5] = aname.len as u64;
+    values[6] = m.n_uname as u64;
 }
 
 pub fn tattach_of(v: [u64; WIDTH_T]) -> Tattach
@@ -178,15 +161,13 @@ pub fn tattach_of(v: [u64; WIDTH_T]) -> Tattach
     }
 }
 
-pub fn flat_rattach(m: Rattach) -> [u64; WIDTH_R]
-    ensures { λ r. ⌜ r ≡ flat widthR (rattach m) ⌝ }
+pub fn flat_rattach(m: Rattach, values: &mut [u64; WIDTH_R])
+    ensures { λ _. ⌜ now (values .exit) ≡ stored (now (values .entry)) 0 (flatValues (rattach m)) ⌝ }
 {
     let qid = m.qid;
-    let mut v = [0u64; WIDTH_R];
-    v[0] = qid.ty as u64;
-    v[1] = qid.version as u64;
-    v[2] = qid.path;
-    v
+    values[0] = qid.ty as u64;
+    values[1] = qid.version as u64;
+    values[2] = qid.path;
 }
 
 pub fn rattach_of(v: [u64; WIDTH_R]) -> Rattach
@@ -200,13 +181,11 @@ pub fn rattach_of(v: [u64; WIDTH_R]) -> Rattach
     Rattach { qid }
 }
 
-pub fn flat_tflush(m: Tflush) -> [u64; WIDTH_T]
-    ensures { λ r. ⌜ r ≡ flat widthT (tflush m) ⌝ }
+pub fn flat_tflush(m: Tflush, values: &mut [u64; WIDTH_T])
+    ensures { λ _. ⌜ now (values .exit) ≡ stored (now (values .entry)) 0 (flatValues (tflush m)) ⌝ }
 {
     let oldtag = m.oldtag;
-    let mut v = [0u64; WIDTH_T];
-    v[0] = oldtag.0 as u64;
-    v
+    values[0] = oldtag.0 as u64;
 }
 
 pub fn tflush_of(v: [u64; WIDTH_T]) -> Tflush
@@ -216,13 +195,11 @@ pub fn tflush_of(v: [u64; WIDTH_T]) -> Tflush
     Tflush { oldtag }
 }
 
-pub fn flat_tclunk(m: Tclunk) -> [u64; WIDTH_T]
-    ensures { λ r. ⌜ r ≡ flat widthT (tclunk m) ⌝ }
+pub fn flat_tclunk(m: Tclunk, values: &mut [u64; WIDTH_T])
+    ensures { λ _. ⌜ now (values .exit) ≡ stored (now (values .entry)) 0 (flatValues (tclunk m)) ⌝ }
 {
     let fid = m.fid;
-    let mut v = [0u64; WIDTH_T];
-    v[0] = fid.0 as u64;
-    v
+    values[0] = fid.0 as u64;
 }
 
 pub fn tclunk_of(v: [u64; WIDTH_T]) -> Tclunk
@@ -232,12 +209,10 @@ pub fn tclunk_of(v: [u64; WIDTH_T]) -> Tclunk
     Tclunk { fid }
 }
 
-pub fn flat_rlerror(m: Rlerror) -> [u64; WIDTH_R]
-    ensures { λ r. ⌜ r ≡ flat widthR (rlerror m) ⌝ }
+pub fn flat_rlerror(m: Rlerror, values: &mut [u64; WIDTH_R])
+    ensures { λ _. ⌜ now (values .exit) ≡ stored (now (values .entry)) 0 (flatValues (rlerror m)) ⌝ }
 {
-    let mut v = [0u64; WIDTH_R];
-    v[0] = m.ecode as u64;
-    v
+    values[0] = m.ecode as u64;
 }
 
 pub fn rlerror_of(v: [u64; WIDTH_R]) -> Rlerror

@@ -13,27 +13,20 @@ use strings::Span;
 ghost use mathlib.Core.Path.{_≡_};
 ghost use Rattle.layouts.specs.Tables.{layoutTwalk, layoutRwalk};
 ghost use Rattle.common.specs.Records.{twalk, rwalk};
-ghost use Rattle.flat.specs.Flat.{flat, fieldValues, widthT, widthR};
+ghost use Rattle.flat.specs.Flat.{flatValues, stored, fieldValues};
 
-pub fn flat_twalk(m: Twalk) -> [u64; WIDTH_T]
-    ensures { λ r. ⌜ r ≡ flat widthT (twalk m) ⌝ }
+pub fn flat_twalk(m: Twalk, values: &mut [u64; WIDTH_T])
+    ensures { λ _. ⌜ now (values .exit) ≡ stored (now (values .entry)) 0 (flatValues (twalk m)) ⌝ }
 {
     let fid = m.fid;
     let newfid = m.newfid;
     let wnames = m.wnames;
     let elements = wnames.elements;
-    [
-        fid.0 as u64,
-        newfid.0 as u64,
-        wnames.count as u64,
-        elements.start as u64,
-        elements.len as u64,
-        0,
-        0,
-        0,
-        0,
-        0,
-    ]
+    values[0] = fid.0 as u64;
+    values[1] = newfid.0 as u64;
+    values[2] = wnames.count as u64;
+    values[3] = elements.start as u64;
+    values[4] = elements.len as u64;
 }
 
 pub fn twalk_of(v: [u64; WIDTH_T]) -> Twalk
@@ -56,16 +49,14 @@ pub fn twalk_of(v: [u64; WIDTH_T]) -> Twalk
     }
 }
 
-pub fn flat_rwalk(m: Rwalk) -> [u64; WIDTH_R]
-    ensures { λ r. ⌜ r ≡ flat widthR (rwalk m) ⌝ }
+pub fn flat_rwalk(m: Rwalk, values: &mut [u64; WIDTH_R])
+    ensures { λ _. ⌜ now (values .exit) ≡ stored (now (values .entry)) 0 (flatValues (rwalk m)) ⌝ }
 {
     let wqids = m.wqids;
     let elements = wqids.elements;
-    let mut v = [0u64; WIDTH_R];
-    v[0] = wqids.count as u64;
-    v[1] = elements.start as u64;
-    v[2] = elements.len as u64;
-    v
+    values[0] = wqids.count as u64;
+    values[1] = elements.start as u64;
+    values[2] = elements.len as u64;
 }
 
 pub fn rwalk_of(v: [u64; WIDTH_R]) -> Rwalk

@@ -8,29 +8,24 @@ use numbers::Place;
 use numbers::Refusal;
 ghost use Rattle.layouts.specs.Tables.{tableR};
 ghost use Rattle.framing.specs.Frames.{readFrame, refusedWhole};
-ghost use Rattle.flat.specs.Flat.{widthR};
 ghost use Rattle.exports.specs.Frames.{FrameRead, FlatWrote};
 
 // What `frames::read_rframe` answers, as `request_exports` has it for requests; but a reply whose body is refused is refused whole, and has no
 // tag.
 #[no_mangle]
 pub extern "C" fn sheafsledge_read_rframe(bytes: &[u8], values: &mut [u64; WIDTH_R]) -> Outcome
-    ensures { λ r. ⌜ FrameRead widthR (refusedWhole (readFrame tableR (now (bytes .entry)))) (now (values .exit)) r ⌝ }
+    ensures { λ r. ⌜ FrameRead (refusedWhole (readFrame tableR (now (bytes .entry)))) (now (values .entry)) (now (values .exit)) r ⌝ }
 {
     let head = framing::read_header(bytes);
     match head {
         Head::Held(n, ty, tag) => {
             let next = flat_replies::read_flat(&bytes[..n], ty, Place::At(framing::BODY), values);
             let Place::At(_) = next else {
-                *values = [0u64; WIDTH_R];
                 return exports::ended(next);
             };
             exports::outcome_of(ty, tag, true, next)
         }
-        Head::Refused(k) => {
-            *values = [0u64; WIDTH_R];
-            exports::ended(Place::Refused(k))
-        }
+        Head::Refused(k) => exports::ended(Place::Refused(k)),
     }
 }
 

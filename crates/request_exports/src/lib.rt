@@ -8,29 +8,21 @@ use numbers::Place;
 use numbers::Refusal;
 ghost use Rattle.layouts.specs.Tables.{tableT};
 ghost use Rattle.framing.specs.Frames.{readFrame};
-ghost use Rattle.flat.specs.Flat.{widthT};
 ghost use Rattle.exports.specs.Frames.{FrameRead, FlatWrote};
 
-// What `frames::read_tframe` answers. A record goes flat in the arm that reads it, and through no enum; where the frame is refused, all its
-// values are 0. If its body is, it still has its tag.
+// What `frames::read_tframe` answers. A record goes flat in the arm that reads it, and through no enum; where the frame is refused, the
+// values are as they were. If its body is, it still has its tag.
 #[no_mangle]
 pub extern "C" fn sheafsledge_read_tframe(bytes: &[u8], values: &mut [u64; WIDTH_T]) -> Outcome
-    ensures { λ r. ⌜ FrameRead widthT (readFrame tableT (now (bytes .entry))) (now (values .exit)) r ⌝ }
+    ensures { λ r. ⌜ FrameRead (readFrame tableT (now (bytes .entry))) (now (values .entry)) (now (values .exit)) r ⌝ }
 {
     let head = framing::read_header(bytes);
     match head {
         Head::Held(n, ty, tag) => {
             let next = flat_requests::read_flat(&bytes[..n], ty, Place::At(framing::BODY), values);
-            let Place::At(_) = next else {
-                *values = [0u64; WIDTH_T];
-                return exports::outcome_of(0, tag, true, next);
-            };
             exports::outcome_of(ty, tag, true, next)
         }
-        Head::Refused(k) => {
-            *values = [0u64; WIDTH_T];
-            exports::ended(Place::Refused(k))
-        }
+        Head::Refused(k) => exports::ended(Place::Refused(k)),
     }
 }
 

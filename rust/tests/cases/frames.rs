@@ -1,10 +1,7 @@
 //! A frame read and written from flat values.
 
 use crate::boundary::*;
-use crate::{ended, listed};
-
-/// What lent values hold before, so that one that is not written is seen.
-const UNWRITTEN: u64 = 0xeeee_eeee_eeee_eeee;
+use crate::{ended, listed, BEFORE};
 
 fn read_t(bytes: &[u8], values: &mut [u64; T_VALUES]) -> Outcome {
     // SAFETY: pointer and count are a slice's, and the values are borrowed alone. The library is
@@ -43,7 +40,7 @@ fn head(read: Outcome) -> String {
 
 /// A request read, and written from what was read.
 pub fn request(out: &mut [u8], bytes: &[u8]) -> String {
-    let mut values = [UNWRITTEN; T_VALUES];
+    let mut values = [BEFORE; T_VALUES];
     let r = read_t(bytes, &mut values);
     let wrote = write_t(out, bytes, (r.refusal, r.ty, r.tag), &values);
     format!("{} {} {}", head(r), listed(&values), ended(wrote))
@@ -51,7 +48,7 @@ pub fn request(out: &mut [u8], bytes: &[u8]) -> String {
 
 /// A reply, in the same way; where it is refused, there is no tag.
 pub fn reply(out: &mut [u8], bytes: &[u8]) -> String {
-    let mut values = [UNWRITTEN; R_VALUES];
+    let mut values = [BEFORE; R_VALUES];
     let r = read_r(bytes, &mut values);
     let wrote = write_r(out, bytes, (r.refusal, r.ty, r.tag), &values);
     format!("{} {} {}", head(r), listed(&values), ended(wrote))

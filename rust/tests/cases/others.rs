@@ -1,10 +1,7 @@
 //! Directory entries, walks, stretches and pairs.
 
 use crate::boundary::*;
-use crate::{ended, listed};
-
-/// What lent values hold before, so that one that is not written is seen.
-const BEFORE: u64 = 238;
+use crate::{ended, listed, BEFORE};
 
 /// The most rows that a table has here.
 const ROWS: usize = 65_536;
@@ -78,7 +75,11 @@ pub fn step(at: usize, bytes: &[u8]) -> String {
     // SAFETY: as in `entry`.
     let step = unsafe { sheafsledge_frame_at(bytes.as_ptr(), bytes.len(), at) };
     let (held, ty, tag) = (u8::from(step.held), step.ty, step.tag);
-    format!("{} {held} {ty} {tag}", ended(step))
+    let ended = match step.refusal {
+        0 => ended(step),
+        _ => format!("{} {}", ended(step), step.place),
+    };
+    format!("{ended} {held} {ty} {tag}")
 }
 
 /// Whether a reply answers a request, each told by its type and its tag.

@@ -1,6 +1,6 @@
 //! What Rust calls: records laid flat and put together, bodies read flat and written from flat values.
 
-use crate::names::{closed, numbered, uses, Occurrences, NOTHING};
+use crate::names::{closed, closed_short, numbered, uses, Occurrences, NOTHING};
 use crate::records::{layouts, type_uses};
 use crate::table::{Direction, Field, Kind, Message, Table};
 use crate::Files;
@@ -21,6 +21,22 @@ pub fn write(table: &Table, files: &mut Files) {
             format!("crates/{krate}/src/lib.rt"),
             bodies(table, direction, &rows),
         );
+        for family in table.families(|_| true) {
+            let held = held(table, direction, &family);
+            files.put(
+                format!("crates/{krate}/src/{family}.rt"),
+                readers(direction, &family, &held),
+            );
+            for m in held {
+                files.put(
+                    format!(
+                        "crates/{krate}/proofs/{family}/read_{}/Proof.antt",
+                        m.small()
+                    ),
+                    reader_proof(krate, m),
+                );
+            }
+        }
         files.put(
             format!("crates/{krate}/proofs/read_flat/Proof.antt"),
             read_proof(direction, krate, &rows),
@@ -62,7 +78,7 @@ fn family_source(table: &Table, family: &str) -> String {
     let directions = [Direction::T, Direction::R]
         .into_iter()
         .filter(|d| rows.iter().any(|m| m.direction == *d));
-    text += &constants(&rows, directions.clone());
+    text += &constants(&rows, directions);
     let mut lines = type_uses(&rows);
     // A part holds a span.
     if lines.contains("use fields::Part;") {
@@ -93,13 +109,9 @@ fn family_source(table: &Table, family: &str) -> String {
             );
         }
     }
-    let widths: String = directions
-        .map(|d| format!(", width{}", d.letter()))
-        .collect();
-    text += &format!("ghost use Rattle.flat.specs.Flat.{{flat, fieldValues{widths}}};\n");
+    text += "ghost use Rattle.flat.specs.Flat.{flatValues, stored, fieldValues};\n";
     for row in rows {
-        let room = room(table, row.direction);
-        text += &format!("\n{}\n{}", flattened(row, room), put_together(row));
+        text += &format!("\n{}\n{}", flattened(row), put_together(row));
     }
     text
 }
@@ -147,17 +159,9 @@ fn values(f: &Field) -> Vec<String> {
     }
 }
 
-/// How many values hold any body of the direction.
-fn room(table: &Table, direction: Direction) -> usize {
-    let rows = table.by_number(direction);
-    let counts = rows.iter().map(|m| m.fields.iter().map(count).sum());
-    counts.max().unwrap_or(0)
-}
-
-fn flattened(m: &Message, room: usize) -> String {
-    let (record, small) = (m.record(), m.small());
-    let (d, width) = (m.direction.letter(), m.direction.width());
-    let mut text = format!("pub fn flat_{small}(m: {record}) -> [u64; {width}]\n    ensures {{ λ r. ⌜ r ≡ flat width{d} ({small} m) ⌝ }}\n{{\n");
+fn flattened(m: &Message) -> String {
+    let (record, small, width) = (m.record(), m.small(), m.direction.width());
+    let mut text = format!("pub fn flat_{small}(m: {record}, values: &mut [u64; {width}])\n    ensures {{ λ _. ⌜ now (values .exit) ≡ stored (now (values .entry)) 0 (flatValues ({small} m)) ⌝ }}\n{{\n");
     for f in &m.fields {
         if !matches!(f.kind, Kind::Number(_)) {
             text += &format!("    let {0} = m.{0};\n", f.name);
@@ -166,17 +170,11 @@ fn flattened(m: &Message, room: usize) -> String {
             text += &format!("    let elements = {}.elements;\n", f.name);
         }
     }
-    let mut all: Vec<String> = m.fields.iter().flat_map(values).collect();
-    // A literal is cheaper to prove than stores, but reads badly where most of it is zeros.
-    if all.len() * 2 >= room {
-        all.resize(room, "0".to_string());
-        return text + &format!("    [{}]\n}}\n", all.join(", "));
+    let all = m.fields.iter().flat_map(values);
+    for (i, value) in all.enumerate() {
+        text += &format!("    values[{i}] = {value};\n");
     }
-    text += &format!("    let mut v = [0u64; {width}];\n");
-    for (i, value) in all.iter().enumerate() {
-        text += &format!("    v[{i}] = {value};\n");
-    }
-    text + "    v\n}\n"
+    text + "}\n"
 }
 
 /// A value narrowed to a number of so many bytes.
@@ -234,59 +232,152 @@ fn put_together(m: &Message) -> String {
     text + &format!("    {record} {{ {} }}\n}}\n", fields.join(", "))
 }
 
+// ---- a record read flat
+
+/// The messages of a direction and a family that hold something.
+fn held<'a>(table: &'a Table, direction: Direction, family: &str) -> Vec<&'a Message> {
+    let rows = table.messages.iter();
+    rows.filter(|m| m.direction == direction && m.family == family && !m.is_empty())
+        .collect()
+}
+
+/// How many bytes a message has that is numbers alone.
+fn fixed(m: &Message) -> Option<usize> {
+    let bytes = |f: &Field| match f.kind {
+        Kind::Qid => Some(13),
+        kind => kind.width().map(usize::from),
+    };
+    m.fields.iter().map(bytes).sum()
+}
+
+fn readers(direction: Direction, family: &str, rows: &[&Message]) -> String {
+    let many = match direction {
+        Direction::T => "Requests",
+        Direction::R => "Replies",
+    };
+    let mut text = format!(
+        "// {many} of {family}, each read flat at a place.
+
+use flat::{};
+use numbers::Place;
+ghost use mathlib.Core.Option.{{some}};
+ghost use Rattle.layouts.specs.Tables.{{{}}};
+ghost use Rattle.flat.specs.Flat.{{FlatRead}};
+",
+        direction.width(),
+        layouts(rows)
+    );
+    for m in rows {
+        text += &reader(m);
+    }
+    text
+}
+
+fn reader(m: &Message) -> String {
+    let (small, module, family) = (m.small(), m.module(), &m.family);
+    let (read, next, fields) = match fixed(m) {
+        // The one test stands before what is read, so that nothing that was read has to wait for the last field's.
+        Some(bytes) => (
+            String::new(),
+            format!("flat::skip(s, p, {bytes})"),
+            format!("    let r = {module}::read_{small}(s, p);\n"),
+        ),
+        None => (
+            format!("    let r = {module}::read_{small}(s, p);\n"),
+            "r.next".to_string(),
+            String::new(),
+        ),
+    };
+    format!(
+        "
+pub(crate) fn read_{small}(s: &[u8], p: Place, values: &mut [u64; {}]) -> Place
+    ensures {{ λ r. ⌜ FlatRead (some {}) (now (s .entry)) p (now (values .entry)) (now (values .exit)) r ⌝ }}
+{{
+{read}    let next = {next};
+    let Place::At(_) = next else {{
+        return next;
+    }};
+{fields}    let m = r.value;
+    flat::{family}::flat_{small}(m, values);
+    next
+}}
+",
+        m.direction.width(),
+        m.layout()
+    )
+}
+
+fn reader_proof(krate: &str, m: &Message) -> String {
+    let small = m.small();
+    let mut text = "-- Refused, the lent values are as they were; accepted, the record's stand at their front.\nuse borrow.Author.Needs.{needs}\n".to_string();
+    text += match fixed(m) {
+        Some(_) => "use mathlib.Core.Path.{refl}\nuse Rattle.flat.specs.FlatLaws.{flat-known, flat-refused, fields-skipped}\n",
+        None => "use Rattle.flat.specs.FlatLaws.{flat-known, flat-refused}\n",
+    };
+    text += &uses(krate, &format!("{}.read_{small}", m.family));
+    for need in ["enum-told", "enum-told-2"] {
+        text += &format!("\n{need} : tie.Need-{need}\n{need} c = search needs\n");
+    }
+    text += "\nreturns : tie.Need-returns\nreturns c = ";
+    let mut asked = vec![NOTHING; 5];
+    (asked[1], asked[2], asked[3]) = ("enum-told", "enum-told-2", "returns");
+    text += &match fixed(m) {
+        Some(_) => {
+            asked.push(NOTHING);
+            format!("flat-refused (fields-skipped refl refl (c .before .before .skip .ensures) refl) (c .enum-told2 .given .1)
+
+returns-2 : tie.Need-returns-2
+returns-2 c =
+    let r = c .before .before .before in
+    let n = r .before in
+    flat-known (fields-skipped refl refl (n .before .before .skip .ensures) (r .read-{small} .ensures .values)) (n .enum-told .given .1) (c .flat-{small} .ensures)
+
+")
+        }
+        None => format!("flat-refused (c .before .before .read-{small} .ensures) (c .enum-told2 .given .1)
+
+returns-2 : tie.Need-returns-2
+returns-2 c =
+    let n = c .before .before .before in
+    flat-known (n .before .before .read-{small} .ensures) (n .enum-told .given .1) (c .flat-{small} .ensures)
+
+"),
+    };
+    asked.push("returns-2");
+    let asked: Vec<String> = asked.into_iter().map(String::from).collect();
+    text + &closed_short(&format!("read-{small}"), &asked)
+}
+
 // ---- bodies
 
 fn bodies(table: &Table, direction: Direction, rows: &[&Message]) -> String {
-    let has_empty = rows.iter().any(|m| m.is_empty());
-    let mut text = bodies_head(table, direction, rows.len(), has_empty);
-    if has_empty {
-        text += &no_values(direction);
-    }
-    text + &read_flat(direction, rows, has_empty) + &write_flat(direction, rows)
+    bodies_head(table, direction, rows.len())
+        + &read_flat(direction, rows)
+        + &write_flat(direction, rows)
 }
 
-fn bodies_head(table: &Table, direction: Direction, count: usize, has_empty: bool) -> String {
+fn bodies_head(table: &Table, direction: Direction, count: usize) -> String {
     let (d, many, width) = (direction.letter(), direction.enums(), direction.width());
     let mut families = table.families(|_| true);
     families.sort();
     let families: String = families
         .iter()
-        .map(|family| format!("use flat::{family};\n"))
+        .map(|family| format!("mod {family};\n"))
         .collect();
-    let (list, flat) = match has_empty {
-        true => ("ghost use mathlib.Core.List.{[]};\n", "flat, "),
-        false => ("", ""),
-    };
     format!(
         "// The {count} {many}, read flat and written from flat values, by their type number.
 
-{families}use flat::{width};
+{families}
+use flat::{width};
 use numbers::Place;
 use numbers::Refusal;
-ghost use mathlib.Core.Path.{{_≡_}};
-{list}ghost use Rattle.layouts.specs.Tables.{{lookup, table{d}}};
-ghost use Rattle.flat.specs.Flat.{{{flat}FlatRead, FlatWritten, width{d}}};
+ghost use Rattle.layouts.specs.Tables.{{lookup, table{d}}};
+ghost use Rattle.flat.specs.Flat.{{FlatRead, FlatWritten}};
 "
     )
 }
 
-fn no_values(direction: Direction) -> String {
-    let (d, width) = (direction.letter(), direction.width());
-    format!(
-        "
-// The values of a body that has none.
-fn no_values(next: Place, values: &mut [u64; {width}]) -> Place
-    ensures {{ λ r. ⌜ r ≡ next ⌝ }}
-    ensures {{ λ r. ⌜ now (values .exit) ≡ flat width{d} [] ⌝ }}
-{{
-    *values = [0u64; {width}];
-    next
-}}
-"
-    )
-}
-
-fn read_flat(direction: Direction, rows: &[&Message], has_empty: bool) -> String {
+fn read_flat(direction: Direction, rows: &[&Message]) -> String {
     let (d, small, width, enums) = (
         direction.letter(),
         direction.small(),
@@ -294,22 +385,16 @@ fn read_flat(direction: Direction, rows: &[&Message], has_empty: bool) -> String
         direction.enums(),
     );
     let arms: String = rows.iter().map(|m| read_arm(m)).collect();
-    let rest = match has_empty {
-        true => "no_values(Place::Refused(Refusal::UnknownType), values),".to_string(),
-        false => format!(
-            "{{\n            *values = [0u64; {width}];\n            Place::Refused(Refusal::UnknownType)\n        }}"
-        ),
-    };
     format!(
         "
-// A body read flat at a place: its values, 0 from a refused field on, go to where the caller has room for them; the place after its
-// fields is answered, or the refusal. The type decides the body, as in `{enums}::read_{small}message`; but its record goes flat at once, and
-// through no enum that would have to be told apart again.
+// A body read flat at a place: its values go to the front of what the caller lends for them, and the place after its fields is answered;
+// refused, what was lent is as it was. The type decides the body, as in `{enums}::read_{small}message`; but its record goes flat at once,
+// and through no enum that would have to be told apart again.
 pub fn read_flat(s: &[u8], ty: u8, p: Place, values: &mut [u64; {width}]) -> Place
-    ensures {{ λ r. ⌜ FlatRead width{d} (lookup table{d} ty) (now (s .entry)) p (now (values .exit)) r ⌝ }}
+    ensures {{ λ r. ⌜ FlatRead (lookup table{d} ty) (now (s .entry)) p (now (values .entry)) (now (values .exit)) r ⌝ }}
 {{
     match ty {{
-{arms}        _ => {rest}
+{arms}        _ => Place::Refused(Refusal::UnknownType),
     }}
 }}
 "
@@ -340,81 +425,46 @@ fn write_arm(m: &Message) -> String {
     match m.is_empty() {
         true => format!("        {n} => laying::begun(p, p, out.len()),\n"),
         false => format!(
-            "        {n} => {module}::write_{small}(out, p, lent, {family}::{small}_of(v)),\n"
+            "        {n} => {module}::write_{small}(out, p, lent, flat::{family}::{small}_of(v)),\n"
         ),
     }
 }
 
 fn read_arm(m: &Message) -> String {
-    let (n, small) = (m.number, m.small());
+    let (n, small, family) = (m.number, m.small(), &m.family);
     match m.is_empty() {
-        true => format!("        {n} => no_values(p, values),\n"),
-        false => format!(
-            "        {n} => {{
-            let r = {}::read_{small}(s, p);
-            let m = r.value;
-            let next = r.next;
-            *values = {}::flat_{small}(m);
-            next
-        }}
-",
-            m.module(),
-            m.family
-        ),
+        true => format!("        {n} => p,\n"),
+        false => format!("        {n} => {family}::read_{small}(s, p, values),\n"),
     }
 }
 
 fn read_proof(direction: Direction, krate: &str, rows: &[&Message]) -> String {
     let d = direction.letter();
-    let has_empty = rows.iter().any(|m| m.is_empty());
     let mut text =
-        "-- Each arm is the row of its number, laid flat; the rest is a number that has no row.\n"
+        "-- Each arm is the row of its number, read flat; the rest is a number that has no row.\n"
             .to_string();
-    text += match has_empty {
-        true => "use Rattle.fields.specs.Fields.{valuesAt, pastFields}\n",
-        false => "use mathlib.Core.Path.{refl}\n",
+    let empty = match rows.iter().any(|m| m.is_empty()) {
+        true => "flat-empty, ",
+        false => "",
     };
-    text += &format!("use Rattle.layouts.specs.Tables.{{table{d}}}\nuse Rattle.flat.specs.FlatLaws.{{flat-known, flat-unknown}}\n");
+    text += &format!("use mathlib.Core.Path.{{refl}}\nuse Rattle.layouts.specs.Tables.{{table{d}}}\nuse Rattle.flat.specs.FlatLaws.{{{empty}flat-unknown}}\n");
     text += &uses(krate, "read_flat");
-    let mut calls = Occurrences::default();
     let mut asked = vec![];
     let mut answers = vec![];
     for (i, m) in rows.iter().enumerate() {
-        let (need, small) = (numbered("returns", i + 1), m.small());
-        text += &format!("\n{need} : tie.Need-{need}\n");
-        match m.is_empty() {
-            true => {
-                let call = calls.next("no-values");
-                text += &format!(
-                    "unfolding valuesAt pastFields\n{need} c = rw (c .before .before .match .keys{}) (record {{ values = c .{call} .ensures .1; next = c .{call} .ensures .0 }})\n",
-                    i + 1
-                );
-                asked.push(NOTHING.to_string());
-            }
+        let (need, small, key) = (numbered("returns", i + 1), m.small(), i + 1);
+        text += &format!("\n{need} : tie.Need-{need}\n{need} c = ");
+        text += &match m.is_empty() {
+            true => format!("rw (c .match .keys{key}) (flat-empty _)\n"),
             false => {
-                text += &format!(
-                    "{need} c =\n    let r = c .before .before in\n    rw (r .before .match .keys{}) (flat-known (r .read-{small} .ensures) (c .flat-{small} .ensures))\n",
-                    i + 1
-                );
-                asked.extend([NOTHING.to_string(), NOTHING.to_string()]);
+                asked.push(NOTHING.to_string());
+                format!("rw (c .before .before .match .keys{key}) (c .read-{small} .ensures)\n")
             }
-        }
+        };
         answers.push(need);
     }
     let need = numbered("returns", rows.len() + 1);
-    text += &format!("\n{need} : tie.Need-{need}\n");
-    match has_empty {
-        true => {
-            let call = calls.next("no-values");
-            text += &format!("{need} c = flat-unknown table{d} _ (c .before .before .match .rest) (c .{call} .ensures .1) (c .{call} .ensures .0)\n\n");
-            asked.push(NOTHING.to_string());
-        }
-        false => {
-            text += &format!(
-                "{need} c = flat-unknown table{d} _ (c .before .match .rest) refl refl\n\n"
-            )
-        }
-    }
+    text += &format!("\n{need} : tie.Need-{need}\n{need} c = flat-unknown table{d} _ (c .match .rest) refl\n\n");
     answers.push(need);
     asked.extend(answers);
     text + &closed("read-flat", &asked)

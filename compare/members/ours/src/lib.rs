@@ -14,7 +14,8 @@ pub type Told<const N: usize> = (Outcome, [u64; N]);
 /// What lent values are before a reading, so that one which is not written is seen.
 pub const UNWRITTEN: u64 = u64::MAX;
 
-/// An answer of either direction. A request has 10 values and a reply 22; what is after them is 0.
+/// An answer of either direction. A request has 10 values and a reply 22; what is after them stays
+/// unwritten, as do those that the frame's type does not have.
 #[derive(Clone, Debug, Default, PartialEq, Eq)]
 pub struct Flat {
     pub outcome: Outcome,
@@ -32,7 +33,7 @@ pub type CrossedT = Crossed<T_VALUES>;
 pub type CrossedR = Crossed<R_VALUES>;
 
 impl<const N: usize> Crossed<N> {
-    /// As if another frame had been read there: each value has to be set anew.
+    /// As if another frame had been read there.
     fn used() -> Self {
         Self {
             outcome: Outcome::default(),
@@ -188,7 +189,7 @@ pub fn answers(request: (u8, u16), reply: (u8, u16)) -> bool {
 
 impl<const N: usize> From<Crossed<N>> for Flat {
     fn from(frame: Crossed<N>) -> Self {
-        let mut values = [0; R_VALUES];
+        let mut values = [UNWRITTEN; R_VALUES];
         values[..N].copy_from_slice(&frame.values);
         let outcome = frame.outcome;
         Self { outcome, values }

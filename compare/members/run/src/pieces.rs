@@ -2,7 +2,7 @@
 
 use std::borrow::Cow;
 
-use ours::R_VALUES;
+use ours::{R_VALUES, UNWRITTEN};
 use p9::draw::Draws;
 use p9::flat::Value;
 use p9::protocol::WireFormat;
@@ -85,7 +85,8 @@ pub fn lent(pieces: &[Piece], draws: &mut Draws) -> (Vec<u8>, Vec<usize>) {
     (lent, places)
 }
 
-/// The values in the layout's order (F3.2), the spans at these places.
+/// The values in the layout's order (F3.2), the spans at these places; those that the type does not
+/// have stay unwritten.
 pub fn values(pieces: &[Piece], places: &[usize]) -> [u64; R_VALUES] {
     let mut values = Vec::with_capacity(R_VALUES);
     for (piece, place) in pieces.iter().zip(places) {
@@ -99,7 +100,7 @@ pub fn values(pieces: &[Piece], places: &[usize]) -> [u64; R_VALUES] {
             }
         }
     }
-    values.resize(R_VALUES, 0);
+    values.resize(R_VALUES, UNWRITTEN);
     values.try_into().expect("no record has more values")
 }
 

@@ -78,7 +78,7 @@ fn step(bytes: &[u8], at: usize) -> Step {
         return (told(0, at), None);
     }
     match whole(bytes.get(at..).unwrap_or_default()) {
-        Err(refusal) => (told(refusal, 0), None),
+        Err(refusal) => (told(refusal, at), None),
         Ok(frame) => {
             let ty = frame[4];
             let step = Told {

@@ -6,7 +6,7 @@ use std::sync::LazyLock;
 use judge::cases::{drawn, types, DIRECTIONS};
 use judge::refusal::number;
 use judge::{written, Direction};
-use ours::{Flat, Outcome, R_VALUES};
+use ours::{Flat, Outcome, R_VALUES, UNWRITTEN};
 use p9::draw::Draws;
 use p9::flat::Value;
 use p9::protocol::{Qid, Rframe, Tframe, WireFormat};
@@ -136,7 +136,7 @@ pub fn refusal(error: &io::Error) -> u8 {
 
 /// No frame, and no tag.
 pub fn refused(refusal: u8) -> Theirs {
-    let (outcome, values) = (compare::told(refusal, 0), [0; R_VALUES]);
+    let (outcome, values) = (compare::told(refusal, 0), [UNWRITTEN; R_VALUES]);
     Theirs {
         flat: Flat { outcome, values },
         shown: true,

@@ -1,10 +1,11 @@
 -- The header can't be read, the body is refused and the frame with it, or it is accepted.
 use borrow.Author.Needs.{needs}
-use mathlib.Core.Path.{refl, sym}
+use mathlib.Core.Path.{refl, sym, ap, _∙_}
 use lib.Seq.{length-take-le}
 use Rattle.numbers.specs.Numbers.{bytes-all}
 use Rattle.framing.specs.HeaderLaws.{head-yes}
-use Rattle.exports.specs.FrameReading.{replies, headless-read, frame-read, body-failed}
+use Rattle.exports.specs.Answers.{ended}
+use Rattle.exports.specs.FrameReading.{flatReplies, headless-read, frame-read, body-failed}
 use Rattle.reply_exports.proofs.sheafsledge_read_rframe.Statement.{statement}
 use Rattle.reply_exports.proofs.sheafsledge_read_rframe.Tie as tie
 
@@ -27,12 +28,12 @@ enum-told-2 c = search needs
 
 returns : tie.Need-returns
 returns c =
-    let q = c .before .before in
+    let q = c .before in
     let f = q .before .before in
     let d = f .before .before .before .before in
     let e = d .before .before in
     let b = bytes-all (e .before .before .args .bytes .now) (λ i. e .before .shared-slice-known .given i .fits) in
-    body-failed replies _ (e .read-header .ensures) b (d .head .given .1) (f .read-flat .ensures) (q .enum-told2 .given .1) (c .ended .ensures) refl
+    body-failed flatReplies _ (e .read-header .ensures) b (d .head .given .1) (f .read-flat .ensures) (q .enum-told2 .given .1) (c .ended .ensures ∙ ap ended (q .enum-told2 .given .1))
 
 returns-2 : tie.Need-returns-2
 returns-2 c =
@@ -41,12 +42,12 @@ returns-2 c =
     let d = f .before .before .before .before in
     let e = d .before .before in
     let b = bytes-all (e .before .before .args .bytes .now) (λ i. e .before .shared-slice-known .given i .fits) in
-    frame-read replies _ (e .read-header .ensures) b (d .head .given .1) (f .read-flat .ensures) (q .enum-told .given .1) (c .outcome-of .ensures)
+    frame-read flatReplies _ (e .read-header .ensures) b (d .head .given .1) (f .read-flat .ensures) (q .enum-told .given .1) (c .outcome-of .ensures)
 
 returns-3 : tie.Need-returns-3
 returns-3 c =
-    let d = c .before .before .before in
-    headless-read replies _ (d .before .before .read-header .ensures) (d .head2 .given .1) (c .ended2 .ensures) refl
+    let d = c .before .before in
+    headless-read flatReplies _ (d .before .before .read-header .ensures) (d .head2 .given .1) (c .ended2 .ensures) refl
 
 pub sheafsledge-read-rframe-spec : {M : Type 1} → statement M
 sheafsledge-read-rframe-spec =

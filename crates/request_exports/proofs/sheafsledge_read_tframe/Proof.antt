@@ -1,10 +1,10 @@
--- The header can't be read, the body is refused beside its tag, or it is accepted.
+-- The header can't be read, or the body is read flat, and told beside its tag.
 use borrow.Author.Needs.{needs}
 use mathlib.Core.Path.{refl, sym}
 use lib.Seq.{length-take-le}
 use Rattle.numbers.specs.Numbers.{bytes-all}
 use Rattle.framing.specs.HeaderLaws.{head-yes}
-use Rattle.exports.specs.FrameReading.{requests, headless-read, frame-read, body-failed}
+use Rattle.exports.specs.FrameReading.{flatRequests, headless-read, request-read}
 use Rattle.request_exports.proofs.sheafsledge_read_tframe.Statement.{statement}
 use Rattle.request_exports.proofs.sheafsledge_read_tframe.Tie as tie
 
@@ -19,34 +19,18 @@ slice-aggregate-read-flat c =
     let d = c .before .before in
     sym (length-take-le _ _ (head-yes _ (d .before .before .read-header .ensures) (d .head .given .1) .held))
 
-enum-told : tie.Need-enum-told
-enum-told c = search needs
-
-enum-told-2 : tie.Need-enum-told-2
-enum-told-2 c = search needs
-
 returns : tie.Need-returns
 returns c =
-    let q = c .before .before in
-    let f = q .before .before in
+    let f = c .before in
     let d = f .before .before .before .before in
     let e = d .before .before in
     let b = bytes-all (e .before .before .args .bytes .now) (λ i. e .before .shared-slice-known .given i .fits) in
-    body-failed requests _ (e .read-header .ensures) b (d .head .given .1) (f .read-flat .ensures) (q .enum-told2 .given .1) (c .outcome-of .ensures) refl
+    request-read _ (e .read-header .ensures) b (d .head .given .1) (f .read-flat .ensures) (c .outcome-of .ensures)
 
 returns-2 : tie.Need-returns-2
 returns-2 c =
-    let q = c .before in
-    let f = q .before .before in
-    let d = f .before .before .before .before in
-    let e = d .before .before in
-    let b = bytes-all (e .before .before .args .bytes .now) (λ i. e .before .shared-slice-known .given i .fits) in
-    frame-read requests _ (e .read-header .ensures) b (d .head .given .1) (f .read-flat .ensures) (q .enum-told .given .1) (c .outcome-of2 .ensures)
-
-returns-3 : tie.Need-returns-3
-returns-3 c =
-    let d = c .before .before .before in
-    headless-read requests _ (d .before .before .read-header .ensures) (d .head2 .given .1) (c .ended .ensures) refl
+    let d = c .before .before in
+    headless-read flatRequests _ (d .before .before .read-header .ensures) (d .head2 .given .1) (c .ended .ensures) refl
 
 pub sheafsledge-read-tframe-spec : {M : Type 1} → statement M
 sheafsledge-read-tframe-spec =
@@ -56,12 +40,8 @@ sheafsledge-read-tframe-spec =
     enum-known-head
     slice-aggregate-read-flat
     (λ _ _. tt)
-    enum-told
-    enum-told-2
-    (λ _ _. tt)
-    returns
     (λ _ _. tt)
     enum-known-head-2
     (λ _ _. tt)
-    returns-2
-    returns-3)
+    returns
+    returns-2)

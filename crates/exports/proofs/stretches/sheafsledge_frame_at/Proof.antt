@@ -27,7 +27,7 @@ returns-2 c =
 returns-3 : tie.Need-returns-3
 returns-3 c =
     let d = c .before .before in
-    c .ended2 .ensures ∙ ap stepOutcome (cut-stop _ _ (d .before .before .cut-at .ensures) (d .cut2 .given .1) tableT tableR)
+    c .stopped .ensures ∙ ap stepOutcome (cut-stop _ _ (d .before .before .cut-at .ensures) (d .cut2 .given .1) tableT tableR)
 
 pub sheafsledge-frame-at-spec : {M : Type 1} → statement M
 sheafsledge-frame-at-spec =
