@@ -1,4 +1,5 @@
--- It is safe and ends: the line keeps its room, and the reads that are left fall.
+-- The line keeps its room, and no more is held than there is room for. The measure is how many reads are left.
+use Prim.Native.Nat.{_≤_}
 use mathlib.Core.Path.{_≡_}
 use lib.ListN.{length}
 use borrow.Author.Needs.{needs}
@@ -6,7 +7,7 @@ use Rattle.questions.proofs.next_line.Statement.{statement}
 use Rattle.questions.proofs.next_line.Tie as tie
 
 abbrev Inv-loop : tie.InvT-loop
-Inv-loop line₀ n₀ turns₀ line n turns = length line ≡ length line₀
+Inv-loop line₀ n₀ turns₀ line n turns = (length line ≡ length line₀) × (n ≤ length line₀)
 
 abbrev μ-loop : tie.MeasureT-loop
 μ-loop line₀ n₀ turns₀ line n turns = turns

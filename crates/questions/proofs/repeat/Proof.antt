@@ -1,31 +1,27 @@
--- `questions::repeat` is safe and ends: the output keeps its length, and the index stays below its end.
-use Prim.Native.Nat.{_-_}
-use mathlib.Core.Path.{_≡_}
-use lib.ListN.{length}
+-- The invariant: with the bytes that are still to come, the front is what it shall be. The measure is how many are to come.
+use Prim.Native.Nat.{_≤_, _-_, min}
+use native.Mathlib.Omega.{arith}
+use mathlib.Core.Path.{_≡_, refl, ap, _∙_}
 use borrow.Author.Needs.{needs}
+use lib.ListN.{length, take, drop, length-set}
+use Rattle.questions.specs.Questions.{grown}
+use Rattle.questions.proofs.Loops.{grown-turn, grown-over, after-turn, laid-front}
 use Rattle.questions.proofs.repeat.Statement.{statement}
 use Rattle.questions.proofs.repeat.Tie as tie
 
 abbrev Inv-loop : tie.InvT-loop
-Inv-loop out₀ count most back end i₀ out i = length out ≡ length out₀
+Inv-loop out₀ count most back end i₀ out i =
+    (end ≡ min most (length out₀)) × (length out ≡ length out₀) × (i ≤ length out₀)
+    × (grown (end - i) back (take i out) ≡ grown (end - count) back (take count out₀)) × (drop i out ≡ drop i out₀)
 
 abbrev μ-loop : tie.MeasureT-loop
 μ-loop out₀ count most back end i₀ out i = end - i
 
-min-requires : tie.Need-min-requires Inv-loop μ-loop
-min-requires c κs = search needs
-
 loop-holds : tie.Need-loop-holds Inv-loop μ-loop
-loop-holds c = search needs
+loop-holds c = (search needs, refl, search needs, refl, refl)
 
-min-requires-2 : tie.Need-min-requires-2 Inv-loop μ-loop
-min-requires-2 c κs = search needs
-
-sub-out : tie.Need-sub-out Inv-loop μ-loop
-sub-out c = search needs
-
-slice-read-out : tie.Need-slice-read-out Inv-loop μ-loop
-slice-read-out c = search needs
+earlier-requires : tie.Need-earlier-requires Inv-loop μ-loop
+earlier-requires c κs = search needs
 
 slice-write-out : tie.Need-slice-write-out Inv-loop μ-loop
 slice-write-out c = search needs
@@ -37,28 +33,27 @@ loop-less : tie.Need-loop-less Inv-loop μ-loop
 loop-less c = search needs
 
 loop-again : tie.Need-loop-again Inv-loop μ-loop
-loop-again c = search needs
+loop-again c =
+    let d = c .before .before .before in
+    let a = d .before .before .before .args in
+    let l = d .loop in (
+      search needs,
+      simp length-set (l .inv .1),
+      search needs,
+      grown-turn (l .out) (l .i) (a .back) _ _ (omega arith) (omega arith) (c .earlier .ensures) (l .inv .3),
+      after-turn (a .out .now) (l .out) (l .i) _ (l .inv .4),
+    )
 
 same-length : tie.Need-same-length Inv-loop μ-loop
 same-length c = search needs
 
 returns : tie.Need-returns Inv-loop μ-loop
-returns c = search needs
+returns c =
+    let a = c .before .before .before .before .args in
+    let l = c .before .loop in
+    let e = grown-over (l .i) (a .back) _ (take (l .i) (l .out)) (omega arith) (l .inv .3) in
+    laid-front (a .out .now) (l .out) _ (l .i) (omega arith) (e ∙ ap (λ n. grown (n - a .count) (a .back) (take (a .count) (a .out .now))) (l .inv .0)) (l .inv .4)
 
 pub repeat-spec : {M : Type 1} → statement M
 repeat-spec =
-    tie.close
-    (tie.spec
-    Inv-loop
-    μ-loop
-    min-requires
-    loop-holds
-    min-requires-2
-    sub-out
-    slice-read-out
-    slice-write-out
-    add-i
-    loop-less
-    loop-again
-    same-length
-    returns)
+    tie.close (tie.spec Inv-loop μ-loop (λ _ _. tt) loop-holds earlier-requires slice-write-out add-i loop-less loop-again same-length returns)

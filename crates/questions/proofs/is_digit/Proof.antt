@@ -1,0 +1,13 @@
+-- By its first comparison, or by its second.
+use borrow.Author.Tests.{lt-leb, le-leb}
+use Rattle.questions.proofs.is_digit.Statement.{statement}
+use Rattle.questions.proofs.is_digit.Tie as tie
+
+returns : tie.Need-returns
+returns c = rw (lt-leb 48 _ (c .if1 .taken))
+
+returns-2 : tie.Need-returns-2
+returns-2 c = rw (le-leb 48 _ (c .if1 .left))
+
+pub is-digit-spec : {M : Type 1} → statement M
+is-digit-spec = tie.close (tie.spec returns returns-2)
