@@ -2,5 +2,6 @@ pub mod Text
 pub mod TextLaws
 pub mod AnswerLaws
 pub mod ListLaws
+pub mod RoomLaws
 pub mod Inputs
 pub mod Examples

@@ -20,12 +20,12 @@ use Rattle.stretch.specs.Views.{viewBody, viewStep, Asked}
 use Rattle.stretch.specs.declared.Listed.{Listed}
 use Rattle.stretch.specs.declared.Step.{Step}
 use Rattle.stretch.specs.declared.Step.the-variants as S
-use Rattle.listing.specs.Text.{PutAll, header, endWord, stopWord, numberIn, linePieces, lastPieces, linesFrom, tooLong, LinePut, LastPut, LinesPut, Reported}
+use Rattle.listing.specs.Text.{PiecesPut, header, endWord, stopWord, answerNumber, linePieces, lastPieces, linesFrom, tooLong, LinePut, LastPut, LinesPut, ReportPut}
 use Rattle.listing.specs.TextLaws.{all-none, all-put, all-then}
 
 -- the lines before position `at` are put, n of them: whatever puts those from there on has put the whole
 pub record Upto (s o : List ℕ) (p₀ : Place) (at n : ℕ) (o1 : List ℕ) (p : Place) : Type 0 where
-  pub on : (o2 : List ℕ) (e : Place) → PutAll (linesFrom n (listed tableT tableR s at)) o1 p o2 e → LinesPut s o p₀ o2 e
+  pub on : (o2 : List ℕ) (e : Place) → PiecesPut (linesFrom n (listed tableT tableR s at)) o1 p o2 e → LinesPut s o p₀ o2 e
 
 pub moved : {s : List ℕ} {at : ℕ} {r : Step} (l : Listed) → Asked s at r → r ≡ S.Frame l → Moved tableT tableR s at (l .size) (l .next)
 unfolding viewStep
@@ -57,8 +57,8 @@ module _ {s o : List ℕ} {p₀ : Place} where
 
 -- ---- the report
 
-pub too-long : {s o o1 : List ℕ} {p : Place} → 65536 < length s → Put tooLong o (At 0) o1 p → Reported s o o1 p
+pub too-long : {s o o1 : List ℕ} {p : Place} → 65536 < length s → Put tooLong o (At 0) o1 p → ReportPut s o o1 p
 too-long {s} h a = record { is = rw (lt-ltb 65536 (length s) h) (all-put a all-none) }
 
-pub all-listed : {s o o1 o2 : List ℕ} {p q : Place} → length s ≤ 65536 → Put header o (At 0) o1 p → LinesPut s o1 p o2 q → Reported s o o2 q
+pub all-listed : {s o o1 o2 : List ℕ} {p q : Place} → length s ≤ 65536 → Put header o (At 0) o1 p → LinesPut s o1 p o2 q → ReportPut s o o2 q
 all-listed {s} h a l = record { is = rw (le-ltb 65536 (length s) h) (all-put a (l .is)) }

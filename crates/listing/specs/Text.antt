@@ -7,9 +7,9 @@ use lib.ListN.{length}
 use lib.Dec.{ltb, eqb}
 use Rattle.io.specs.Digits.{digits}
 use Rattle.numbers.specs.Refusals.{numberOf}
-use Rattle.numbers.specs.Places.{putAt, pastPut, Put}
+use Rattle.numbers.specs.Places.{over, putAt, pastPut, Put}
 use Rattle.numbers.specs.declared.Place.{Place}
-use Rattle.numbers.specs.declared.Place.the-variants.{At}
+use Rattle.numbers.specs.declared.Place.the-variants.{At, Refused}
 use Rattle.layouts.specs.Tables.{Row, tableT, tableR}
 use Rattle.layouts.specs.Bodies.{Answer, accepted, refused}
 use Rattle.framing.specs.Stretch.{Listing, entry, ends, stops, listing}
@@ -38,7 +38,7 @@ pastAll [] o p = p
 pastAll (b ∷ bs) o p = pastAll bs (putAt b o p) (pastPut b o p)
 
 -- what putting pieces from p on leaves in the output o, and answers
-pub record PutAll (bs : List (List ℕ)) (o : List ℕ) (p : Place) (o' : List ℕ) (q : Place) : Type 0 where
+pub record PiecesPut (bs : List (List ℕ)) (o : List ℕ) (p : Place) (o' : List ℕ) (q : Place) : Type 0 where
   pub bytes : o' ≡ putAll bs o p
   pub next : q ≡ pastAll bs o p
 
@@ -59,9 +59,9 @@ abbrev pub fieldPieces : ℕ → List ℕ → List (List ℕ)
 fieldPieces n next = decimal n ∷ next ∷ []
 
 -- 0 or the refusal's number (F8.5)
-abbrev pub numberIn : Answer → ℕ
-numberIn (accepted ty vs used) = 0
-numberIn (refused k) = numberOf k
+abbrev pub answerNumber : Answer → ℕ
+answerNumber (accepted ty vs used) = 0
+answerNumber (refused k) = numberOf k
 
 -- `-` where the frame is refused (F8.5)
 abbrev pub tailPieces : ℕ → ℕ → List (List ℕ)
@@ -87,7 +87,7 @@ lastPieces word p n = word ∷ (fieldPieces p space ++ fieldPieces n newline)
 
 -- F8.6: position and frames, or position and refusal
 unfoldable pub linesFrom : ℕ → Listing → List (List ℕ)
-linesFrom n (entry at size ty tag a tail l) = linePieces at size ty tag (numberIn a) tail ++ linesFrom (suc n) l
+linesFrom n (entry at size ty tag a tail l) = linePieces at size ty tag (answerNumber a) tail ++ linesFrom (suc n) l
 linesFrom n (ends p) = lastPieces endWord p n
 linesFrom n (stops k p) = lastPieces stopWord p (numberOf k)
 
@@ -108,21 +108,37 @@ pub record DecimalPut (n : ℕ) (o : List ℕ) (p : Place) (o' : List ℕ) (q : 
   pub is : Put (decimal n) o p o' q
 
 pub record FieldPut (n : ℕ) (next o : List ℕ) (p : Place) (o' : List ℕ) (q : Place) : Type 0 where
-  pub is : PutAll (fieldPieces n next) o p o' q
+  pub is : PiecesPut (fieldPieces n next) o p o' q
 
 pub record TailPut (n tail : ℕ) (o : List ℕ) (p : Place) (o' : List ℕ) (q : Place) : Type 0 where
-  pub is : PutAll (tailPieces n tail) o p o' q
+  pub is : PiecesPut (tailPieces n tail) o p o' q
 
 pub record LinePut (l : Listed) (o : List ℕ) (p : Place) (o' : List ℕ) (q : Place) : Type 0 where
-  pub is : PutAll (linePieces (l .at) (l .size) (l .ty) (l .tag .0) (numberIn (viewBody (l .body))) (l .tail)) o p o' q
+  pub is : PiecesPut (linePieces (l .at) (l .size) (l .ty) (l .tag .0) (answerNumber (viewBody (l .body))) (l .tail)) o p o' q
 
 pub record LastPut (word : List ℕ) (x n : ℕ) (o : List ℕ) (p : Place) (o' : List ℕ) (q : Place) : Type 0 where
-  pub is : PutAll (lastPieces word x n) o p o' q
+  pub is : PiecesPut (lastPieces word x n) o p o' q
 
 -- a line for each frame, and the last line
 pub record LinesPut (s o : List ℕ) (p : Place) (o' : List ℕ) (q : Place) : Type 0 where
-  pub is : PutAll (linesFrom 0 (listing tableT tableR s)) o p o' q
+  pub is : PiecesPut (linesFrom 0 (listing tableT tableR s)) o p o' q
 
--- what the lister writes of an input, put at the front of an output
-pub record Reported (s o o' : List ℕ) (q : Place) : Type 0 where
-  pub is : PutAll (report tableT tableR s) o (At 0) o' q
+-- all of it, at the front of an output
+pub record ReportPut (s o o' : List ℕ) (q : Place) : Type 0 where
+  pub is : PiecesPut (report tableT tableR s) o (At 0) o' q
+
+-- a place that is not refused
+abbrev pub HasPosition : Place → Type 0
+HasPosition (At n) = Unit {0}
+HasPosition (Refused k) = ⊥
+
+-- ---- what the lister promises
+
+-- the text of any input fits so many bytes (`text-most`, RoomLaws)
+abbrev pub room : ℕ
+room = 290266
+
+-- the text at the front of the room, the rest of the room as it was; the text's length (F8.7)
+pub record Reported (s o o' : List ℕ) (n : ℕ) : Type 0 where
+  pub bytes : o' ≡ over o 0 (joined (report tableT tableR s))
+  pub count : n ≡ length (joined (report tableT tableR s))

@@ -9,6 +9,7 @@ use lib.ListN.{length, take, drop, length-append}
 use lib.Seq.{take-length, length-take-le}
 use lib.Dec.{ltb, eqb}
 use borrow.Author.Tests.{le-leb, lt-ltb, le-ltb, eq-eqb, ne-eqb}
+use Rattle.io.specs.Counts.{Counts}
 use Rattle.io.specs.Digits.{digits, Fewest}
 use Rattle.numbers.specs.Reading.{ok}
 use Rattle.numbers.specs.ReadingLaws.{or-else}
@@ -21,17 +22,17 @@ use Rattle.strings.specs.Spans.{bytesIn, showSpan, checkAt, SpanPut}
 use Rattle.strings.specs.SpanLaws.{shown-in, passing}
 use Rattle.layouts.specs.Tables.{tableT, tableR}
 use Rattle.framing.specs.WritingLaws.{put-fits, past-fits, put-over, over-none}
-use Rattle.listing.specs.Text.{figures, decimal, putAll, pastAll, PutAll, joined, space, newline, numberIn, DecimalPut, FieldPut, TailPut, LinePut, LastPut, report, Reported}
+use Rattle.listing.specs.Text.{figures, decimal, putAll, pastAll, PiecesPut, joined, space, newline, answerNumber, DecimalPut, FieldPut, TailPut, LinePut, LastPut, report, Reported}
 use Rattle.stretch.specs.Views.{viewBody}
 use Rattle.stretch.specs.declared.Listed.{Listed}
 
 -- ---- pieces
 
-pub all-none : {o : List ℕ} {p : Place} → PutAll [] o p o p
+pub all-none : {o : List ℕ} {p : Place} → PiecesPut [] o p o p
 unfolding putAll pastAll
 all-none = record { bytes = refl; next = refl }
 
-pub all-put : {b : List ℕ} {bs : List (List ℕ)} {o o1 o2 : List ℕ} {p q r : Place} → Put b o p o1 q → PutAll bs o1 q o2 r → PutAll (b ∷ bs) o p o2 r
+pub all-put : {b : List ℕ} {bs : List (List ℕ)} {o o1 o2 : List ℕ} {p q r : Place} → Put b o p o1 q → PiecesPut bs o1 q o2 r → PiecesPut (b ∷ bs) o p o2 r
 unfolding putAll pastAll
 all-put a c = record { bytes = c .bytes ∙ rw (a .bytes, a .next); next = c .next ∙ rw (a .bytes, a .next) }
 
@@ -40,7 +41,7 @@ unfolding putAll pastAll
 put-append [] cs o p = (refl, refl)
 put-append (b ∷ bs) cs o p = put-append bs cs (putAt b o p) (pastPut b o p)
 
-pub all-then : {bs cs : List (List ℕ)} {o o1 o2 : List ℕ} {p q r : Place} → PutAll bs o p o1 q → PutAll cs o1 q o2 r → PutAll (bs ++ cs) o p o2 r
+pub all-then : {bs cs : List (List ℕ)} {o o1 o2 : List ℕ} {p q r : Place} → PiecesPut bs o p o1 q → PiecesPut cs o1 q o2 r → PiecesPut (bs ++ cs) o p o2 r
 all-then {bs} {cs} {o} {p = p} a c =
     let h = put-append bs cs o p in
     record { bytes = c .bytes ∙ rw (a .bytes, a .next) (sym (h .0)); next = c .next ∙ rw (a .bytes, a .next) (sym (h .1)) }
@@ -92,7 +93,7 @@ tail-none {n} e a = record { is = rw (ne-eqb n 0 e) (all-put a all-none) }
 pub last-put : {w o o1 o2 o3 : List ℕ} {x n : ℕ} {p q r t : Place} → Put w o p o1 q → FieldPut x space o1 q o2 r → FieldPut n newline o2 r o3 t → LastPut w x n o p o3 t
 last-put a b c = record { is = all-put a (all-then (b .is) (c .is)) }
 
-pub line-put : (l : Listed) {n : ℕ} {o o1 o2 o3 o4 o5 o6 : List ℕ} {p a b c d e q : Place} → n ≡ numberIn (viewBody (l .body)) → FieldPut (l .at) space o p o1 a → FieldPut (l .size) space o1 a o2 b
+pub line-put : (l : Listed) {n : ℕ} {o o1 o2 o3 o4 o5 o6 : List ℕ} {p a b c d e q : Place} → n ≡ answerNumber (viewBody (l .body)) → FieldPut (l .at) space o p o1 a → FieldPut (l .size) space o1 a o2 b
     → FieldPut (l .ty) space o2 b o3 c → FieldPut (l .tag .0) space o3 c o4 d → FieldPut n space o4 d o5 e → TailPut n (l .tail) o5 e o6 q → LinePut l o p o6 q
 line-put l e f1 f2 f3 f4 f5 f6 = record { is = rw (← e) (all-then (f1 .is) (all-then (f2 .is) (all-then (f3 .is) (all-then (f4 .is) (all-then (f5 .is) (f6 .is)))))) }
 
@@ -102,16 +103,16 @@ unfolding putAll
 length-all [] o p = refl
 length-all (b ∷ bs) o p = length-all bs (putAt b o p) (pastPut b o p) ∙ length-put b o p
 
-pub all-length : {bs : List (List ℕ)} {o o' : List ℕ} {p q : Place} → PutAll bs o p o' q → length o' ≡ length o
+pub all-length : {bs : List (List ℕ)} {o o' : List ℕ} {p q : Place} → PiecesPut bs o p o' q → length o' ≡ length o
 all-length {bs} {o} {p = p} a = ap length (a .bytes) ∙ length-all bs o p
 
 -- ---- where there is room, the pieces are the text
 
-pub record Whole (bs : List (List ℕ)) (o : List ℕ) (a : ℕ) : Type 0 where
+pub record PiecesFit (bs : List (List ℕ)) (o : List ℕ) (a : ℕ) : Type 0 where
   pub bytes : putAll bs o (At a) ≡ over o a (joined bs)
   pub next : pastAll bs o (At a) ≡ At (a + length (joined bs))
 
-pub all-fits : (bs : List (List ℕ)) (o : List ℕ) (a : ℕ) → a + length (joined bs) ≤ length o → Whole bs o a
+pub all-fits : (bs : List (List ℕ)) (o : List ℕ) (a : ℕ) → a + length (joined bs) ≤ length o → PiecesFit bs o a
 unfolding putAll pastAll joined
 all-fits [] o a h = let z : a + 0 ≡ a = omega arith in record { bytes = over-none o a (omega arith); next = ap At (sym z) }
 all-fits (b ∷ bs) o a h =
@@ -124,17 +125,17 @@ all-fits (b ∷ bs) o a h =
       next = rw (put-fits b o a (omega arith), past-fits b o a (omega arith)) (i .next ∙ ap At (omega arith));
     }
 
--- what the lister promises, where the output is long enough: its whole text at the front, and its length
-pub report-whole : {s o o' : List ℕ} {q : Place} → Reported s o o' q → length (joined (report tableT tableR s)) ≤ length o
-    → (o' ≡ over o 0 (joined (report tableT tableR s))) × (q ≡ At (length (joined (report tableT tableR s))))
-report-whole {s} {o} r h =
-    let w = all-fits (report tableT tableR s) o 0 (omega arith) in
-    (r .is .bytes ∙ w .bytes, r .is .next ∙ w .next ∙ ap At (omega arith))
+-- ---- what the lister promises
 
--- ---- one answer
+-- the text lies within the room, so that it can be lent
+pub reported-counts : {s o o' : List ℕ} {n : ℕ} → Reported s o o' n → Counts n o'
+reported-counts {s} {o} {o'} {n} r =
+    let t : List ℕ = joined (report tableT tableR s) in
+    let l = ap length (r .bytes) ∙ length-append t (drop (0 + length t) o) in
+    let e = r .count in
+    let h : n ≤ length o' = omega arith in
+    (h, sym (length-take-le n o' h))
 
-all-one : {bs : List (List ℕ)} {o o1 o2 : List ℕ} {p q q' : Place} → PutAll bs o p o1 q → PutAll bs o p o2 q' → (o1 ≡ o2) × (q ≡ q')
-all-one a b = (one-answer (a .bytes) (b .bytes), one-answer (a .next) (b .next))
-
-pub reported-one : {s o o1 o2 : List ℕ} {q q' : Place} → Reported s o o1 q → Reported s o o2 q' → (o1 ≡ o2) × (q ≡ q')
-reported-one a b = all-one (a .is) (b .is)
+-- one answer
+pub reported-one : {s o o1 o2 : List ℕ} {n n' : ℕ} → Reported s o o1 n → Reported s o o2 n' → (o1 ≡ o2) × (n ≡ n')
+reported-one a b = (one-answer (a .bytes) (b .bytes), one-answer (a .count) (b .count))

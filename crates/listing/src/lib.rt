@@ -1,4 +1,4 @@
-// The lister's text: a stretch of frames, a line for each, made in an output that the caller lends.
+// The lister's text: a stretch of frames, a line for each, made in a room that the caller lends.
 
 pub mod input;
 
@@ -12,7 +12,7 @@ use strings::Span;
 ghost use mathlib.Core.Path.{_≡_};
 ghost use Rattle.numbers.specs.Places.{Put};
 ghost use Rattle.stretch.specs.Views.{viewBody};
-ghost use Rattle.listing.specs.Text.{numberIn, DecimalPut, FieldPut, TailPut, LinePut, LastPut, LinesPut, Reported};
+ghost use Rattle.listing.specs.Text.{answerNumber, DecimalPut, FieldPut, TailPut, LinePut, LastPut, LinesPut, ReportPut, HasPosition, Reported};
 
 fn put_text(out: &mut [u8], p: Place, text: &[u8]) -> Place
     ensures { λ r. ⌜ Put (now (text .entry)) (now (out .entry)) p (now (out .exit)) r ⌝ }
@@ -42,7 +42,7 @@ fn put_field(out: &mut [u8], p: Place, n: u64, next: &[u8]) -> Place
 
 // 0, or the number of the refusal.
 fn answer_of(body: Body) -> u8
-    ensures { λ r. ⌜ r ≡ numberIn (viewBody body) ⌝ }
+    ensures { λ r. ⌜ r ≡ answerNumber (viewBody body) ⌝ }
 {
     match body {
         Body::Request(b) => match b {
@@ -121,13 +121,35 @@ fn wide(x: u8) -> u64
     x as u64
 }
 
-// What the lister writes of its input, at the front of an output: the place after it, or 11 where the output is too short.
-pub fn report(out: &mut [u8], input: &[u8]) -> Place
-    ensures { λ r. ⌜ Reported (now (input .entry)) (now (out .entry)) (now (out .exit)) r ⌝ }
+// The whole text, at the front of an output.
+fn put_report(out: &mut [u8], input: &[u8]) -> Place
+    ensures { λ r. ⌜ ReportPut (now (input .entry)) (now (out .entry)) (now (out .exit)) r ⌝ }
 {
     if 65536 < input.len() {
         return put_text(out, Place::At(0), b"input too long\n");
     }
     let p = put_text(out, Place::At(0), b"at size type tag answer tail\n");
     put_lines(out, p, input)
+}
+
+// The caller owes that the place is not refused, so the second arm is never taken.
+fn position(p: Place) -> usize
+    requires { ⌜ HasPosition p ⌝ }
+    ensures { λ r. ⌜ p ≡ Place.At r ⌝ }
+{
+    match p {
+        Place::At(n) => n,
+        Place::Refused(_) => 0,
+    }
+}
+
+// The text of any input fits: its header has 29 bytes, its lines at most 31 each, of which there are at most 9,362, since a frame has
+// seven bytes or more, and its last line has at most 15. The proof is `text-most`, specs/RoomLaws.antt.
+pub const ROOM: usize = 290266;
+
+// What the lister writes of its input, at the front of the room: how many bytes that is.
+pub fn report(out: &mut [u8; ROOM], input: &[u8]) -> usize
+    ensures { λ r. ⌜ Reported (now (input .entry)) (now (out .entry)) (now (out .exit)) r ⌝ }
+{
+    position(put_report(out, input))
 }
