@@ -36,6 +36,15 @@ pub struct Qid {
     pub path: u64,
 }
 
+/// A fid is handed over only where a fid is meant: neither a tag nor any other number fits there.
+#[repr(C)]
+#[derive(Clone, Copy, Debug, PartialEq, Eq)]
+pub struct Fid(pub u32);
+
+#[repr(C)]
+#[derive(Clone, Copy, Debug, PartialEq, Eq)]
+pub struct Tag(pub u16);
+
 extern "C" {
     pub fn sheafsledge_read_tframe(
         bytes: *const u8,
@@ -54,7 +63,7 @@ extern "C" {
         count: usize,
         refusal: u8,
         ty: u8,
-        tag: u16,
+        tag: Tag,
         values: *const [u64; T_VALUES],
     ) -> Outcome;
     pub fn sheafsledge_write_rframe(
@@ -64,7 +73,7 @@ extern "C" {
         count: usize,
         refusal: u8,
         ty: u8,
-        tag: u16,
+        tag: Tag,
         values: *const [u64; R_VALUES],
     ) -> Outcome;
     pub fn sheafsledge_read_dirent(
@@ -84,9 +93,9 @@ extern "C" {
     pub fn sheafsledge_is_utf8(bytes: *const u8, count: usize) -> bool;
     pub fn sheafsledge_answers(
         request_ty: u8,
-        request_tag: u16,
+        request_tag: Tag,
         reply_ty: u8,
-        reply_tag: u16,
+        reply_tag: Tag,
     ) -> bool;
     pub fn sheafsledge_name_at(
         lent: *const u8,
@@ -117,16 +126,16 @@ extern "C" {
         room: usize,
         lent: *const u8,
         count: usize,
-        tag: u16,
-        fid: u32,
-        newfid: u32,
+        tag: Tag,
+        fid: Fid,
+        newfid: Fid,
         names: *const [usize; 2],
         names_count: usize,
     ) -> Outcome;
     pub fn sheafsledge_write_rwalk(
         out: *mut u8,
         room: usize,
-        tag: u16,
+        tag: Tag,
         qids: *const Qid,
         qids_count: usize,
     ) -> Outcome;
@@ -176,3 +185,5 @@ sized!([usize; 2]: 16, 8);
 sized!(usize: 8, 8);
 sized!(*const u8: 8, 8);
 sized!(bool: 1, 1);
+sized!(Fid: 4, 4);
+sized!(Tag: 2, 2);

@@ -62,7 +62,7 @@ pub fn qid_at(part: &[u8], count: u16, i: usize) -> Result<[u64; SPAN_VALUES], R
 
 pub fn answers(request_ty: u8, request_tag: u16, reply_ty: u8, reply_tag: u16) -> bool {
     // SAFETY: numbers alone, and any are answered.
-    unsafe { sheafsledge_answers(request_ty, request_tag, reply_ty, reply_tag) }
+    unsafe { sheafsledge_answers(request_ty, Tag(request_tag), reply_ty, Tag(reply_tag)) }
 }
 
 #[inline]
@@ -75,7 +75,7 @@ pub fn write_t(
     let (to, room, from, count) = (out.as_mut_ptr(), out.len(), lent.as_ptr(), lent.len());
     // SAFETY: as for `read_t`; the output is borrowed alone, so that it overlaps nothing, and the
     // values are as many as the function takes.
-    unsafe { sheafsledge_write_tframe(to, room, from, count, 0, ty, tag, values) }.told()
+    unsafe { sheafsledge_write_tframe(to, room, from, count, 0, ty, Tag(tag), values) }.told()
 }
 
 #[inline]
@@ -87,7 +87,7 @@ pub fn write_r(
 ) -> Result<usize, Refusal> {
     let (to, room, from, count) = (out.as_mut_ptr(), out.len(), lent.as_ptr(), lent.len());
     // SAFETY: as for `write_t`.
-    unsafe { sheafsledge_write_rframe(to, room, from, count, 0, ty, tag, values) }.told()
+    unsafe { sheafsledge_write_rframe(to, room, from, count, 0, ty, Tag(tag), values) }.told()
 }
 
 pub fn write_dirent(
@@ -108,7 +108,7 @@ pub fn write_twalk(
     names: &[[usize; 2]],
 ) -> Result<usize, Refusal> {
     let (to, room, from, count) = (out.as_mut_ptr(), out.len(), lent.as_ptr(), lent.len());
-    let WalkHead { tag, fid, newfid } = head;
+    let (tag, fid, newfid) = (Tag(head.tag), Fid(head.fid), Fid(head.newfid));
     let (rows, rows_count) = (names.as_ptr(), names.len());
     // SAFETY: as for `write_t`; the rows are a slice's too, and a row out of the lent bytes is
     // refused with 9.
@@ -120,7 +120,7 @@ pub fn write_rwalk(out: &mut [u8], tag: u16, qids: &[Qid]) -> Result<usize, Refu
     let (to, room) = (out.as_mut_ptr(), out.len());
     // SAFETY: as for `write_t`; a `Qid` is laid out as the library's, since both are C structs of
     // the same fields.
-    unsafe { sheafsledge_write_rwalk(to, room, tag, qids.as_ptr(), qids.len()) }.told()
+    unsafe { sheafsledge_write_rwalk(to, room, Tag(tag), qids.as_ptr(), qids.len()) }.told()
 }
 
 impl Outcome {

@@ -23,10 +23,7 @@ struct Side {
 fn declared(text: &str, function: &str, parameter: fn(Typed) -> Vec<Typed>, side: &mut Side) {
     let text = without_comments(text);
     for part in text.split("#[repr(C)]").skip(1) {
-        let (head, rest) = part.split_once('{').expect("a struct has a body");
-        let name = head.split_whitespace().last().expect("a struct has a name");
-        let (body, _) = rest.split_once('}').expect("a struct's body ends");
-        let fields = list(body).map(typed).collect();
+        let (name, fields) = fields(part);
         let before = side.structs.insert(name.to_string(), fields);
         assert_eq!(before, None, "the struct {name} is there twice");
     }
@@ -38,6 +35,21 @@ fn declared(text: &str, function: &str, parameter: fn(Typed) -> Vec<Typed>, side
         let before = side.functions.insert(name.to_string(), all);
         assert_eq!(before, None, "the function {name} is there twice");
     }
+}
+
+/// A struct's name, and its fields: in a tuple struct they are numbered.
+fn fields(text: &str) -> (&str, Vec<Typed>) {
+    let (_, text) = text
+        .split_once("pub struct ")
+        .expect("a struct is declared");
+    let begins = text.find(['{', '(']).expect("a struct has a body");
+    let ends = text.find(['}', ')']).expect("a struct's body ends");
+    let items = list(&text[begins + 1..ends]).enumerate();
+    let fields = items.map(|(i, item)| match item.contains(':') {
+        true => typed(item),
+        false => typed(&format!("{i}: {}", item.trim_start_matches("pub "))),
+    });
+    (text[..begins].trim(), fields.collect())
 }
 
 fn without_comments(text: &str) -> String {
@@ -198,9 +210,15 @@ fn the_structs_are_the_librarys() {
 fn each_struct_is_held_to_its_layout() {
     let (_, rust) = both();
     let text = boundary();
-    let held = |name: &&String| text.contains(&format!("\nlaid_out!({name}: "));
+    let said = |how: &str| text.contains(how);
+    let held = |name: &&String| {
+        said(&format!("\nlaid_out!({name}: ")) || said(&format!("\nsized!({name}: "))
+    };
     let missing: Vec<_> = rust.structs.keys().filter(|name| !held(name)).collect();
-    assert!(missing.is_empty(), "no laid_out! for {missing:?}");
+    assert!(
+        missing.is_empty(),
+        "no laid_out! and no sized! for {missing:?}"
+    );
 }
 
 #[test]

@@ -22,6 +22,7 @@ use Rattle.fields.specs.Values.{Value, startOf, lenOf, countOf, part, wholePart
 use Rattle.laying.specs.LayingLaws.{span-shown, whole-inv}
 use Rattle.strings.specs.declared.Span.{Span}
 use Rattle.laying.specs.Elements.{elementIn, askedFor, elementAt, viewElement}
+use Rattle.laying.specs.ElementLaws.{asked-inv}
 use Rattle.laying.specs.declared.elements.Element.{Element}
 use Rattle.laying.specs.declared.elements.Element.the-variants as E
 use Rattle.flat.specs.Flat.{stored, laid}
@@ -49,18 +50,13 @@ abbrev pub Ends : Result Value → Type 0
 Ends (ok v r) = endOf v < 2 ^ 64
 Ends (bad k) = Unit {0}
 
-asked-below : (lent : List ℕ) (v : Value) (i : ℕ) {bs r : List ℕ} → askedFor lent v i ≡ ok bs r → i < countOf v
-unfolding askedFor
-asked-below lent v i e =
-    after-inv (showSpan lent (startOf v) (lenOf v)) _ e (λ cs s e1 e2. ltb-true i (countOf v) (cond-inv (ltb i (countOf v)) _ R.NoSuchElement e2 .0))
-
 found : {X : Type 0} (f : Field) (lent : List ℕ) (v : Value) (i : ℕ) {w : Value} {r : List ℕ} → elementAt f lent v i ≡ ok w r
     → ((it : Item) (s : List ℕ) → i < countOf v → show f lent v ≡ ok it s → w ≡ elementIn (startOf v) i it → X) → X
 unfolding elementAt
 found f lent v i {w} e g =
     after-inv (askedFor lent v i) _ e
     (λ bs t e1 e2. after-inv (show f lent v) _ e2
-    (λ it s e3 e4. let h : w ≡ elementIn (startOf v) i it = cc e4 in g it s (asked-below lent v i e1) e3 h))
+    (λ it s e3 e4. let h : w ≡ elementIn (startOf v) i it = cc e4 in g it s (asked-inv lent v i e1) e3 h))
 
 string-length : (bs : List ℕ) → length (stringBytes bs) ≡ 2 + length bs
 unfolding stringBytes

@@ -44,21 +44,19 @@ fn stopped(k: Refusal, position: usize) -> Outcome
 #[no_mangle]
 pub extern "C" fn sheafsledge_answers(
     request_ty: u8,
-    request_tag: u16,
+    request_tag: Tag,
     reply_ty: u8,
-    reply_tag: u16,
+    reply_tag: Tag,
 ) -> bool
-    ensures { λ r. ⌜ r ≡ pairs tableT «request_ty» «request_tag» «reply_ty» «reply_tag» ⌝ }
+    ensures { λ r. ⌜ r ≡ pairs tableT «request_ty» («request_tag» .0) «reply_ty» («reply_tag» .0) ⌝ }
 {
-    let asked = Tag(request_tag);
-    let given = Tag(reply_tag);
     let request = Mark {
         ty: request_ty,
-        tag: asked,
+        tag: request_tag,
     };
     let reply = Mark {
         ty: reply_ty,
-        tag: given,
+        tag: reply_tag,
     };
     pairs::answers(request, reply)
 }

@@ -96,23 +96,20 @@ pub extern "C" fn sheafsledge_read_qid(bytes: &[u8], at: usize, values: &mut [u6
 pub extern "C" fn sheafsledge_write_twalk(
     out: &mut [u8],
     lent: &[u8],
-    tag: u16,
-    fid: u32,
-    newfid: u32,
+    tag: Tag,
+    fid: Fid,
+    newfid: Fid,
     names: &[[usize; 2]],
 ) -> Outcome
-    ensures { λ r. ⌜ TableWrote 110 tag (twalkOf fid newfid (now (lent .entry)) (now (names .entry))) (now (out .entry)) (now (out .exit)) r ⌝ }
+    ensures { λ r. ⌜ TableWrote 110 (tag .0) (twalkOf (fid .0) (newfid .0) (now (lent .entry)) (now (names .entry))) (now (out .entry)) (now (out .exit)) r ⌝ }
 {
-    let tag = Tag(tag);
-    let fid = Fid(fid);
-    let newfid = Fid(newfid);
     crate::ended(tables::write_twalk(out, tag, fid, newfid, lent, names))
 }
 
 // An Rwalk whose qids are a table of structs. It has no branch: a slice of structs is walked by hand.
 #[no_mangle]
-pub extern "C" fn sheafsledge_write_rwalk(out: &mut [u8], tag: u16, qids: &[Qid]) -> Outcome
-    ensures { λ r. ⌜ TableWrote 111 tag (rwalkOf (now (qids .entry))) (now (out .entry)) (now (out .exit)) r ⌝ }
+pub extern "C" fn sheafsledge_write_rwalk(out: &mut [u8], tag: Tag, qids: &[Qid]) -> Outcome
+    ensures { λ r. ⌜ TableWrote 111 (tag .0) (rwalkOf (now (qids .entry))) (now (out .entry)) (now (out .exit)) r ⌝ }
 {
-    crate::ended(tables::write_rwalk(out, Tag(tag), qids))
+    crate::ended(tables::write_rwalk(out, tag, qids))
 }

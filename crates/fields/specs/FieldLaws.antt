@@ -133,7 +133,7 @@ refuses : (f : Field) (s : List ℕ) (a : ℕ) {k : Refusal} → readField f (dr
 unfolding pastField
 refuses f s a e = rw e
 
-stays : (fs : Layout) (s : List ℕ) (k : Refusal) → pastFields fs s (Refused k) ≡ Refused k
+pub stays : (fs : Layout) (s : List ℕ) (k : Refusal) → pastFields fs s (Refused k) ≡ Refused k
 unfolding pastFields pastField
 stays [] s k = refl
 stays (f ∷ fs) s k = stays fs s k

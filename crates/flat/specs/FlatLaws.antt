@@ -20,7 +20,7 @@ use Rattle.numbers.specs.declared.Place.the-variants.{At, Refused}
 use Rattle.fields.specs.Layouts.{num, str, dat, strs, quids, Layout}
 use Rattle.fields.specs.Values.{Value}
 use Rattle.fields.specs.Fields.{pastField, valuesAt, pastFields, Fields}
-use Rattle.fields.specs.FieldLaws.{number-field}
+use Rattle.fields.specs.FieldLaws.{number-field, stays}
 use Rattle.laying.specs.Laying.{Written}
 use Rattle.layouts.specs.Tables.{Row, lookup, tableT, tableR}
 use Rattle.layouts.specs.BodyLaws.{Nots, no-row}
@@ -85,11 +85,6 @@ past-held w a s h = sym (number-field (num-held {x = fromLE (take w (drop a s))}
 
 past-short : (w a : ℕ) (s : List ℕ) → 0 < w → length s < a + w → pastField (num w) s (At a) ≡ Refused R.Short
 past-short w a s o h = sym (number-field (num-short {p = At a} {t = false} o refl (record { is = h }) refl) .next)
-
-stays : (fs : Layout) (s : List ℕ) (k : Refusal) → pastFields fs s (Refused k) ≡ Refused k
-unfolding pastFields pastField
-stays [] s k = refl
-stays (f ∷ fs) s k = stays fs s k
 
 module _ {n a : ℕ} {s : List ℕ} {p : Place} (e : p ≡ At a) {t : Bool} (i : Within a n (length s) t) where
   pub skip-held : t ≡ true → Skipped n s p (At (a + n))

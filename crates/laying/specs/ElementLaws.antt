@@ -27,7 +27,7 @@ use Rattle.laying.specs.LayingLaws.{drop-take, span-shown, whole-inv}
 use Rattle.fields.specs.Values.{Value, span, part, startOf, lenOf, countOf, wholePart, show}
 use Rattle.fields.specs.Fields.{ManyRead}
 use Rattle.laying.specs.Laying.{ShowCheck}
-use Rattle.laying.specs.Elements.{elementIn, askedFor, elementAt, viewElement, Asked}
+use Rattle.laying.specs.Elements.{elementIn, askedFor, elementAt, viewElement, ElementAsked}
 use Rattle.laying.specs.declared.elements.Element.{Element as Answer}
 use Rattle.laying.specs.declared.elements.Element.the-variants as E
 
@@ -46,21 +46,21 @@ element-one (E.Refused k) (E.Found s) e f = absurd (let g = one-answer e f in le
 -- ---- 9, then 15
 
 module _ {lent : List ℕ} {c x y i : ℕ} {q : Place} where
-  pub asked-outside : {k : Refusal} → SpanCheck lent x y (At 0) q → q ≡ Refused k → Asked lent (part c x y) i q
+  pub asked-outside : {k : Refusal} → SpanCheck lent x y (At 0) q → q ≡ Refused k → ElementAsked lent (part c x y) i q
   unfolding askedFor
   asked-outside s e = record { is = e ∙ sym (first-refuses (showSpan lent x y) _ (At 0) (sym (s .is) ∙ e)) }
 
-  pub asked-below : {a : ℕ} → SpanCheck lent x y (At 0) q → q ≡ At a → i < c → Asked lent (part c x y) i q
+  pub asked-below : {a : ℕ} → SpanCheck lent x y (At 0) q → q ≡ At a → i < c → ElementAsked lent (part c x y) i q
   unfolding askedFor
   asked-below s e h = let p = passed s e in record { is = e ∙ sym (p .place) ∙ rw (p .shows, lt-ltb i c h) }
 
-  pub asked-past : {a : ℕ} → SpanCheck lent x y (At 0) q → q ≡ At a → c ≤ i → Asked lent (part c x y) i (Refused R.NoSuchElement)
+  pub asked-past : {a : ℕ} → SpanCheck lent x y (At 0) q → q ≡ At a → c ≤ i → ElementAsked lent (part c x y) i (Refused R.NoSuchElement)
   unfolding askedFor
   asked-past s e h = let p = passed s e in record { is = rw (p .shows, le-ltb i c h) }
 
 -- ---- any vector
 
-pub element-refused : {f : Field} {lent : List ℕ} {v : Value} {i : ℕ} {p q : Place} {k : Refusal} → Asked lent v i p → ShowCheck f lent v p q → q ≡ Refused k
+pub element-refused : {f : Field} {lent : List ℕ} {v : Value} {i : ℕ} {p q : Place} {k : Refusal} → ElementAsked lent v i p → ShowCheck f lent v p q → q ≡ Refused k
     → bad k ≡ elementAt f lent v i
 unfolding elementAt
 element-refused {f} {lent} {v} {i} {p} {q} {k} a s e = go (askedFor lent v i) (show f lent v) (sym e ∙ s .is ∙ ap (checkAt (show f lent v)) (a .is))
@@ -78,12 +78,12 @@ pub record Element (f : Field) (lent : List ℕ) (v : Value) (i : ℕ) : Type 0 
   pub below : i < countOf v
   pub is : elementAt f lent v i ≡ ok (elementIn (startOf v) i item) []
 
-asked-inv : (lent : List ℕ) (v : Value) (i : ℕ) {bs r : List ℕ} → askedFor lent v i ≡ ok bs r → i < countOf v
+pub asked-inv : (lent : List ℕ) (v : Value) (i : ℕ) {bs r : List ℕ} → askedFor lent v i ≡ ok bs r → i < countOf v
 unfolding askedFor
 asked-inv lent v i e =
     after-inv (showSpan lent (startOf v) (lenOf v)) _ e (λ cs s e1 e2. ltb-true i (countOf v) (cond-inv (ltb i (countOf v)) _ R.NoSuchElement e2 .0))
 
-pub element : {f : Field} {lent : List ℕ} {v : Value} {i a : ℕ} {p q : Place} → Asked lent v i p → ShowCheck f lent v p q → q ≡ At a → Element f lent v i
+pub element : {f : Field} {lent : List ℕ} {v : Value} {i a : ℕ} {p q : Place} → ElementAsked lent v i p → ShowCheck f lent v p q → q ≡ At a → Element f lent v i
 unfolding elementAt
 element {f} {lent} {v} {i} {a} {p} n s e =
     check-inv (show f lent v) p (sym (s .is) ∙ e)

@@ -36,5 +36,5 @@ viewElement (E.Found s) = ok (span (s .start) (s .len)) []
 viewElement (E.Refused k) = bad k
 
 -- the place itself where an element may be looked for; or 9, 15
-pub record Asked (lent : List ℕ) (v : Value) (i : ℕ) (q : Place) : Type 0 where
+pub record ElementAsked (lent : List ℕ) (v : Value) (i : ℕ) (q : Place) : Type 0 where
   pub is : q ≡ checkAt (askedFor lent v i) (At 0)

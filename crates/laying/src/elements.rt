@@ -7,7 +7,7 @@ use strings::Span;
 ghost use mathlib.Core.Path.{_≡_};
 ghost use Rattle.fields.specs.Layouts.{strs, quids};
 ghost use Rattle.fields.specs.Values.{part};
-ghost use Rattle.laying.specs.Elements.{Asked, elementAt, viewElement};
+ghost use Rattle.laying.specs.Elements.{ElementAsked, elementAt, viewElement};
 
 // Where an element stands among the lent bytes, or why it can't be given.
 pub enum Element {
@@ -17,7 +17,7 @@ pub enum Element {
 
 // What comes before the elements are looked at: 9, then 15.
 fn asked(lent: &[u8], v: Part, i: usize) -> Place
-    ensures { λ r. ⌜ Asked (now (lent .entry)) (part (v .count) (v .elements .start) (v .elements .len)) i r ⌝ }
+    ensures { λ r. ⌜ ElementAsked (now (lent .entry)) (part (v .count) (v .elements .start) (v .elements .len)) i r ⌝ }
 {
     let q = crate::check_part(lent, v, Place::At(0));
     let Place::At(_) = q else {

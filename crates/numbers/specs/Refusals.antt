@@ -1,5 +1,8 @@
 -- The number of each refusal (F9).
 use Prim.Native.Nat.{ℕ}
+use mathlib.Core.Path.{_≡_, refl, sym, ap, _∙_}
+use mathlib.Core.List.{List, [], _∷_}
+use lib.ListN.{getD}
 use Rattle.numbers.specs.declared.Refusal.{Refusal}
 use Rattle.numbers.specs.declared.Refusal.the-variants as R
 
@@ -20,3 +23,30 @@ numberOf R.StretchSize = 13
 numberOf R.PartMalformed = 14
 numberOf R.NoSuchElement = 15
 numberOf R.HoldsRefusal = 16
+
+-- ---- no two have one number, so that a promise which fixes the refusal fixes its number, and the other way round
+
+-- in the order of their numbers, from 0 on; there is no refusal 0
+abbrev byNumber : List Refusal
+byNumber = R.Short ∷ R.Short ∷ R.SizeBelowFour ∷ R.UnknownType ∷ R.DataTooLong ∷ R.NotUtf8 ∷ R.ZeroByte ∷ R.StringTooLong ∷ R.TableTooLong ∷ R.SpanOutside ∷ R.FrameTooLong ∷ R.NoRoom ∷ R.StretchCut ∷ R.StretchSize ∷ R.PartMalformed ∷ R.NoSuchElement ∷ R.HoldsRefusal ∷ []
+
+there : (k : Refusal) → getD byNumber (numberOf k) R.Short ≡ k
+there R.Short = refl
+there R.SizeBelowFour = refl
+there R.UnknownType = refl
+there R.DataTooLong = refl
+there R.NotUtf8 = refl
+there R.ZeroByte = refl
+there R.StringTooLong = refl
+there R.TableTooLong = refl
+there R.SpanOutside = refl
+there R.FrameTooLong = refl
+there R.NoRoom = refl
+there R.StretchCut = refl
+there R.StretchSize = refl
+there R.PartMalformed = refl
+there R.NoSuchElement = refl
+there R.HoldsRefusal = refl
+
+pub number-one : {j k : Refusal} → numberOf j ≡ numberOf k → j ≡ k
+number-one {j} {k} e = sym (there j) ∙ ap (λ n. getD byNumber n R.Short) e ∙ there k

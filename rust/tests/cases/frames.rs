@@ -20,13 +20,13 @@ type Head = (u8, u8, u16);
 fn write_t(out: &mut [u8], lent: &[u8], (k, ty, tag): Head, values: &[u64; T_VALUES]) -> Outcome {
     let (to, room, from, count) = (out.as_mut_ptr(), out.len(), lent.as_ptr(), lent.len());
     // SAFETY: as for `read_t`; the output is borrowed alone, so that it overlaps nothing.
-    unsafe { sheafsledge_write_tframe(to, room, from, count, k, ty, tag, values) }
+    unsafe { sheafsledge_write_tframe(to, room, from, count, k, ty, Tag(tag), values) }
 }
 
 fn write_r(out: &mut [u8], lent: &[u8], (k, ty, tag): Head, values: &[u64; R_VALUES]) -> Outcome {
     let (to, room, from, count) = (out.as_mut_ptr(), out.len(), lent.as_ptr(), lent.len());
     // SAFETY: as for `write_t`.
-    unsafe { sheafsledge_write_rframe(to, room, from, count, k, ty, tag, values) }
+    unsafe { sheafsledge_write_rframe(to, room, from, count, k, ty, Tag(tag), values) }
 }
 
 /// What was read, with the tag where there is one.

@@ -39,8 +39,9 @@ pub fn names(out: &mut [u8], count: u64, given: &[u64], lent: &[u8]) -> String {
     let spans: Vec<[usize; 2]> = spans.iter().map(|row| row.map(|n| n as usize)).collect();
     let (to, room, from, held) = (out.as_mut_ptr(), out.len(), lent.as_ptr(), lent.len());
     let (table, rows) = (spans.as_ptr(), spans.len());
+    let (tag, fid, newfid) = (Tag(3), Fid(1), Fid(2));
     // SAFETY: as in `entry`; the rows are a slice's too.
-    ended(unsafe { sheafsledge_write_twalk(to, room, from, held, 3, 1, 2, table, rows) })
+    ended(unsafe { sheafsledge_write_twalk(to, room, from, held, tag, fid, newfid, table, rows) })
 }
 
 /// An Rwalk from a table of so many qids.
@@ -53,7 +54,7 @@ pub fn qids(out: &mut [u8], count: u64, given: &[u64]) -> String {
     let qids: Vec<Qid> = rows::<3>(given, count).iter().map(qid).collect();
     let (to, room) = (out.as_mut_ptr(), out.len());
     // SAFETY: as in `names`.
-    ended(unsafe { sheafsledge_write_rwalk(to, room, 3, qids.as_ptr(), qids.len()) })
+    ended(unsafe { sheafsledge_write_rwalk(to, room, Tag(3), qids.as_ptr(), qids.len()) })
 }
 
 /// Name or qid `i` of a vector: where it ends, and its span.
@@ -84,7 +85,7 @@ pub fn step(at: usize, bytes: &[u8]) -> String {
 
 /// Whether a reply answers a request, each told by its type and its tag.
 pub fn pairs((asked, asked_tag): (u64, u64), (given, given_tag): (u64, u64)) -> String {
-    let (asked_tag, given_tag) = (asked_tag as u16, given_tag as u16);
+    let (asked_tag, given_tag) = (Tag(asked_tag as u16), Tag(given_tag as u16));
     // SAFETY: numbers alone, and any are answered.
     let yes = unsafe { sheafsledge_answers(asked as u8, asked_tag, given as u8, given_tag) };
     u8::from(yes).to_string()

@@ -75,7 +75,7 @@ macro_rules! crossing {
                 let (outcome, values) = (&self.outcome, &self.values);
                 let (refusal, ty, tag) = (outcome.refusal, outcome.ty, outcome.tag);
                 // SAFETY: as in reading; the output is borrowed alone, so it overlaps nothing.
-                unsafe { $write(to, room, from, count, refusal, ty, tag, values) }
+                unsafe { $write(to, room, from, count, refusal, ty, Tag(tag), values) }
             }
         }
     };
@@ -169,7 +169,7 @@ pub type Head = (u16, u32, u32);
 
 pub fn write_twalk(out: &mut [u8], lent: &[u8], head: Head, names: &[[usize; 2]]) -> Outcome {
     let (to, room, from, count) = (out.as_mut_ptr(), out.len(), lent.as_ptr(), lent.len());
-    let (tag, fid, newfid) = head;
+    let (tag, fid, newfid) = (Tag(head.0), Fid(head.1), Fid(head.2));
     let (rows, rows_count) = (names.as_ptr(), names.len());
     // SAFETY: as in writing a frame; the table is a slice's too.
     unsafe { sheafsledge_write_twalk(to, room, from, count, tag, fid, newfid, rows, rows_count) }
@@ -178,13 +178,13 @@ pub fn write_twalk(out: &mut [u8], lent: &[u8], head: Head, names: &[[usize; 2]]
 pub fn write_rwalk(out: &mut [u8], tag: u16, qids: &[Qid]) -> Outcome {
     let (to, room) = (out.as_mut_ptr(), out.len());
     // SAFETY: as in writing a frame; the table is a slice's too.
-    unsafe { sheafsledge_write_rwalk(to, room, tag, qids.as_ptr(), qids.len()) }
+    unsafe { sheafsledge_write_rwalk(to, room, Tag(tag), qids.as_ptr(), qids.len()) }
 }
 
 /// Whether a reply answers a request, each told by its type and its tag.
 pub fn answers(request: (u8, u16), reply: (u8, u16)) -> bool {
     // SAFETY: numbers alone.
-    unsafe { sheafsledge_answers(request.0, request.1, reply.0, reply.1) }
+    unsafe { sheafsledge_answers(request.0, Tag(request.1), reply.0, Tag(reply.1)) }
 }
 
 impl<const N: usize> From<Crossed<N>> for Flat {
