@@ -135,7 +135,7 @@ extern "C" {
     pub fn sheafsledge_write_rwalk(
         out: *mut u8,
         room: usize,
-        tag: Tag,
+        tag: u16,
         qids: *const Qid,
         qids_count: usize,
     ) -> Outcome;

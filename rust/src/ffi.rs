@@ -120,7 +120,7 @@ pub fn write_rwalk(out: &mut [u8], tag: u16, qids: &[Qid]) -> Result<usize, Refu
     let (to, room) = (out.as_mut_ptr(), out.len());
     // SAFETY: as for `write_t`; a `Qid` is laid out as the library's, since both are C structs of
     // the same fields.
-    unsafe { sheafsledge_write_rwalk(to, room, Tag(tag), qids.as_ptr(), qids.len()) }.told()
+    unsafe { sheafsledge_write_rwalk(to, room, tag, qids.as_ptr(), qids.len()) }.told()
 }
 
 impl Outcome {

@@ -108,8 +108,8 @@ pub extern "C" fn sheafsledge_write_twalk(
 
 // An Rwalk whose qids are a table of structs. It has no branch: a slice of structs is walked by hand.
 #[no_mangle]
-pub extern "C" fn sheafsledge_write_rwalk(out: &mut [u8], tag: Tag, qids: &[Qid]) -> Outcome
-    ensures { λ r. ⌜ TableWrote 111 (tag .0) (rwalkOf (now (qids .entry))) (now (out .entry)) (now (out .exit)) r ⌝ }
+pub extern "C" fn sheafsledge_write_rwalk(out: &mut [u8], tag: u16, qids: &[Qid]) -> Outcome
+    ensures { λ r. ⌜ TableWrote 111 tag (rwalkOf (now (qids .entry))) (now (out .entry)) (now (out .exit)) r ⌝ }
 {
-    crate::ended(tables::write_rwalk(out, tag, qids))
+    crate::ended(tables::write_rwalk(out, Tag(tag), qids))
 }

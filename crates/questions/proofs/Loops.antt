@@ -11,7 +11,7 @@ use lib.ListN.{length, take, drop, getD, set, length-append, length-drop, length
 use lib.Seq.{drop-cons, drop-drop, drop-append-add, sets, sets-eq, length-take-le, take-suc-set, drop-set-lt, take-at, take-nil}
 use lib.Dec.{ltb}
 use borrow.Author.Tests.{lt-ltb, le-ltb}
-use Rattle.questions.specs.Questions.{isFigure, run, nextAt, tens, numbersIn, value, spelt, grown, Laid}
+use Rattle.questions.specs.Questions.{isFigure, run, nextAt, tens, figuresIn, value, spelt, grown, Laid}
 
 -- ---- where the numbers end: one more character of them, the first that is none, and the line's end
 
@@ -37,12 +37,12 @@ run-over s i l e = let g = rw (drop-of-length-le s l) at e in omega arith
 -- ---- the numbers
 
 pub numbers-turn : (s ns : List ℕ) (i k j n : ℕ) {x : List ℕ} → i < length s → j ≡ nextAt k (getD s i 0) → n ≡ tens (getD ns j 0) (getD s i 0)
-    → numbersIn k ns (drop i s) ≡ x → numbersIn j (set ns j n) (drop (i + 1) s) ≡ x
-unfolding numbersIn
+    → figuresIn k ns (drop i s) ≡ x → figuresIn j (set ns j n) (drop (i + 1) s) ≡ x
+unfolding figuresIn
 numbers-turn s ns i k j n l f g e = rw (add-one i, g, f) (rw (drop-cons s i 0 l) at e)
 
-pub numbers-over : (s ns : List ℕ) (i k : ℕ) {x : List ℕ} → length s ≤ i → numbersIn k ns (drop i s) ≡ x → ns ≡ x
-unfolding numbersIn
+pub numbers-over : (s ns : List ℕ) (i k : ℕ) {x : List ℕ} → length s ≤ i → figuresIn k ns (drop i s) ≡ x → ns ≡ x
+unfolding figuresIn
 numbers-over s ns i k l e = rw (drop-of-length-le s l) at e
 
 -- ---- a byte that is there, whatever is answered where none is

@@ -6,13 +6,13 @@ use mathlib.Core.List.{List}
 use lib.ListN.{length, take, drop, getD, replicate}
 use lib.Dec.{eqb}
 use Rattle.questions.specs.Parts.{partOf}
-use Rattle.questions.specs.Questions.{ends, numbersIn, numbersOf, spelt, grown, digitsOf, givenIn, bytesIn, soundAt, questionIn, Laid, Taken}
+use Rattle.questions.specs.Questions.{ends, figuresIn, figuresOf, spelt, grown, digitsOf, givenIn, bytesSpelt, soundAt, questionIn, Laid, Taken}
 use Rattle.questions.proofs.Loops.{spelt-fits, laid-then}
 
 module _ (line : List ℕ) {fs ns hex : List ℕ} {end : ℕ}
-    (e : end ≡ ends line) (f : fs ≡ partOf line 1 end) (n : ns ≡ numbersIn 15 (replicate 16 0) fs) (h : hex ≡ drop (end + 1) line) where
-  numbers-are : ns ≡ numbersOf line
-  unfolding numbersOf
+    (e : end ≡ ends line) (f : fs ≡ partOf line 1 end) (n : ns ≡ figuresIn 15 (replicate 16 0) fs) (h : hex ≡ drop (end + 1) line) where
+  numbers-are : ns ≡ figuresOf line
+  unfolding figuresOf
   numbers-are = rw (← e, ← f) n
 
   digits-are : hex ≡ digitsOf line
@@ -21,8 +21,8 @@ module _ (line : List ℕ) {fs ns hex : List ℕ} {end : ℕ}
 
   module _ {o o1 o2 : List ℕ} {given held : ℕ} (g : Laid (take (length o) (spelt hex)) o o1 given)
       (r : Laid (grown (min (getD ns 14 0) (length o1) - given) (getD ns 15 0) (take given o1)) o1 o2 held) where
-    bytes-are : Laid (bytesIn (length o) line) o o2 held
-    unfolding bytesIn givenIn
+    bytes-are : Laid (bytesSpelt (length o) line) o o2 held
+    unfolding bytesSpelt givenIn
     bytes-are =
         rw (← numbers-are, ← digits-are) (laid-then o o1 o2 (take (length o) (spelt hex)) given held (getD ns 14 0) (getD ns 15 0) (spelt-fits (length o) hex) g r)
 

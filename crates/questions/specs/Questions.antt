@@ -36,13 +36,13 @@ unfoldable pub tens : ℕ → ℕ → ℕ
 tens n c = cond (isDigit c) (min (n * 10 + (c - 48)) 18446744073709551615) n
 
 -- the numbers ns with more characters read in, after one of number k
-unfoldable pub numbersIn : ℕ → List ℕ → List ℕ → List ℕ
-numbersIn k ns [] = ns
-numbersIn k ns (c ∷ cs) = numbersIn (nextAt k c) (set ns (nextAt k c) (tens (getD ns (nextAt k c) 0) c)) cs
+unfoldable pub figuresIn : ℕ → List ℕ → List ℕ → List ℕ
+figuresIn k ns [] = ns
+figuresIn k ns (c ∷ cs) = figuresIn (nextAt k c) (set ns (nextAt k c) (tens (getD ns (nextAt k c) 0) c)) cs
 
 -- the space before the first number steps on from the last
-unfoldable pub numbersOf : List ℕ → List ℕ
-numbersOf line = numbersIn 15 (replicate 16 0) (partOf line 1 (ends line))
+unfoldable pub figuresOf : List ℕ → List ℕ
+figuresOf line = figuresIn 15 (replicate 16 0) (partOf line 1 (ends line))
 
 -- ---- the bytes
 
@@ -70,9 +70,9 @@ unfoldable pub givenIn : ℕ → List ℕ → List ℕ
 givenIn size line = take size (spelt (digitsOf line))
 
 -- and with those that *N K adds, the last two numbers
-unfoldable pub bytesIn : ℕ → List ℕ → List ℕ
-bytesIn size line =
-    grown (min (getD (numbersOf line) 14 0) size - length (givenIn size line)) (getD (numbersOf line) 15 0) (givenIn size line)
+unfoldable pub bytesSpelt : ℕ → List ℕ → List ℕ
+bytesSpelt size line =
+    grown (min (getD (figuresOf line) 14 0) size - length (givenIn size line)) (getD (figuresOf line) 15 0) (givenIn size line)
 
 -- whether a slash (47), or the space of T and R, ends the numbers, and all the digits spell bytes. The line's end counts as a slash
 unfoldable pub soundAt : ℕ → ℕ → ℕ → Bool
@@ -83,9 +83,9 @@ soundAt c given digits = (eqb c 47 || eqb c 32) && eqb (given * 2) digits
 -- what is answered, where the room has so many bytes. The mark stands before the first number, after the letter and a space
 unfoldable pub questionIn : ℕ → List ℕ → Question
 questionIn size line = record {
-  numbers = numbersOf line;
+  numbers = figuresOf line;
   marked = eqb (getD line 2 0) 33;
-  held = length (bytesIn size line);
+  held = length (bytesSpelt size line);
   sound = soundAt (getD line (ends line) 47) (length (givenIn size line)) (length (digitsOf line));
 }
 
@@ -97,4 +97,4 @@ pub record Laid (bs o o' : List ℕ) (n : ℕ) : Type 0 where
 -- a line taken apart: the answer, and the bytes in the room
 pub record Taken (line o : List ℕ) (q : Question) (o' : List ℕ) : Type 0 where
   pub answer : q ≡ questionIn (length o) line
-  pub bytes : Laid (bytesIn (length o) line) o o' (q .held)
+  pub bytes : Laid (bytesSpelt (length o) line) o o' (q .held)

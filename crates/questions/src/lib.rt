@@ -11,7 +11,7 @@ ghost use mathlib.Core.Path.{_≡_};
 ghost use Prim.Native.Nat.{_+_, _*_, _-_, _<_, _≤_, min};
 ghost use lib.ListN.{length, take, drop, getD, replicate};
 ghost use Rattle.questions.specs.Parts.{Room, partOf, LineHeld, Numbered, Placed};
-ghost use Rattle.questions.specs.Questions.{isDigit, isFigure, run, ends, nextAt, tens, numbersIn, value, spelt, grown, soundAt, Laid, Taken};
+ghost use Rattle.questions.specs.Questions.{isDigit, isFigure, run, ends, nextAt, tens, figuresIn, value, spelt, grown, soundAt, Laid, Taken};
 
 // As much room as any line, its bytes or an output want, all ee. The promise has its length too, which lending the array asks.
 pub fn room() -> [u8; 170000]
@@ -175,7 +175,7 @@ fn more(n: u64, c: u8) -> u64
 
 // The numbers, 0 where there are fewer. The space before the first of them steps on from the last.
 fn numbers_of(figures: &[u8]) -> [u64; 16]
-    ensures { λ r. ⌜ r ≡ numbersIn 15 (replicate 16 0) (now (figures .entry)) ⌝ }
+    ensures { λ r. ⌜ r ≡ figuresIn 15 (replicate 16 0) (now (figures .entry)) ⌝ }
 {
     let mut numbers = [0u64; 16];
     let mut at: usize = 15;

@@ -2,6 +2,7 @@ pub mod Views
 pub mod StepLaws
 pub mod One
 pub mod Records
+pub mod Entries
 pub mod Examples
 pub mod Known
 pub mod Limits

@@ -54,7 +54,7 @@ pub fn qids(out: &mut [u8], count: u64, given: &[u64]) -> String {
     let qids: Vec<Qid> = rows::<3>(given, count).iter().map(qid).collect();
     let (to, room) = (out.as_mut_ptr(), out.len());
     // SAFETY: as in `names`.
-    ended(unsafe { sheafsledge_write_rwalk(to, room, Tag(3), qids.as_ptr(), qids.len()) })
+    ended(unsafe { sheafsledge_write_rwalk(to, room, 3, qids.as_ptr(), qids.len()) })
 }
 
 /// Name or qid `i` of a vector: where it ends, and its span.

@@ -178,7 +178,7 @@ pub fn write_twalk(out: &mut [u8], lent: &[u8], head: Head, names: &[[usize; 2]]
 pub fn write_rwalk(out: &mut [u8], tag: u16, qids: &[Qid]) -> Outcome {
     let (to, room) = (out.as_mut_ptr(), out.len());
     // SAFETY: as in writing a frame; the table is a slice's too.
-    unsafe { sheafsledge_write_rwalk(to, room, Tag(tag), qids.as_ptr(), qids.len()) }
+    unsafe { sheafsledge_write_rwalk(to, room, tag, qids.as_ptr(), qids.len()) }
 }
 
 /// Whether a reply answers a request, each told by its type and its tag.

@@ -4,14 +4,14 @@ use native.Mathlib.Omega.{arith}
 use mathlib.Core.Path.{_≡_, refl}
 use borrow.Author.Needs.{needs}
 use lib.ListN.{length, drop, replicate}
-use Rattle.questions.specs.Questions.{numbersIn}
+use Rattle.questions.specs.Questions.{figuresIn}
 use Rattle.questions.proofs.Loops.{numbers-turn, numbers-over}
 use Rattle.questions.proofs.numbers_of.Statement.{statement}
 use Rattle.questions.proofs.numbers_of.Tie as tie
 
 abbrev Inv-loop : tie.InvT-loop
 Inv-loop figures numbers₀ at₀ i₀ numbers at i =
-    (i ≤ length figures) × (at < 16) × (numbersIn at numbers (drop i figures) ≡ numbersIn 15 (replicate 16 0) figures)
+    (i ≤ length figures) × (at < 16) × (figuresIn at numbers (drop i figures) ≡ figuresIn 15 (replicate 16 0) figures)
 
 abbrev μ-loop : tie.MeasureT-loop
 μ-loop figures numbers₀ at₀ i₀ numbers at i = length figures - i
