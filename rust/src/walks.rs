@@ -24,19 +24,24 @@ impl<'a> Names<'a> {
         Self { count, part }
     }
 
-    /// Puts names into a lent buffer, as a Twalk holds them: refused with 8, 7 or 11.
+    /// Puts names into a lent buffer, as a Twalk holds them: refused with 8, 7 or 11, and then the
+    /// buffer is as it was.
     pub fn gather(names: &[&str], buffer: &'a mut [u8]) -> Result<Self, Refusal> {
         let count = u16::try_from(names.len()).map_err(|_| Refusal::TableTooLong)?;
-        let mut end = 0;
-        for name in names {
-            let len = u16::try_from(name.len()).map_err(|_| Refusal::StringTooLong)?;
-            let next = end + 2 + name.len();
-            let place = buffer.get_mut(end..next).ok_or(Refusal::NoRoom)?;
+        let lens = names.iter().map(|name| u16::try_from(name.len()));
+        // At most 65,535 names of 65,537 bytes.
+        let size = lens
+            .clone()
+            .try_fold(0, |size, len| Some(size + 2 + usize::from(len.ok()?)));
+        let size = size.ok_or(Refusal::StringTooLong)?;
+        let part = buffer.get_mut(..size).ok_or(Refusal::NoRoom)?;
+        let mut rest = &mut *part;
+        for (name, len) in names.iter().zip(lens.flatten()) {
+            let (place, after) = rest.split_at_mut(2 + name.len());
             place[..2].copy_from_slice(&len.to_le_bytes());
             place[2..].copy_from_slice(name.as_bytes());
-            end = next;
+            rest = after;
         }
-        let part = &buffer[..end];
         Ok(Self { count, part })
     }
 
@@ -92,7 +97,8 @@ impl<'a> Qids<'a> {
         Self { count, part }
     }
 
-    /// Puts qids into a lent buffer, as an Rwalk holds them: refused with 8 or 11.
+    /// Puts qids into a lent buffer, as an Rwalk holds them: refused with 8 or 11, and then the
+    /// buffer is as it was.
     pub fn gather(qids: &[Qid], buffer: &'a mut [u8]) -> Result<Self, Refusal> {
         let count = u16::try_from(qids.len()).map_err(|_| Refusal::TableTooLong)?;
         let part = buffer.get_mut(..13 * qids.len()).ok_or(Refusal::NoRoom)?;

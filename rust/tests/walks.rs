@@ -118,3 +118,32 @@ fn refused_tables_leave_the_output_as_it_was() {
     assert_eq!(write_rwalk(&mut out, 3, &qids[..5]), Err(Refusal::NoRoom));
     assert_eq!(out, [0xee; 64]);
 }
+
+#[test]
+fn what_is_gathered_is_what_the_frame_holds() {
+    let mut buffer = [0xee; 16];
+    let names = Names::gather(&["a", "bc"], &mut buffer).expect("room");
+    assert_eq!(names, names_of(E));
+    assert_eq!(buffer[..7], E[17..], "as the frame has them");
+    assert_eq!(buffer[7..], [0xee; 9], "and nothing after them");
+}
+
+#[test]
+fn a_refused_gathering_leaves_the_buffer_as_it_was() {
+    let long = "a".repeat(65_536);
+    let many = vec![""; 65_536];
+    let refused = [
+        (&["a", "bc", &long][..], Refusal::StringTooLong),
+        (&["a", "bc"], Refusal::NoRoom),
+        (&many, Refusal::TableTooLong),
+    ];
+    for (names, refusal) in refused {
+        let mut buffer = [0xee; 6];
+        assert_eq!(Names::gather(names, &mut buffer), Err(refusal));
+        assert_eq!(buffer, [0xee; 6]);
+    }
+    let mut buffer = [0xee; 25];
+    let qids = Qids::gather(&[Qid::default(); 2], &mut buffer);
+    assert_eq!(qids, Err(Refusal::NoRoom));
+    assert_eq!(buffer, [0xee; 25]);
+}
