@@ -5,18 +5,21 @@ use std::io::{Error, ErrorKind};
 
 macro_rules! refusals {
     ($($number:literal $name:ident $kind:ident $text:literal)*) => {
-        /// Why a frame was not read or not written.
+        /// Why a frame was not read or not written. Later versions of the requirements have more.
         #[derive(Clone, Copy, Debug, PartialEq, Eq, Hash)]
+        #[non_exhaustive]
         pub enum Refusal {
             $(#[doc = $text] $name = $number,)*
         }
 
         impl Refusal {
+            /// 0 alone is no refusal: a number that is not known here is not taken for it.
             #[inline]
             pub(crate) fn of(number: u8) -> Option<Self> {
                 match number {
+                    0 => None,
                     $($number => Some(Self::$name),)*
-                    _ => None,
+                    _ => Some(Self::Foreign),
                 }
             }
 
@@ -56,6 +59,7 @@ refusals! {
     14 PartMalformed InvalidInput "the elements of a vector do not fill it"
     15 NoSuchElement InvalidInput "a vector has no element of that number"
     16 HoldsRefusal InvalidData "the frame holds a refusal, and no message to write"
+    255 Foreign Other "the library is another than this crate is for: it answers a number that is not known here"
 }
 
 impl Refusal {
@@ -71,5 +75,23 @@ impl std::error::Error for Refusal {}
 impl From<Refusal> for Error {
     fn from(refusal: Refusal) -> Self {
         Error::new(refusal.kind(), refusal)
+    }
+}
+
+#[cfg(test)]
+mod tests {
+    use super::Refusal;
+
+    #[test]
+    fn only_zero_is_no_refusal() {
+        for number in 0..=255 {
+            let told = Refusal::of(number).map(Refusal::number);
+            let owed = match number {
+                0 => None,
+                1..=16 => Some(number),
+                _ => Some(255),
+            };
+            assert_eq!(told, owed);
+        }
     }
 }
