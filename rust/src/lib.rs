@@ -2,10 +2,10 @@
 //!
 //! The types bear the names of p9 0.3.2's protocol module. What is read borrows from the bytes,
 //! nothing is allocated, and a refusal has its number. Where a frame ends is what its size says:
-//! bytes after the last field are a tail, and never another request; [`stream`] cuts a stream
-//! into frames by that, and [`stretch()`] bytes that hold several. The entries of a directory are
-//! given by [`Rreaddir::entries`]. The example `server` shows a directory with these, and is meant to
-//! be started from.
+//! bytes after the last field are a tail, and never another request; [`stream::Frames`] cuts a
+//! stream into frames by that, in a buffer that it allocates once, and [`stretch()`] bytes that
+//! hold several. The entries of a directory are given by [`Rreaddir::entries`]. The example
+//! `server` shows a directory with these, and is meant to be started from.
 //!
 //! ```
 //! use sheafsledge::{Names, Rframe, Rmessage, Tframe, Tmessage, Twalk};

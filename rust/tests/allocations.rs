@@ -3,7 +3,7 @@
 use std::alloc::{GlobalAlloc, Layout, System};
 use std::cell::Cell;
 
-use sheafsledge::stream::{next_frame, Next};
+use sheafsledge::stream::{Frames, Next};
 use sheafsledge::*;
 
 const SESSION: &[u8] = include_bytes!("../../examples/diod-session.bin");
@@ -38,9 +38,9 @@ fn counted(done: impl FnOnce()) -> usize {
     COUNT.get() - before
 }
 
-fn every_frame(buffer: &mut [u8], out: &mut [u8]) -> Result<usize, Refusal> {
-    let (mut stream, mut entries) = (SESSION, 0);
-    while let Ok(Next::Frame(frame)) = next_frame(&mut stream, buffer) {
+fn every_frame(stream: &mut Frames<&[u8]>, out: &mut [u8]) -> Result<usize, Refusal> {
+    let mut entries = 0;
+    while let Ok(Next::Frame(frame)) = stream.next_frame() {
         match frame[4] % 2 {
             0 => Tframe::decode(frame)?.frame.encode(out)?,
             _ => Rframe::decode(frame)?.frame.encode(out)?,
@@ -74,10 +74,10 @@ fn walks(out: &mut [u8]) -> Result<usize, Refusal> {
 
 #[test]
 fn nothing_is_allocated() {
-    let (mut buffer, mut out) = (vec![0; 65_536], vec![0; 65_536]);
+    let (mut stream, mut out) = (Frames::new(SESSION, 65_536), vec![0; 65_536]);
     let (mut entries, mut letters) = (Ok(0), Ok(0));
     let count = counted(|| {
-        entries = every_frame(&mut buffer, &mut out);
+        entries = every_frame(&mut stream, &mut out);
         letters = walks(&mut out);
     });
     assert_eq!(letters, Ok(20));

@@ -1,6 +1,6 @@
 //! A real session, cut into frames by their sizes: each is read, and written again byte for byte.
 
-use sheafsledge::stream::{next_frame, Next};
+use sheafsledge::stream::{Frames, Next};
 use sheafsledge::{Rframe, Tframe};
 
 const SESSION: &[u8] = include_bytes!("../../examples/diod-session.bin");
@@ -15,10 +15,10 @@ fn again(frame: &[u8], out: &mut [u8]) -> Result<usize, sheafsledge::Refusal> {
 
 #[test]
 fn every_frame_comes_back() {
-    let mut stream = SESSION;
-    let (mut buffer, mut out) = ([0; 65_536], [0; 65_536]);
+    let mut stream = Frames::new(SESSION, 65_536);
+    let mut out = [0; 65_536];
     let mut frames = 0;
-    while let Next::Frame(frame) = next_frame(&mut stream, &mut buffer).expect("whole frames") {
+    while let Next::Frame(frame) = stream.next_frame().expect("whole frames") {
         let len = again(frame, &mut out).expect("a sound frame");
         assert_eq!(&out[..len], frame, "frame {frames}");
         frames += 1;

@@ -15,7 +15,7 @@ use std::os::unix::fs::{symlink, MetadataExt};
 use std::path::PathBuf;
 use std::thread;
 
-use sheafsledge::stream::{next_frame, Next};
+use sheafsledge::stream::{Frames, Next};
 use sheafsledge::{Rframe, Rmessage};
 
 /// A folder of its own for each test: a.txt, sub/b.txt, and links out of it.
@@ -72,9 +72,9 @@ impl Client {
     /// The reply's bytes.
     fn asks(&mut self, request: &[u8]) -> Vec<u8> {
         self.0.write_all(request).expect("the server reads");
-        let mut buffer = vec![0; 65_536];
-        match next_frame(&mut self.0, &mut buffer).expect("a frame") {
+        match Frames::new(&self.0, 65_536).next_frame().expect("a frame") {
             Next::Frame(frame) => frame.to_vec(),
+            Next::TooLong(told) => panic!("{told:?}"),
             Next::End => panic!("the server has gone"),
         }
     }

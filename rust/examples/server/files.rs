@@ -27,6 +27,7 @@ impl Errno {
     pub const INVALID: Self = Self(22);
     pub const READ_ONLY: Self = Self(30);
     pub const LINK: Self = Self(40);
+    pub const TOO_LONG: Self = Self(90);
     pub const NOT_SUPPORTED: Self = Self(95);
 }
 

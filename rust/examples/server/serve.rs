@@ -3,31 +3,34 @@
 use std::io::{self, Read, Write};
 use std::path::Path;
 
-use sheafsledge::stream::{next_frame, Next};
+use sheafsledge::stream::{Frames, Next};
 use sheafsledge::{Refusal, Rframe, Rlerror, Rmessage, Tframe};
 
 use crate::files::Errno;
 use crate::session::{Session, MOST};
 
 /// Until the client goes, or sends what is no frame.
-pub fn serve(mut from: impl Read, mut to: impl Write, directory: &Path) -> io::Result<()> {
+pub fn serve(from: impl Read, mut to: impl Write, directory: &Path) -> io::Result<()> {
     let mut session = Session::new(directory)?;
-    let (mut request, mut data, mut reply) = (vec![0; MOST], vec![0; MOST], vec![0; MOST]);
+    let mut requests = Frames::new(from, session.msize());
+    let (mut data, mut reply) = (vec![0; MOST], vec![0; MOST]);
     loop {
-        // A frame that is longer than what was agreed on is refused by its size alone.
-        let room = &mut request[..session.msize()];
-        let Next::Frame(frame) = next_frame(&mut from, room)? else {
-            return Ok(());
-        };
-        // Bytes after the last field are a tail: they are left alone, and never a second request.
-        let Tframe { tag, msg } = Tframe::decode(frame)?.frame;
-        let answer = match msg {
-            Ok(msg) => session.answer(msg, &mut data),
-            Err(refusal) => Err(unreadable(refusal)),
+        let (tag, answer) = match requests.next_frame()? {
+            Next::Frame(frame) => {
+                // Bytes after the last field are a tail: left alone, and never a second request.
+                let Tframe { tag, msg } = Tframe::decode(frame)?.frame;
+                let answer = msg.map_err(unreadable);
+                (tag, answer.and_then(|msg| session.answer(msg, &mut data)))
+            }
+            // Its bytes are passed over in the next call.
+            Next::TooLong(told) => (told.tag, Err(Errno::TOO_LONG)),
+            Next::End => return Ok(()),
         };
         let msg = answer.unwrap_or_else(|Errno(ecode)| Rmessage::Lerror(Rlerror { ecode }));
         let len = Rframe { tag, msg }.encode(&mut reply)?;
         to.write_all(&reply[..len])?;
+        // A Tversion may have changed it.
+        requests.set_msize(session.msize());
     }
 }
 

@@ -61,8 +61,8 @@ impl Session {
     }
 
     /// The longest frame that was agreed on.
-    pub fn msize(&self) -> usize {
-        self.msize
+    pub fn msize(&self) -> u32 {
+        self.msize as u32
     }
 
     /// What a reply holds of data, entries or qids is put into `data`.

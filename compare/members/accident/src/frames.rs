@@ -3,11 +3,11 @@
 
 use std::io;
 
-use sheafsledge::stream::{next_frame, Next};
+use sheafsledge::stream::{Frames, Next};
 use sheafsledge::{Refusal, Tframe};
 
-/// The msize that the session begins with.
-const ROOM: usize = 8192;
+/// What the session begins with.
+const MSIZE: u32 = 8192;
 
 /// The bytes after the last field of a frame, and the frame's tag.
 #[derive(Clone, Debug, PartialEq, Eq)]
@@ -17,10 +17,15 @@ pub struct Tail {
 }
 
 /// The requests of the stream without their tails, and the tails.
-pub fn stripped(mut stream: &[u8]) -> io::Result<(Vec<u8>, Vec<Tail>)> {
+pub fn stripped(stream: &[u8]) -> io::Result<(Vec<u8>, Vec<Tail>)> {
     let (mut requests, mut tails) = (Vec::new(), Vec::new());
-    let mut room = [0; ROOM];
-    while let Next::Frame(frame) = next_frame(&mut stream, &mut room)? {
+    let mut frames = Frames::new(stream, MSIZE);
+    loop {
+        let frame = match frames.next_frame()? {
+            Next::Frame(frame) => frame,
+            Next::TooLong(told) => return Err(io::Error::other(format!("{told:?}"))),
+            Next::End => return Ok((requests, tails)),
+        };
         let read = Tframe::decode(frame)?;
         read.frame.msg?;
         requests.extend(written(&read.frame)?);
@@ -32,11 +37,10 @@ pub fn stripped(mut stream: &[u8]) -> io::Result<(Vec<u8>, Vec<Tail>)> {
             });
         }
     }
-    Ok((requests, tails))
 }
 
 fn written(request: &Tframe) -> Result<Vec<u8>, Refusal> {
-    let mut room = vec![0; ROOM];
+    let mut room = vec![0; MSIZE as usize];
     let len = request.encode(&mut room)?;
     room.truncate(len);
     Ok(room)
