@@ -382,7 +382,7 @@ fn a_size_that_no_frame_has_is_refused_by_four_bytes_and_stays() {
     }
 }
 
-/// Gives these bytes and fails then, once. After that it would give frames, but must not be asked.
+/// Gives these bytes and fails then, once. It must not be read after that.
 struct Failing<'a> {
     bytes: &'a [u8],
     error: Option<io::Error>,
@@ -539,9 +539,21 @@ fn the_stream_is_given_back_between_frames_alone() {
         assert_eq!(list, due(&bytes, msize), "{place} {msize}");
         assert_eq!(frames.into_inner().expect("the end").at, bytes.len());
     }
-    let mut broken = Frames::new(&TFLUSH[..8], MSIZE);
-    assert!(broken.next_frame().is_err());
-    assert!(broken.into_inner().is_err());
+}
+
+/// Also where it failed between two frames: what it lost there is not known.
+#[test]
+fn a_broken_stream_is_not_given_back() {
+    for end in 7..10 {
+        let error = Some(ErrorKind::ConnectionReset.into());
+        let bytes = &[RFLUSH, TFLUSH].concat()[..end];
+        let mut frames = Frames::new(Failing { bytes, error }, MSIZE);
+        assert_eq!(all(&mut frames).0.len(), 2, "a frame and the error");
+        assert!(frames.into_inner().is_err());
+    }
+    let mut frames = Frames::new(&TFLUSH[..8], MSIZE);
+    assert!(frames.next_frame().is_err());
+    assert!(frames.into_inner().is_err());
 }
 
 #[test]
