@@ -10,7 +10,7 @@ use p9::show::hex;
 use crate::kinds::Of;
 use crate::pieces::{lent, pieces, values};
 use crate::theirs::{self, Again, Theirs};
-use crate::{dirents, elements, raw, rows, stretches, tables};
+use crate::{dirents, elements, in_rust, raw, rows, stretches, tables};
 
 pub enum Outcome {
     /// The same, and whether it is a frame or a refusal.
@@ -42,8 +42,16 @@ const BLANK: u8 = 0xee;
 
 const MOST_SHOWN: usize = 100_000;
 
-/// What is asked of these bytes.
+/// What is asked of these bytes, over the C boundary and then through the crate in Rust.
 pub fn asked(of: Of, bytes: &[u8], draws: &mut Draws) -> Outcome {
+    let outcome = over_c(of, bytes, draws);
+    match outcome.differs() {
+        true => outcome,
+        false => in_rust::asked(of, bytes).unwrap_or(outcome),
+    }
+}
+
+fn over_c(of: Of, bytes: &[u8], draws: &mut Draws) -> Outcome {
     match of {
         Of::Read(direction) => read(direction, bytes),
         Of::Written(direction) => theirs::with_values(direction, bytes, |record| {

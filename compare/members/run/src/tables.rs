@@ -27,17 +27,23 @@ pub fn table(direction: Direction, frame: &[u8], draws: &mut Draws) -> Outcome {
 }
 
 fn twalk(frame: &[u8], head: ours::Head, names: &[&[u8]], draws: &mut Draws) -> Outcome {
+    let (lent, rows) = spans(names, draws);
+    in_rooms(0, frame, draws, |out| {
+        ours::write_twalk(out, &lent, head, &rows)
+    })
+}
+
+/// Bytes to lend that have each name somewhere, and a row for each.
+pub fn spans(names: &[&[u8]], draws: &mut Draws) -> (Vec<u8>, Vec<[usize; 2]>) {
     let pieces: Vec<Piece> = names
         .iter()
         .map(|name| Piece::from(Value::String(name)))
         .collect();
     let (lent, places) = lent(&pieces, draws);
-    let rows: Vec<[usize; 2]> = places
+    let rows = places
         .iter()
         .zip(names)
         .map(|(start, name)| [*start, name.len()])
         .collect();
-    in_rooms(0, frame, draws, |out| {
-        ours::write_twalk(out, &lent, head, &rows)
-    })
+    (lent, rows)
 }

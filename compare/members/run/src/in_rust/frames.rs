@@ -1,0 +1,106 @@
+//! Frames of either direction: read, written again, and made from the seller's.
+
+use std::cell::Cell;
+
+use judge::cases::wraps;
+use judge::{written, Direction};
+use p9::draw::Draws;
+use p9::protocol::{self as seller, WireFormat};
+use sheafsledge::{Decoded, Refusal, Rframe, Rmessage, Rread, Rreaddir, Tframe, Tmessage, Twrite};
+
+use super::fields::Beside;
+use super::{answer, found, put, unequal, Found, Wrote};
+use crate::compare::in_a_room;
+use crate::theirs::refusal;
+
+pub trait Frame<'a>: Beside<'a, Self::Theirs> {
+    type Theirs: WireFormat;
+
+    fn read(bytes: &'a [u8]) -> Result<Decoded<Self>, Refusal>;
+
+    fn write(&self, out: &mut [u8]) -> Wrote;
+
+    /// The type, where there is a message.
+    fn ty(&self) -> Option<u8>;
+}
+
+macro_rules! frame {
+    ($frame:ident, $ty:expr) => {
+        impl<'a> Frame<'a> for $frame<'a> {
+            type Theirs = seller::$frame;
+
+            fn read(bytes: &'a [u8]) -> Result<Decoded<Self>, Refusal> {
+                $frame::decode(bytes)
+            }
+
+            fn write(&self, out: &mut [u8]) -> Wrote {
+                self.encode(out)
+            }
+
+            fn ty(&self) -> Option<u8> {
+                let ty: fn(&Self) -> Option<u8> = $ty;
+                ty(self)
+            }
+        }
+    };
+}
+
+frame!(Tframe, |frame| frame.msg.ok().map(|msg| msg.ty()));
+frame!(Rframe, |frame| Some(frame.msg.ty()));
+
+/// Of a request whose message is refused nothing counts as used.
+pub fn read<'a, F: Frame<'a>>(bytes: &'a [u8]) -> Found {
+    let mut rest = bytes;
+    let theirs = F::Theirs::decode(&mut rest);
+    let ours = F::read(bytes);
+    let used = ours.as_ref().map_or(0, |ours| ours.used);
+    let ours = ours.map(|ours| ours.frame);
+    ours.difference(&theirs).or_else(|| {
+        let (ours, theirs) = (ours.ok()?, theirs.ok()?);
+        let ty = ours.ty();
+        let all = ty.map_or(0, |_| bytes.len() - rest.len());
+        unequal(&(used, ty), &(all, ty.map(|_| bytes[4]))).or_else(|| again(&ours, &theirs))
+    })
+}
+
+/// Row 1 of docs/DIFFERENCES.md is known.
+pub fn read_reply(bytes: &[u8]) -> Found {
+    match wraps(Direction::R, bytes) {
+        true => unequal(&Rframe::decode(bytes).err(), &Some(Refusal::SizeBelowFour)),
+        false => read::<Rframe>(bytes),
+    }
+}
+
+fn again<'a, F: Frame<'a>>(ours: &F, theirs: &F::Theirs) -> Found {
+    let theirs = written(theirs).map_err(|error| refusal(&error));
+    let room = theirs.as_ref().map_or(0, Vec::len) + 3;
+    found(in_a_room(room, theirs, |out| answer(ours.write(out))))
+}
+
+/// A frame of ours made from the seller's, and written beside what the seller wrote. The buffer is as
+/// long as that.
+pub fn made<'a, F: Frame<'a>>(
+    theirs: &'a F::Theirs,
+    buffer: &'a mut [u8],
+    bytes: &[u8],
+    draws: &mut Draws,
+) -> Found {
+    let ours = F::made(theirs, &Cell::new(buffer));
+    put(0, bytes, draws, |out| ours.write(out))
+}
+
+/// A frame with data that may be too long to be read again. Its numbers are those of `limits`.
+pub fn data(frame: &[u8], draws: &mut Draws) -> Found {
+    let (tag, fid, offset) = (1, 1, 2);
+    let data = |start| frame.get(start..).unwrap_or_default();
+    let msg = match frame[4] {
+        118 => {
+            let data = data(23);
+            let msg = Ok(Tmessage::Write(Twrite { fid, offset, data }));
+            return put(0, frame, draws, |out| Tframe { tag, msg }.encode(out));
+        }
+        117 => Rmessage::Read(Rread { data: data(11) }),
+        _ => Rmessage::Readdir(Rreaddir { data: data(11) }),
+    };
+    put(0, frame, draws, |out| Rframe { tag, msg }.encode(out))
+}

@@ -1,0 +1,130 @@
+//! Parts of frames: directory entries, and the elements of walks, by their numbers and from tables.
+
+use std::cell::Cell;
+
+use judge::written;
+use p9::draw::Draws;
+use p9::protocol::{self as seller, WireFormat};
+use sheafsledge::{
+    write_rwalk, write_twalk, Dirent, Qid, Refusal, Rframe, Rmessage, Rreaddir, Tframe, Tmessage,
+    WalkHead,
+};
+
+use super::fields::Beside;
+use super::{put, their, unequal, Found, SOUND};
+use crate::tables::spans;
+
+pub fn entry(at: usize, bytes: &[u8], draws: &mut Draws) -> Found {
+    let data = bytes.get(at..).unwrap_or_default();
+    let mut rest = data;
+    let theirs = seller::Dirent::decode(&mut rest);
+    let ours = Dirent::decode(bytes, at);
+    let next = ours.map(|(_, next)| next).ok();
+    let after = theirs.is_ok().then(|| bytes.len() - rest.len());
+    let ours = ours.map(|(entry, _)| entry);
+    ours.difference(&theirs)
+        .or_else(|| unequal(&next, &after))
+        .or_else(|| entries(data))
+        .or_else(|| written_at(&theirs.ok()?, draws))
+}
+
+/// Those of an Rreaddir, up to the first that is refused.
+fn entries(data: &[u8]) -> Found {
+    let mut ours = Rreaddir { data }.entries();
+    let mut rest = data;
+    while !rest.is_empty() {
+        let theirs = seller::Dirent::decode(&mut rest);
+        let found = match ours.next() {
+            Some(ours) => ours.difference(&theirs),
+            None => unequal(&"the end", &"an entry"),
+        };
+        if found.is_some() {
+            return found;
+        }
+        if theirs.is_err() {
+            break;
+        }
+    }
+    unequal(&ours.next().is_some(), &false)
+}
+
+/// At a place of an output.
+fn written_at(theirs: &seller::Dirent, draws: &mut Draws) -> Found {
+    let ours: Dirent = Beside::made(theirs, &Cell::default());
+    let bytes = written(theirs).expect(SOUND);
+    let before = draws.below(40);
+    put(before, &bytes, draws, |out| ours.encode(out, before))
+}
+
+/// Each name of a Twalk by its number, and none after the last.
+pub fn names(frame: &[u8]) -> Found {
+    let theirs = their_twalk(frame).1.wnames;
+    match Tframe::decode(frame).and_then(|read| read.frame.msg) {
+        Ok(Tmessage::Walk(ours)) => {
+            let mut all = 0..=theirs.len();
+            all.find_map(|i| numbered(ours.wnames.get(i), theirs.get(i)))
+        }
+        _ => unequal(&"no walk", &"a walk"),
+    }
+}
+
+/// The same of an Rwalk's qids.
+pub fn qids(frame: &[u8]) -> Found {
+    let theirs = their_rwalk(frame).1.wqids;
+    match Rframe::decode(frame).map(|read| read.frame.msg) {
+        Ok(Rmessage::Walk(ours)) => {
+            let mut all = 0..=theirs.len();
+            all.find_map(|i| numbered(ours.wqids.get(i), theirs.get(i)))
+        }
+        _ => unequal(&"no walk", &"a walk"),
+    }
+}
+
+fn numbered<'a, T, O: Beside<'a, T>>(ours: Result<O, Refusal>, theirs: Option<&T>) -> Found {
+    match (ours, theirs) {
+        (Ok(ours), Some(theirs)) => ours.difference(theirs),
+        (ours, theirs) => {
+            let none = theirs.is_none().then_some(Refusal::NoSuchElement);
+            unequal(&ours.err(), &none)
+        }
+    }
+}
+
+/// A Twalk written from a table of its names.
+pub fn twalk(frame: &[u8], draws: &mut Draws) -> Found {
+    let (tag, theirs) = their_twalk(frame);
+    let (fid, newfid) = (theirs.fid, theirs.newfid);
+    let head = WalkHead { tag, fid, newfid };
+    let names: Vec<&[u8]> = theirs.wnames.iter().map(|name| name.as_bytes()).collect();
+    let (lent, rows) = spans(&names, draws);
+    put(0, frame, draws, |out| write_twalk(out, &lent, head, &rows))
+}
+
+/// An Rwalk of its qids.
+pub fn rwalk(frame: &[u8], draws: &mut Draws) -> Found {
+    let (tag, theirs) = their_rwalk(frame);
+    let none = Cell::default();
+    let qids = theirs.wqids.iter().map(|qid| Beside::made(qid, &none));
+    let qids: Vec<Qid> = qids.collect();
+    put(0, frame, draws, |out| write_rwalk(out, tag, &qids))
+}
+
+fn their_twalk(frame: &[u8]) -> (u16, seller::Twalk) {
+    match their(frame) {
+        seller::Tframe {
+            tag,
+            msg: Ok(seller::Tmessage::Walk(walk)),
+        } => (tag, walk),
+        _ => unreachable!("a Twalk is asked for its names"),
+    }
+}
+
+fn their_rwalk(frame: &[u8]) -> (u16, seller::Rwalk) {
+    match their(frame) {
+        seller::Rframe {
+            tag,
+            msg: seller::Rmessage::Walk(walk),
+        } => (tag, walk),
+        _ => unreachable!("an Rwalk is asked for its qids"),
+    }
+}

@@ -1,0 +1,73 @@
+//! A stretch as the crate goes through it.
+
+use judge::cases::unknown;
+use judge::stretch::whole;
+use judge::Direction;
+use p9::protocol::{self as seller, WireFormat};
+use sheafsledge::{answers, Body, Listed, Mark};
+
+use super::fields::Beside;
+use super::{unequal, Found};
+
+/// To its end, or to where it breaks off; nothing is given after that.
+pub fn stretch(bytes: &[u8]) -> Found {
+    let mut ours = sheafsledge::stretch(bytes);
+    let (mut at, mut broken) = (0, false);
+    while at < bytes.len() && !broken {
+        let found = match (ours.next(), whole(&bytes[at..])) {
+            (Some(Ok(ours)), Ok(frame)) => {
+                let place = at;
+                at += frame.len();
+                listed(&ours, place, frame)
+            }
+            (Some(Err(stop)), Err(refusal)) => {
+                broken = true;
+                unequal(&(stop.at, stop.refusal.number()), &(at, refusal))
+            }
+            (ours, theirs) => unequal(
+                &ours.map(|ours| ours.err().map(|stop| stop.refusal.number())),
+                &Some(theirs.err()),
+            ),
+        };
+        if found.is_some() {
+            return found;
+        }
+    }
+    unequal(&ours.next().is_some(), &false)
+}
+
+fn listed(ours: &Listed, at: usize, frame: &[u8]) -> Found {
+    let (ty, tag) = (frame[4], u16::from_le_bytes([frame[5], frame[6]]));
+    let places = [ours.at, ours.size, ours.next];
+    unequal(&places, &[at, frame.len(), at + frame.len()])
+        .or_else(|| unequal(&(ours.ty, ours.tag), &(ty, tag)))
+        .or_else(|| body(ours, frame))
+        .or_else(|| pairs(ours.mark(), Mark { ty, tag }))
+}
+
+/// A refused body has no tail.
+fn body(ours: &Listed, frame: &[u8]) -> Found {
+    let mut rest = frame;
+    let (found, held) = match (&ours.body, frame[4] % 2) {
+        (Body::Request(ours), 0) => {
+            let theirs = seller::Tframe::decode(&mut rest).and_then(|frame| frame.msg);
+            (ours.difference(&theirs), theirs.is_ok())
+        }
+        (Body::Reply(ours), 1) => {
+            let theirs = seller::Rframe::decode(&mut rest).map(|frame| frame.msg);
+            (ours.difference(&theirs), theirs.is_ok())
+        }
+        _ => (unequal(&"one direction", &"the other"), false),
+    };
+    let tail = if held { rest.len() } else { 0 };
+    found.or_else(|| unequal(&ours.tail, &tail))
+}
+
+/// Whether the next number answers it, by F7.1, with its tag and with another.
+fn pairs(ours: Mark, Mark { ty, tag }: Mark) -> Found {
+    let ty_after = ty.wrapping_add(1);
+    let tags = [tag, !tag];
+    let replies = tags.map(|tag| answers(ours, Mark { ty: ty_after, tag }));
+    let known = !unknown(Direction::T).contains(&ty);
+    unequal(&replies, &[known, false])
+}
