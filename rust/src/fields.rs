@@ -18,8 +18,13 @@ impl<'a> Taken<'a, '_> {
     }
 
     #[inline(always)]
+    fn place(&mut self) -> (usize, usize) {
+        (self.next() as usize, self.next() as usize)
+    }
+
+    #[inline(always)]
     fn span(&mut self) -> &'a [u8] {
-        let (start, len) = (self.next() as usize, self.next() as usize);
+        let (start, len) = self.place();
         shown(self.frame, start, len)
     }
 }
@@ -31,6 +36,28 @@ pub fn shown(bytes: &[u8], start: usize, len: usize) -> &[u8] {
         .get(start..)
         .and_then(|rest| rest.get(..len))
         .unwrap_or_default()
+}
+
+/// A string of accepted bytes: the one place where a `&str` is made of them.
+///
+/// What makes it safe is that the library found UTF-8 there. Looking once more would double the time
+/// that a walk's names take, so it is done where assertions are. What is always looked at is that the
+/// string's count stands right before it: with fields in a wrong order, numbers that were taken for a
+/// span would show nothing.
+#[inline(always)]
+pub fn text(bytes: &[u8], start: usize, len: usize) -> &str {
+    let counted = start.checked_sub(2).and_then(|count| bytes.get(count..));
+    let shown = match counted.and_then(<[u8]>::split_first_chunk) {
+        Some((count, after)) if usize::from(u16::from_le_bytes(*count)) == len => {
+            after.get(..len).unwrap_or_default()
+        }
+        _ => &[],
+    };
+    debug_assert!(std::str::from_utf8(shown).is_ok(), "{shown:?} is no string");
+    // SAFETY: the library accepts a frame, an entry or a walk's names only if each string is UTF-8 by
+    // RFC 3629 (`readString`, `readMany`, `elementAt`, `utf8` in the definitions); names that were
+    // gathered are copies of `&str`.
+    unsafe { std::str::from_utf8_unchecked(shown) }
 }
 
 /// What is to be written: the values, and the bytes that their spans point into, at most two slices
@@ -123,10 +150,8 @@ impl<'a> Field<'a> for () {
 impl<'a> Field<'a> for &'a str {
     #[inline(always)]
     fn take(taken: &mut Taken<'a, '_>) -> Self {
-        let bytes = taken.span();
-        // SAFETY: the library accepts a frame or an entry only if its strings are UTF-8 by RFC 3629
-        // (`readString`, `utf8` in the definitions).
-        unsafe { std::str::from_utf8_unchecked(bytes) }
+        let (start, len) = taken.place();
+        text(taken.frame, start, len)
     }
 
     #[inline(always)]

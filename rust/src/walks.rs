@@ -1,6 +1,6 @@
 //! The elements of walks: names and qids, as they stand on the wire.
 
-use crate::fields::{shown, Field, Taken};
+use crate::fields::{text, Field, Taken};
 use crate::{ffi, Qid, Refusal};
 
 /// The names of a Twalk: a part of a frame that was read, or of a buffer that they were gathered in.
@@ -66,21 +66,17 @@ impl<'a> Names<'a> {
     /// ```
     pub fn get(&self, i: usize) -> Result<&'a str, Refusal> {
         let [start, len] = ffi::name_at(self.part, self.count, i)?;
-        let name = shown(self.part, start as usize, len as usize);
-        // SAFETY: an element is given only of a part whose names are all UTF-8 (`elementAt` in the
-        // definitions).
-        Ok(unsafe { std::str::from_utf8_unchecked(name) })
+        Ok(text(self.part, start as usize, len as usize))
     }
 
     pub fn iter(&self) -> impl Iterator<Item = &'a str> {
         let mut rest = self.part;
         std::iter::from_fn(move || {
-            let (len, behind) = rest.split_first_chunk()?;
-            let (name, behind) = behind.split_at_checked(u16::from_le_bytes(*len).into())?;
-            rest = behind;
-            // SAFETY: every name of an accepted part is UTF-8 (`readMany` in the definitions);
-            // gathered names were `&str`.
-            Some(unsafe { std::str::from_utf8_unchecked(name) })
+            let (count, after) = rest.split_first_chunk()?;
+            let len = usize::from(u16::from_le_bytes(*count));
+            let name = text(rest, 2, len);
+            rest = after.get(len..)?;
+            Some(name)
         })
     }
 }
