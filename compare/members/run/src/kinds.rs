@@ -78,6 +78,20 @@ pub enum Of {
     Row(u8),
 }
 
+impl Of {
+    /// That of the frame, where one frame is asked about.
+    pub fn direction(self) -> Option<Direction> {
+        match self {
+            Self::Read(direction)
+            | Self::Written(direction)
+            | Self::Data(direction)
+            | Self::Elements(direction)
+            | Self::Table(direction) => Some(direction),
+            _ => None,
+        }
+    }
+}
+
 /// What an input of `compare/fuzz` asks of its other bytes by its first one.
 pub fn chosen(first: u8) -> Of {
     match first % 9 {

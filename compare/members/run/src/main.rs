@@ -1,5 +1,6 @@
 //! `compare/run` builds and runs this; see its head for the usage.
 
+use std::collections::BTreeSet;
 use std::env;
 use std::process::ExitCode;
 
@@ -23,6 +24,8 @@ struct Tally {
     known: u64,
     differ: u64,
     smallest: Option<Difference>,
+    /// What was asked of a frame that differs, and the frame's type.
+    types: BTreeSet<(String, u8)>,
 }
 
 impl Tally {
@@ -45,6 +48,9 @@ impl Tally {
             Outcome::Known => self.known += 1,
             Outcome::Differs { ours, theirs } => {
                 self.differ += 1;
+                if let (Some(_), Some(ty)) = (of.direction(), input.get(4)) {
+                    self.types.insert((format!("{of:?}"), *ty));
+                }
                 let size = |input: &[u8]| (input.len(), input.to_vec());
                 let found = self.smallest.as_ref();
                 if found.is_none_or(|found| size(&input) < size(&found.input)) {
@@ -90,7 +96,7 @@ fn shares(cases: u64) -> Vec<u64> {
     shares
 }
 
-fn tell(name: &str, found: &Difference) {
+fn tell(name: &str, found: &Difference, types: &BTreeSet<(String, u8)>) {
     let Difference {
         of,
         input,
@@ -100,6 +106,9 @@ fn tell(name: &str, found: &Difference) {
     println!("{name} differs at {of:?} {}", start(input));
     println!("  ours: {ours}");
     println!("  theirs: {theirs}");
+    for (of, ty) in types {
+        println!("  {of} of type {ty} differs");
+    }
 }
 
 fn main() -> ExitCode {
@@ -118,7 +127,7 @@ fn main() -> ExitCode {
         let tally = run(kind, share, seed);
         println!("{name} {}", tally.counts());
         if let Some(found) = &tally.smallest {
-            tell(name, found);
+            tell(name, found, &tally.types);
         }
         known += tally.known;
         differ += tally.differ;
