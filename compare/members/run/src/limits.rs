@@ -5,7 +5,7 @@ use judge::Direction;
 use p9::draw::{Draw, Draws};
 use p9::protocol::{
     Data, P9String, Rframe, Rmessage, Rread, Rreaddir, Rreadlink, Rwalk, Tframe, Tmessage,
-    Tversion, Twalk, Twrite,
+    Tsymlink, Tversion, Twalk, Twrite,
 };
 
 use crate::kinds::{Asked, Of};
@@ -32,7 +32,7 @@ pub fn limit(turn: usize, draws: &mut Draws) -> Vec<Asked> {
             .flat_map(|count| both(frame(count), Of::Data))
             .collect();
     }
-    let (direction, frame) = match turn % 5 {
+    let (direction, frame) = match turn % 6 {
         0 => t(Tmessage::Version(Tversion {
             msize: Draw::draw(draws),
             version: string(draws),
@@ -47,6 +47,12 @@ pub fn limit(turn: usize, draws: &mut Draws) -> Vec<Asked> {
         })),
         3 => r(Rmessage::Walk(Rwalk {
             wqids: vec![Draw::draw(draws); most(draws)],
+        })),
+        4 => t(Tmessage::Symlink(Tsymlink {
+            fid: Draw::draw(draws),
+            name: string(draws),
+            symtgt: string(draws),
+            gid: Draw::draw(draws),
         })),
         _ => return counted(draws).into_iter().map(read).collect(),
     };
