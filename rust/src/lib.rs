@@ -26,9 +26,10 @@
 //! # Ok::<(), sheafsledge::Refusal>(())
 //! ```
 //!
-//! `unsafe` stands in five places, each with the promise that it rests on: the calls of the
-//! library (`ffi`), and four times where bytes that the library accepted as UTF-8 become a `&str`:
-//! a frame's string, a directory entry's name, and a walk's names, in order or by their number.
+//! `unsafe` stands in two places, each with the promise that it rests on: the calls of the library
+//! (`ffi`), and the one function that makes a `&str` of bytes which the library accepted (`text` in
+//! `fields`): a frame's string, a directory entry's name, and a walk's names, in order or by their
+//! number. It looks at the count that stands before a string, and at its UTF-8 where assertions are.
 
 mod boundary;
 mod dirents;
