@@ -30,6 +30,12 @@
 //! (`ffi`), and the one function that makes a `&str` of bytes which the library accepted (`text` in
 //! `fields`): a frame's string, a directory entry's name, and a walk's names, in order or by their
 //! number. It looks at the count that stands before a string, and at its UTF-8 where assertions are.
+//!
+//! It is for x86-64 Linux alone: the library is compiled for that, and hands over its arguments as C
+//! does there.
+
+#[cfg(not(all(target_arch = "x86_64", target_os = "linux")))]
+compile_error!("sheafsledge is for x86-64 Linux alone: the proved library is compiled for that");
 
 mod boundary;
 mod dirents;
