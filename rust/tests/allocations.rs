@@ -1,42 +1,12 @@
 //! Nothing is allocated in reading or writing.
 
-use std::alloc::{GlobalAlloc, Layout, System};
-use std::cell::Cell;
+mod counting;
 
+use counting::counted;
 use sheafsledge::stream::{Frames, Next};
 use sheafsledge::*;
 
 const SESSION: &[u8] = include_bytes!("../../examples/diod-session.bin");
-
-struct Counting;
-
-thread_local! {
-    static COUNT: Cell<usize> = const { Cell::new(0) };
-}
-
-// SAFETY: the system's allocator does all of it; a number is counted up beside it.
-unsafe impl GlobalAlloc for Counting {
-    unsafe fn alloc(&self, layout: Layout) -> *mut u8 {
-        COUNT.set(COUNT.get() + 1);
-        // SAFETY: as the caller promises.
-        unsafe { System.alloc(layout) }
-    }
-
-    unsafe fn dealloc(&self, place: *mut u8, layout: Layout) {
-        // SAFETY: as the caller promises.
-        unsafe { System.dealloc(place, layout) }
-    }
-}
-
-#[global_allocator]
-static ALLOCATOR: Counting = Counting;
-
-/// How often the thread allocated in there.
-fn counted(done: impl FnOnce()) -> usize {
-    let before = COUNT.get();
-    done();
-    COUNT.get() - before
-}
 
 fn every_frame(stream: &mut Frames<&[u8]>, out: &mut [u8]) -> Result<usize, Refusal> {
     let mut entries = 0;

@@ -3,6 +3,7 @@
 //! What a stream has to give is asked of the proved library, which lists the same bytes as a
 //! stretch.
 
+mod counting;
 #[cfg(target_os = "linux")]
 #[path = "../examples/server/files.rs"]
 mod files;
@@ -13,11 +14,10 @@ mod serve;
 #[path = "../examples/server/session.rs"]
 mod session;
 
-use std::alloc::{GlobalAlloc, Layout, System};
-use std::cell::Cell;
 use std::io::{self, ErrorKind, Read};
 use std::panic::{catch_unwind, AssertUnwindSafe};
 
+use counting::counted;
 use sheafsledge::stream::{Broken, Frames, Next, TooLong};
 use sheafsledge::{stretch, Refusal, Tframe, Tmessage};
 
@@ -603,36 +603,6 @@ fn streams_by_chance_are_cut_as_the_stretch_is() {
         let (list, _) = all(&mut Frames::new(stream, msize));
         assert_eq!(list, due(&bytes, msize), "{stream:?} {msize}");
     }
-}
-
-struct Counting;
-
-thread_local! {
-    static COUNT: Cell<usize> = const { Cell::new(0) };
-}
-
-// SAFETY: the system's allocator does all of it; a number is counted up beside it.
-unsafe impl GlobalAlloc for Counting {
-    unsafe fn alloc(&self, layout: Layout) -> *mut u8 {
-        COUNT.set(COUNT.get() + 1);
-        // SAFETY: as the caller promises.
-        unsafe { System.alloc(layout) }
-    }
-
-    unsafe fn dealloc(&self, place: *mut u8, layout: Layout) {
-        // SAFETY: as the caller promises.
-        unsafe { System.dealloc(place, layout) }
-    }
-}
-
-#[global_allocator]
-static ALLOCATOR: Counting = Counting;
-
-/// How often the thread allocated in there.
-fn counted(done: impl FnOnce()) -> usize {
-    let before = COUNT.get();
-    done();
-    COUNT.get() - before
 }
 
 /// How many frames there are, and how many that are too long.
