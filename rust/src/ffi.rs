@@ -123,7 +123,12 @@ pub fn write_rwalk(out: &mut [u8], tag: u16, qids: &[Qid]) -> Result<usize, Refu
     unsafe { sheafsledge_write_rwalk(to, room, tag, qids.as_ptr(), qids.len()) }.told()
 }
 
-impl Outcome {
+/// What an outcome is in Rust: the place, or the refusal.
+trait Told {
+    fn told(self) -> Result<usize, Refusal>;
+}
+
+impl Told for Outcome {
     #[inline]
     fn told(self) -> Result<usize, Refusal> {
         Refusal::of(self.refusal).map_or(Ok(self.place), Err)

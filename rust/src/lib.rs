@@ -34,12 +34,12 @@
 //! It is for x86-64 Linux alone: the library is compiled for that, and hands over its arguments as C
 //! does there.
 
-#[cfg(not(all(target_arch = "x86_64", target_os = "linux")))]
-compile_error!("sheafsledge is for x86-64 Linux alone: the proved library is compiled for that");
+#![deny(unsafe_code)]
 
-mod boundary;
 mod dirents;
+#[allow(unsafe_code)]
 mod ffi;
+#[allow(unsafe_code)]
 mod fields;
 mod frames;
 mod records;
@@ -48,6 +48,8 @@ pub mod stream;
 mod stretch;
 mod tables;
 mod walks;
+
+use sheafsledge_sys as boundary;
 
 pub use dirents::{Dirent, Dirents};
 pub use frames::{Decoded, Rframe, Tframe};

@@ -1,5 +1,5 @@
 //! Holds the two texts of the boundary to each other: the `#[repr(C)]` structs and the exported
-//! functions of crates/*/src/*.rt, and src/boundary.rs. Fields and parameters have to be the same,
+//! functions of crates/*/src/*.rt, and sys/src/lib.rs. Fields and parameters have to be the same,
 //! in the same order, with the same names and types; a slice is a pointer and a count.
 
 use std::collections::BTreeMap;
@@ -145,8 +145,8 @@ fn sources(root: &Path) -> Vec<PathBuf> {
 }
 
 fn boundary() -> String {
-    let path = Path::new(env!("CARGO_MANIFEST_DIR")).join("src/boundary.rs");
-    fs::read_to_string(path).expect("boundary.rs is there")
+    let path = Path::new(env!("CARGO_MANIFEST_DIR")).join("sys/src/lib.rs");
+    fs::read_to_string(path).expect("sys/src/lib.rs is there")
 }
 
 fn both() -> (Side, Side) {
@@ -182,7 +182,7 @@ fn differences(
     let line = |name: &String| {
         let said = |side: Option<&Vec<Typed>>| side.map_or("nothing".into(), |all| shown(all));
         format!(
-            "{name}: the library has {}; boundary.rs has {}",
+            "{name}: the library has {}; sys/src/lib.rs has {}",
             said(library.get(name)),
             said(rust.get(name))
         )

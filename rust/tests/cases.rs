@@ -10,19 +10,12 @@
 //! after the numbers makes N bytes of those given, the last K of them over and over. An output was
 //! all ee; of more than 1,024 bytes its runs are shown, as `ff*2.61*65535.`.
 
-// Has the archives linked.
-use sheafsledge as _;
-
-// All but two of its functions are asked: the crate's other tests call those.
-#[allow(dead_code)]
-#[path = "../src/boundary.rs"]
-mod boundary;
 #[path = "cases/frames.rs"]
 mod frames;
 #[path = "cases/others.rs"]
 mod others;
 
-use boundary::Outcome;
+use sheafsledge_sys::Outcome;
 
 const QUESTIONS: &str = include_str!("cases/questions");
 const ANSWERS: &str = include_str!("cases/answers");

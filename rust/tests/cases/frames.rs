@@ -1,7 +1,7 @@
 //! A frame read and written from flat values.
 
-use crate::boundary::*;
 use crate::{ended, listed, BEFORE};
+use sheafsledge_sys::*;
 
 fn read_t(bytes: &[u8], values: &mut [u64; T_VALUES]) -> Outcome {
     // SAFETY: pointer and count are a slice's, and the values are borrowed alone. The library is

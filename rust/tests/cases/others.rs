@@ -1,7 +1,7 @@
 //! Directory entries, walks, stretches and pairs.
 
-use crate::boundary::*;
 use crate::{ended, listed, BEFORE};
+use sheafsledge_sys::*;
 
 /// The most rows that a table has here.
 const ROWS: usize = 65_536;

@@ -1,12 +1,9 @@
 //! The proved library, over its C boundary.
 
-#[path = "../../../../rust/src/boundary.rs"]
-mod boundary;
-
-use boundary::*;
 use judge::Direction;
+use sheafsledge_sys::*;
 
-pub use boundary::{Outcome, Qid, ENTRY_VALUES, QID_VALUES, R_VALUES, SPAN_VALUES};
+pub use sheafsledge_sys::{Outcome, Qid, ENTRY_VALUES, QID_VALUES, R_VALUES, SPAN_VALUES};
 
 /// What the library answers, and the values that it leaves beside it.
 pub type Told<const N: usize> = (Outcome, [u64; N]);

@@ -1,9 +1,16 @@
-//! What the proved library's functions are to C: those of the crates `exports`, `request_exports` and
-//! `reply_exports`, declared once for this crate and for the comparison.
+//! The proved library as C sees it: the functions of the crates `exports`, `request_exports` and
+//! `reply_exports`, and the archive that holds them, which the build script has linked. The crate
+//! `sheafsledge` is what a server calls; it adds slices, records and refusals to these.
 //!
 //! Nothing joins the two texts but the names of the functions, so a difference would be read as
 //! other values. The layouts are held to C's at the end of this file, when it is compiled;
-//! `tests/boundary.rs` holds the text to the library's, field by field and parameter by parameter.
+//! `tests/boundary.rs` of the crate above holds the text to the library's, field by field and
+//! parameter by parameter.
+
+#![no_std]
+
+#[cfg(not(all(target_arch = "x86_64", target_os = "linux")))]
+compile_error!("sheafsledge is for x86-64 Linux alone: the proved library is compiled for that");
 
 /// How many values cross with a request, a reply, a directory entry, a qid and an element of a walk.
 pub const T_VALUES: usize = 10;

@@ -11,8 +11,8 @@ const EXPORTING: [&str; 3] = ["exports", "request_exports", "reply_exports"];
 
 fn main() {
     println!("cargo::rerun-if-env-changed=SHEAFSLEDGE_LIB");
-    println!("cargo::rerun-if-changed=../crates");
-    println!("cargo::rerun-if-changed=../crates.txt");
+    println!("cargo::rerun-if-changed=../../crates");
+    println!("cargo::rerun-if-changed=../../crates.txt");
     match folder() {
         Ok(folder) => link(&folder),
         // Cargo fails the build for this line; a panic would add a dozen more.
@@ -40,7 +40,8 @@ fn folder() -> Result<PathBuf, String> {
     if let Some(named) = env::var_os("SHEAFSLEDGE_LIB") {
         return held(named.into());
     }
-    let root = PathBuf::from(env::var_os("CARGO_MANIFEST_DIR").expect("cargo sets it")).join("..");
+    let root =
+        PathBuf::from(env::var_os("CARGO_MANIFEST_DIR").expect("cargo sets it")).join("../..");
     let folder = root.join("target/staticlib");
     for name in EXPORTING {
         if !is_new(&archive(&folder, name), &root) {
