@@ -51,3 +51,12 @@ pub fn ended(p: Place) -> Outcome
 {
     outcome_of(0, 0, false, p)
 }
+
+// The number of the boundary between this library and Rust. The name holds it, so that Rust does not link with a library of another
+// boundary. It rises whenever a function or a struct that crosses changes.
+#[no_mangle]
+pub extern "C" fn sheafsledge_boundary_1() -> u32
+    ensures { λ r. ⌜ r ≡ 1 ⌝ }
+{
+    1
+}
