@@ -1,31 +1,36 @@
 //! The entries of a directory, as an Rreaddir's data holds them one after the other.
 
 use crate::boundary::ENTRY_VALUES;
-use crate::fields::{Field, Filling, Put, Taken};
-use crate::{ffi, Qid, Refusal, Rreaddir};
+use crate::fields::{fill, Field, Filling, Taken};
+use crate::{ffi, Qid, Refusal, Rreaddir, Text};
 
 /// A directory entry: 24 bytes and its name on the wire.
 ///
 /// ```
-/// use sheafsledge::{Dirent, Qid, Rreaddir};
+/// use sheafsledge::{Data, Dirent, Qid, Rreaddir, Text};
 /// let qid = Qid { ty: 0x80, version: 0, path: 7 };
 /// let mut data = [0; 64];
-/// let first = Dirent { qid, offset: 1, ty: 4, name: "dcim" }.encode(&mut data, 0)?;
-/// let end = Dirent { qid, offset: 2, ty: 8, name: "log" }.encode(&mut data, first)?;
-/// assert_eq!((first, end), (28, 55));
+/// let dcim = Dirent { qid, offset: 1, ty: 4, name: Text::new("dcim")? };
+/// let log = Dirent { qid, offset: 2, ty: 8, name: Text::new("log")? };
+/// let first = dcim.encode(&mut data, 0)?;
+/// let end = log.encode(&mut data, first)?;
+/// assert_eq!((first, end), (dcim.byte_size(), dcim.byte_size() + log.byte_size()));
 ///
-/// let data = &data[..end];
-/// let names = Rreaddir { data }.entries().map(|entry| entry.map(|entry| entry.name));
-/// assert_eq!(names.collect::<Result<Vec<_>, _>>(), Ok(vec!["dcim", "log"]));
+/// let data = Data(&data[..end]);
+/// let entries = Rreaddir { data }.entries();
+/// assert_eq!(entries.collect::<Result<Vec<_>, _>>()?, [dcim, log]);
 /// # Ok::<(), sheafsledge::Refusal>(())
 /// ```
 #[derive(Clone, Copy, Debug, PartialEq, Eq)]
 pub struct Dirent<'a> {
+    /// The file's qid.
     pub qid: Qid,
     /// Where a client that has come so far goes on: what it asks the next Treaddir for.
     pub offset: u64,
+    /// The kind of file, as readdir(3) numbers it.
     pub ty: u8,
-    pub name: &'a str,
+    /// The file's name in the directory.
+    pub name: Text<'a>,
 }
 
 impl<'a> Dirent<'a> {
@@ -40,8 +45,14 @@ impl<'a> Dirent<'a> {
     /// Writes the entry at a place of the output, and answers the place after it. Refused, the
     /// output is as it was: 11 where it ends before the entry does.
     pub fn encode(&self, out: &mut [u8], at: usize) -> Result<usize, Refusal> {
-        let Put { values, lent } = Put::of(self);
-        ffi::write_dirent(out, at, lent[0], &values)
+        let mut values = [0; ENTRY_VALUES];
+        let [name, _] = fill(&mut values, self);
+        ffi::write_dirent(out, at, name, &values)
+    }
+
+    /// How many bytes it is on the wire. Every entry has a size, since every [`Text`] fits.
+    pub fn byte_size(&self) -> usize {
+        self.size()
     }
 }
 
@@ -62,13 +73,17 @@ impl<'a> Field<'a> for Dirent<'a> {
         self.ty.put(put);
         self.name.put(put);
     }
+
+    fn size(&self) -> usize {
+        self.qid.size() + self.offset.size() + self.ty.size() + self.name.size()
+    }
 }
 
 impl<'a> Rreaddir<'a> {
     /// The entries one by one. The data is whatever the server sent, so an entry may be refused;
     /// none is given after that one.
     pub fn entries(&self) -> Dirents<'a> {
-        let (data, at) = (self.data, 0);
+        let (data, at) = (self.data.0, 0);
         Dirents { data, at }
     }
 }
@@ -93,4 +108,4 @@ impl<'a> Iterator for Dirents<'a> {
     }
 }
 
-impl std::iter::FusedIterator for Dirents<'_> {}
+impl core::iter::FusedIterator for Dirents<'_> {}

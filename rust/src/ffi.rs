@@ -1,7 +1,7 @@
 //! The proved library over its C boundary; all calls of it are here.
 
-use crate::boundary::*;
-use crate::{Refusal, WalkHead};
+use crate::boundary::{self, *};
+use crate::{Mark, Refusal, Tag, WalkHead};
 
 #[inline]
 pub fn read_t(bytes: &[u8], values: &mut [u64; T_VALUES]) -> Outcome {
@@ -60,34 +60,61 @@ pub fn qid_at(part: &[u8], count: u16, i: usize) -> Result<[u64; SPAN_VALUES], R
     found.told().map(|_| span)
 }
 
-pub fn answers(request_ty: u8, request_tag: u16, reply_ty: u8, reply_tag: u16) -> bool {
+pub fn answers(request: Mark, reply: Mark) -> bool {
+    let (request_tag, reply_tag) = (crossing(request.tag), crossing(reply.tag));
     // SAFETY: numbers alone, and any are answered.
-    unsafe { sheafsledge_answers(request_ty, Tag(request_tag), reply_ty, Tag(reply_tag)) }
+    unsafe { sheafsledge_answers(request.ty, request_tag, reply.ty, reply_tag) }
 }
 
 #[inline]
 pub fn write_t(
     out: &mut [u8],
     lent: &[u8],
-    (ty, tag): (u8, u16),
+    (ty, tag): (u8, Tag),
     values: &[u64; T_VALUES],
-) -> Result<usize, Refusal> {
+) -> Outcome {
     let (to, room, from, count) = (out.as_mut_ptr(), out.len(), lent.as_ptr(), lent.len());
     // SAFETY: as for `read_t`; the output is borrowed alone, so that it overlaps nothing, and the
     // values are as many as the function takes.
-    unsafe { sheafsledge_write_tframe(to, room, from, count, 0, ty, Tag(tag), values) }.told()
+    unsafe { sheafsledge_write_tframe(to, room, from, count, 0, ty, crossing(tag), values) }
+}
+
+/// A request with two strings, each in a slice of its own.
+pub fn write_two(
+    out: &mut [u8],
+    [first, second]: [&[u8]; 2],
+    (ty, tag): (u8, Tag),
+    values: &[u64; T_VALUES],
+) -> Outcome {
+    let (to, room, tag) = (out.as_mut_ptr(), out.len(), crossing(tag));
+    let (first, first_count) = (first.as_ptr(), first.len());
+    let (second, second_count) = (second.as_ptr(), second.len());
+    // SAFETY: as for `write_t`; both strings are slices.
+    unsafe {
+        sheafsledge_write_two(
+            to,
+            room,
+            first,
+            first_count,
+            second,
+            second_count,
+            ty,
+            tag,
+            values,
+        )
+    }
 }
 
 #[inline]
 pub fn write_r(
     out: &mut [u8],
     lent: &[u8],
-    (ty, tag): (u8, u16),
+    (ty, tag): (u8, Tag),
     values: &[u64; R_VALUES],
-) -> Result<usize, Refusal> {
+) -> Outcome {
     let (to, room, from, count) = (out.as_mut_ptr(), out.len(), lent.as_ptr(), lent.len());
     // SAFETY: as for `write_t`.
-    unsafe { sheafsledge_write_rframe(to, room, from, count, 0, ty, Tag(tag), values) }.told()
+    unsafe { sheafsledge_write_rframe(to, room, from, count, 0, ty, crossing(tag), values) }
 }
 
 pub fn write_dirent(
@@ -108,7 +135,7 @@ pub fn write_twalk(
     names: &[[usize; 2]],
 ) -> Result<usize, Refusal> {
     let (to, room, from, count) = (out.as_mut_ptr(), out.len(), lent.as_ptr(), lent.len());
-    let (tag, fid, newfid) = (Tag(head.tag), Fid(head.fid), Fid(head.newfid));
+    let (tag, fid, newfid) = (crossing(head.tag), Fid(head.fid.0), Fid(head.newfid.0));
     let (rows, rows_count) = (names.as_ptr(), names.len());
     // SAFETY: as for `write_t`; the rows are a slice's too, and a row out of the lent bytes is
     // refused with 9.
@@ -116,15 +143,21 @@ pub fn write_twalk(
         .told()
 }
 
-pub fn write_rwalk(out: &mut [u8], tag: u16, qids: &[Qid]) -> Result<usize, Refusal> {
+pub fn write_rwalk(out: &mut [u8], tag: Tag, qids: &[Qid]) -> Result<usize, Refusal> {
     let (to, room) = (out.as_mut_ptr(), out.len());
     // SAFETY: as for `write_t`; a `Qid` is laid out as the library's, since both are C structs of
     // the same fields.
-    unsafe { sheafsledge_write_rwalk(to, room, tag, qids.as_ptr(), qids.len()) }.told()
+    unsafe { sheafsledge_write_rwalk(to, room, tag.0, qids.as_ptr(), qids.len()) }.told()
+}
+
+/// A tag as it crosses.
+#[inline(always)]
+fn crossing(tag: Tag) -> boundary::Tag {
+    boundary::Tag(tag.0)
 }
 
 /// What an outcome is in Rust: the place, or the refusal.
-trait Told {
+pub trait Told {
     fn told(self) -> Result<usize, Refusal>;
 }
 

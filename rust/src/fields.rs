@@ -1,12 +1,12 @@
 //! Between a record's fields and the flat values that cross to the library.
 
 use crate::walks::{Names, Qids};
-use crate::Qid;
+use crate::{Data, Fid, Gid, Qid, Tag, Text};
 
 /// What was read: the values in the layout's order, and the bytes that spans point into: a frame's, or
 /// those that a directory entry stands in.
 pub struct Taken<'a, 'v> {
-    pub values: std::slice::Iter<'v, u64>,
+    pub values: core::slice::Iter<'v, u64>,
     pub frame: &'a [u8],
 }
 
@@ -45,6 +45,7 @@ pub fn shown(bytes: &[u8], start: usize, len: usize) -> &[u8] {
 /// string's count stands right before it: with fields in a wrong order, numbers that were taken for a
 /// span would show nothing.
 #[inline(always)]
+#[allow(unsafe_code)]
 pub fn text(bytes: &[u8], start: usize, len: usize) -> &str {
     let counted = start.checked_sub(2).and_then(|count| bytes.get(count..));
     let shown = match counted.and_then(<[u8]>::split_first_chunk) {
@@ -53,71 +54,60 @@ pub fn text(bytes: &[u8], start: usize, len: usize) -> &str {
         }
         _ => &[],
     };
-    debug_assert!(std::str::from_utf8(shown).is_ok(), "{shown:?} is no string");
+    debug_assert!(
+        core::str::from_utf8(shown).is_ok(),
+        "{shown:?} is no string"
+    );
     // SAFETY: the library accepts a frame, an entry or a walk's names only if each string is UTF-8 by
     // RFC 3629 (`readString`, `readMany`, `elementAt`, `utf8` in the definitions); names that were
     // gathered are copies of `&str`.
-    unsafe { std::str::from_utf8_unchecked(shown) }
+    unsafe { core::str::from_utf8_unchecked(shown) }
 }
 
-/// What is to be written: the values, and the bytes that their spans point into, at most two slices
-/// which stand one after the other.
-pub struct Put<'a, const N: usize> {
-    pub values: [u64; N],
-    pub lent: [&'a [u8]; 2],
-}
-
-/// A record that is being laid out.
+/// A record that is being laid out: its values, and the bytes that their spans point into, at most two
+/// slices which count as standing one after the other.
 pub struct Filling<'p, 'a, const N: usize> {
-    put: &'p mut Put<'a, N>,
+    put: &'p mut [u64; N],
+    lent: [&'a [u8]; 2],
     values: usize,
     slices: usize,
 }
 
-impl<'a, const N: usize> Put<'a, N> {
-    #[inline(always)]
-    pub fn of(record: &impl Field<'a>) -> Self {
-        let mut put = Self {
-            values: [0; N],
-            lent: [&[]; 2],
-        };
-        record.put(&mut Filling {
-            put: &mut put,
-            values: 0,
-            slices: 0,
-        });
-        put
-    }
+/// Lays a record's values out, and answers the slices.
+#[inline(always)]
+pub fn fill<'a, const N: usize>(put: &mut [u64; N], record: &impl Field<'a>) -> [&'a [u8]; 2] {
+    let mut filling = Filling {
+        put,
+        lent: [&[]; 2],
+        values: 0,
+        slices: 0,
+    };
+    record.put(&mut filling);
+    filling.lent
 }
 
 impl<'a, const N: usize> Filling<'_, 'a, N> {
     #[inline(always)]
     fn value(&mut self, value: u64) {
-        self.put.values[self.values] = value;
+        self.put[self.values] = value;
         self.values += 1;
     }
 
     #[inline(always)]
     fn span(&mut self, bytes: &'a [u8]) {
-        // The other slice stands in front of it, if there is one.
-        self.value(self.put.lent[0].len() as u64);
+        // The other slice stands before it, if there is one.
+        self.value(self.lent[0].len() as u64);
         self.value(bytes.len() as u64);
-        self.put.lent[self.slices] = bytes;
+        self.lent[self.slices] = bytes;
         self.slices += 1;
     }
-}
-
-pub const LONGEST_STRING: usize = 65_535;
-
-/// One byte more than a string may have is refused with 7, as any more would be.
-pub fn lendable(text: &str) -> &[u8] {
-    let bytes = text.as_bytes();
-    &bytes[..bytes.len().min(LONGEST_STRING + 1)]
 }
 
 pub trait Field<'a>: Sized {
     fn take(taken: &mut Taken<'a, '_>) -> Self;
     fn put<const N: usize>(&self, put: &mut Filling<'_, 'a, N>);
+    /// How many bytes it is on the wire.
+    fn size(&self) -> usize;
 }
 
 macro_rules! numbers {
@@ -132,11 +122,37 @@ macro_rules! numbers {
             fn put<const N: usize>(&self, put: &mut Filling<'_, 'a, N>) {
                 put.value(u64::from(*self));
             }
+
+            fn size(&self) -> usize {
+                size_of::<$number>()
+            }
         })*
     };
 }
 
 numbers!(u8 u16 u32 u64);
+
+macro_rules! ids {
+    ($($id:ident)*) => {
+        $(impl<'a> Field<'a> for $id {
+            #[inline(always)]
+            fn take(taken: &mut Taken<'a, '_>) -> Self {
+                Self(Field::take(taken))
+            }
+
+            #[inline(always)]
+            fn put<const N: usize>(&self, put: &mut Filling<'_, 'a, N>) {
+                self.0.put(put);
+            }
+
+            fn size(&self) -> usize {
+                self.0.size()
+            }
+        })*
+    };
+}
+
+ids!(Fid Gid Tag);
 
 /// What a message without a record has.
 impl<'a> Field<'a> for () {
@@ -145,61 +161,70 @@ impl<'a> Field<'a> for () {
 
     #[inline(always)]
     fn put<const N: usize>(&self, _: &mut Filling<'_, 'a, N>) {}
+
+    fn size(&self) -> usize {
+        0
+    }
 }
 
-impl<'a> Field<'a> for &'a str {
+impl<'a> Field<'a> for Text<'a> {
     #[inline(always)]
     fn take(taken: &mut Taken<'a, '_>) -> Self {
         let (start, len) = taken.place();
-        text(taken.frame, start, len)
+        Text::accepted(text(taken.frame, start, len))
     }
 
     #[inline(always)]
     fn put<const N: usize>(&self, put: &mut Filling<'_, 'a, N>) {
-        put.span(lendable(self));
+        put.span(self.as_str().as_bytes());
+    }
+
+    fn size(&self) -> usize {
+        2 + self.len()
     }
 }
 
-impl<'a> Field<'a> for &'a [u8] {
+impl<'a> Field<'a> for Data<'a> {
     #[inline(always)]
     fn take(taken: &mut Taken<'a, '_>) -> Self {
-        taken.span()
+        Data(taken.span())
     }
 
     #[inline(always)]
     fn put<const N: usize>(&self, put: &mut Filling<'_, 'a, N>) {
-        put.span(self);
+        put.span(self.0);
+    }
+
+    fn size(&self) -> usize {
+        4 + self.len()
     }
 }
 
-impl<'a> Field<'a> for Names<'a> {
-    #[inline(always)]
-    fn take(taken: &mut Taken<'a, '_>) -> Self {
-        let count = taken.next() as u16;
-        // The part was accepted, so its names are UTF-8 and fill it.
-        Names::accepted(count, taken.span())
-    }
+macro_rules! elements {
+    ($($elements:ident)*) => {
+        $(impl<'a> Field<'a> for $elements<'a> {
+            /// The part was accepted, so its elements fill it, and names are UTF-8.
+            #[inline(always)]
+            fn take(taken: &mut Taken<'a, '_>) -> Self {
+                let count = taken.next() as u16;
+                Self::accepted(count, taken.span())
+            }
 
-    #[inline(always)]
-    fn put<const N: usize>(&self, put: &mut Filling<'_, 'a, N>) {
-        put.value(u64::from(self.count()));
-        put.span(self.part());
-    }
+            #[inline(always)]
+            fn put<const N: usize>(&self, put: &mut Filling<'_, 'a, N>) {
+                let (count, part) = self.part();
+                put.value(u64::from(count));
+                put.span(part);
+            }
+
+            fn size(&self) -> usize {
+                2 + self.part_size()
+            }
+        })*
+    };
 }
 
-impl<'a> Field<'a> for Qids<'a> {
-    #[inline(always)]
-    fn take(taken: &mut Taken<'a, '_>) -> Self {
-        let count = taken.next() as u16;
-        Qids::accepted(count, taken.span())
-    }
-
-    #[inline(always)]
-    fn put<const N: usize>(&self, put: &mut Filling<'_, 'a, N>) {
-        put.value(u64::from(self.count()));
-        put.span(self.part());
-    }
-}
+elements!(Names Qids);
 
 impl<'a> Field<'a> for Qid {
     #[inline(always)]
@@ -216,5 +241,9 @@ impl<'a> Field<'a> for Qid {
         put.value(u64::from(self.ty));
         put.value(u64::from(self.version));
         put.value(self.path);
+    }
+
+    fn size(&self) -> usize {
+        self.ty.size() + self.version.size() + self.path.size()
     }
 }

@@ -1,22 +1,31 @@
-//! One frame, read from bytes and written into bytes. Nothing is allocated, and what is read
-//! borrows from the bytes.
+//! One frame, read from bytes and written into bytes. What is read borrows from the bytes.
 
-use crate::boundary::{R_VALUES, T_VALUES};
-use crate::ffi;
-use crate::fields::{Taken, LONGEST_STRING};
-use crate::{Refusal, Rmessage, Tmessage};
+#[cfg(feature = "std")]
+use std::io::{self, Write};
+
+use crate::boundary::{Outcome, R_VALUES, T_VALUES};
+use crate::ffi::Told;
+use crate::fields::Taken;
+use crate::{ffi, tables, Refusal, Rmessage, Tag, Tmessage, WalkHead};
+
+/// How many bytes stand before a frame's first field: its size, its type and its tag.
+const HEADER: usize = 7;
 
 /// A request: its tag beside a message or a refusal.
 #[derive(Clone, Copy, Debug, PartialEq, Eq)]
 pub struct Tframe<'a> {
-    pub tag: u16,
+    /// What its reply bears, too.
+    pub tag: Tag,
+    /// What is asked for, or why that can't be read.
     pub msg: Result<Tmessage<'a>, Refusal>,
 }
 
 /// A reply.
 #[derive(Clone, Copy, Debug, PartialEq, Eq)]
 pub struct Rframe<'a> {
-    pub tag: u16,
+    /// The tag of the request.
+    pub tag: Tag,
+    /// What is answered.
     pub msg: Rmessage<'a>,
 }
 
@@ -24,7 +33,9 @@ pub struct Rframe<'a> {
 /// up to the declared size.
 #[derive(Clone, Copy, Debug, PartialEq, Eq)]
 pub struct Decoded<F> {
+    /// The frame.
     pub frame: F,
+    /// How many bytes it is without its tail.
     pub used: usize,
 }
 
@@ -34,10 +45,10 @@ impl<'a> Tframe<'a> {
     /// message is the refusal, and nothing counts as used.
     ///
     /// ```
-    /// use sheafsledge::{Tflush, Tframe, Tmessage};
+    /// use sheafsledge::{Tag, Tflush, Tframe, Tmessage};
     /// let read = Tframe::decode(&[9, 0, 0, 0, 108, 1, 0, 2, 0])?;
-    /// assert_eq!(read.frame.tag, 1);
-    /// assert_eq!(read.frame.msg, Ok(Tmessage::Flush(Tflush { oldtag: 2 })));
+    /// assert_eq!(read.frame.tag, Tag(1));
+    /// assert_eq!(read.frame.msg, Ok(Tmessage::Flush(Tflush { oldtag: Tag(2) })));
     /// # Ok::<(), sheafsledge::Refusal>(())
     /// ```
     pub fn decode(bytes: &'a [u8]) -> Result<Decoded<Self>, Refusal> {
@@ -53,11 +64,11 @@ impl<'a> Tframe<'a> {
     pub(crate) fn read<A>(
         bytes: &'a [u8],
         headless: impl FnOnce(Refusal) -> A,
-        made: impl Fn(u16, Result<Tmessage<'a>, Refusal>, usize) -> A,
+        made: impl Fn(Tag, Result<Tmessage<'a>, Refusal>, usize) -> A,
     ) -> A {
         let mut values = [0; T_VALUES];
         let read = ffi::read_t(bytes, &mut values);
-        let made = |msg| made(read.tag, msg, read.place);
+        let made = |msg| made(Tag(read.tag), msg, read.place);
         match Refusal::of(read.refusal) {
             Some(refusal) if !read.held => headless(refusal),
             Some(refusal) => made(Err(refusal)),
@@ -70,13 +81,39 @@ impl<'a> Tframe<'a> {
 
     /// Writes the request at the front of the output, and answers its length. Refused, the output
     /// is as it was.
+    #[inline]
     pub fn encode(&self, out: &mut [u8]) -> Result<usize, Refusal> {
-        let msg = self.msg.as_ref().map_err(|_| Refusal::HoldsRefusal)?;
-        msg.put(|ty, put| {
-            with_lent(put.lent, |lent| {
-                ffi::write_t(out, lent, (ty, self.tag), &put.values)
-            })
-        })
+        let Ok(msg) = &self.msg else {
+            return Err(Refusal::HoldsRefusal);
+        };
+        if let Tmessage::Walk(walk) = msg {
+            if let Some(names) = walk.wnames.lent() {
+                let (tag, fid, newfid) = (self.tag, walk.fid, walk.newfid);
+                return tables::write_names(out, WalkHead { tag, fid, newfid }, names);
+            }
+        }
+        written_t(self.tag, msg, out).told()
+    }
+
+    /// How long the frame is that [`Tframe::encode`] writes, or its refusal where the output has
+    /// room enough.
+    ///
+    /// ```
+    /// use sheafsledge::{Data, Fid, Tag, Tframe, Tmessage, Twrite};
+    /// let write = Twrite { fid: Fid(1), offset: 0, data: Data(b"leap") };
+    /// let frame = Tframe { tag: Tag(1), msg: Ok(Tmessage::Write(write)) };
+    /// assert_eq!(frame.byte_size(), Ok(27));
+    /// ```
+    pub fn byte_size(&self) -> Result<usize, Refusal> {
+        let fields = self.msg.map_or(0, |msg| msg.size());
+        sized(self.encode(&mut []), HEADER + fields)
+    }
+
+    /// Writes the request to a stream in one call, by way of a buffer that the caller keeps, and
+    /// answers its length. Refused, nothing is written.
+    #[cfg(feature = "std")]
+    pub fn encode_to(&self, stream: &mut impl Write, buffer: &mut [u8]) -> io::Result<usize> {
+        send(self.encode(buffer), stream, buffer)
     }
 }
 
@@ -94,11 +131,11 @@ impl<'a> Rframe<'a> {
     #[inline(always)]
     pub(crate) fn read<A>(
         bytes: &'a [u8],
-        made: impl Fn(u16, Result<Rmessage<'a>, Refusal>, usize) -> A,
+        made: impl Fn(Tag, Result<Rmessage<'a>, Refusal>, usize) -> A,
     ) -> A {
         let mut values = [0; R_VALUES];
         let read = ffi::read_r(bytes, &mut values);
-        let made = |msg| made(read.tag, msg, read.place);
+        let made = |msg| made(Tag(read.tag), msg, read.place);
         match Refusal::of(read.refusal) {
             Some(refusal) => made(Err(refusal)),
             None => {
@@ -110,38 +147,78 @@ impl<'a> Rframe<'a> {
 
     /// Writes the reply at the front of the output, and answers its length. Refused, the output is
     /// as it was.
+    #[inline]
     pub fn encode(&self, out: &mut [u8]) -> Result<usize, Refusal> {
-        self.msg.put(|ty, put| {
-            with_lent(put.lent, |lent| {
-                ffi::write_r(out, lent, (ty, self.tag), &put.values)
-            })
-        })
-    }
-}
-
-/// The library takes one slice that all spans point into. A record has two at most, and only
-/// strings come in twos: the few messages with two of them are copied together first.
-#[inline(always)]
-fn with_lent<A>(lent: [&[u8]; 2], write: impl FnOnce(&[u8]) -> A) -> A {
-    match lent {
-        [only, []] => write(only),
-        [first, second] if first.len() + second.len() <= 256 => {
-            joined::<256, A>(first, second, write)
+        if let Rmessage::Walk(walk) = &self.msg {
+            if let Some(qids) = walk.wqids.lent() {
+                return ffi::write_rwalk(out, self.tag, qids);
+            }
         }
-        [first, second] => joined::<LONGEST, A>(first, second, write),
+        written_r(self.tag, &self.msg, out).told()
+    }
+
+    /// How long the frame is that [`Rframe::encode`] writes, or its refusal where the output has
+    /// room enough. A server knows by it how much of a read fits into a reply:
+    ///
+    /// ```
+    /// use sheafsledge::{Data, Rframe, Rmessage, Rread, Tag};
+    /// let msize = 8192;
+    /// let empty = Rmessage::Read(Rread { data: Data(b"") });
+    /// let header = Rframe { tag: Tag(0), msg: empty }.byte_size()?;
+    /// assert_eq!(msize - header, 8181);
+    /// # Ok::<(), sheafsledge::Refusal>(())
+    /// ```
+    pub fn byte_size(&self) -> Result<usize, Refusal> {
+        sized(self.encode(&mut []), HEADER + self.msg.size())
+    }
+
+    /// Writes the reply to a stream in one call, by way of a buffer that the caller keeps, and
+    /// answers its length. Refused, nothing is written.
+    ///
+    /// ```
+    /// use sheafsledge::{Rframe, Rmessage, Tag};
+    /// let (mut stream, mut buffer) = (Vec::new(), [0; 64]);
+    /// Rframe { tag: Tag(1), msg: Rmessage::Flush }.encode_to(&mut stream, &mut buffer)?;
+    /// assert_eq!(stream, b"\x07\0\0\0\x6d\x01\0");
+    /// # Ok::<(), std::io::Error>(())
+    /// ```
+    #[cfg(feature = "std")]
+    pub fn encode_to(&self, stream: &mut impl Write, buffer: &mut [u8]) -> io::Result<usize> {
+        send(self.encode(buffer), stream, buffer)
     }
 }
 
-/// Two strings, of which no more is taken than shows that they are too long.
-const LONGEST: usize = 2 * (LONGEST_STRING + 1);
+/// Answered in registers, as the library does; a `Result` would go through memory.
+fn written_t(tag: Tag, msg: &Tmessage, out: &mut [u8]) -> Outcome {
+    let mut values = [0; T_VALUES];
+    match msg.put(&mut values) {
+        (ty, [only, []]) => ffi::write_t(out, only, (ty, tag), &values),
+        (ty, two) => ffi::write_two(out, two, (ty, tag), &values),
+    }
+}
 
-/// On its own, since a function that has so much room on the stack pays for it in every call.
-#[cold]
-#[inline(never)]
-fn joined<const ROOM: usize, A>(first: &[u8], second: &[u8], write: impl FnOnce(&[u8]) -> A) -> A {
-    let mut room = [0; ROOM];
-    let (front, rest) = room.split_at_mut(first.len());
-    front.copy_from_slice(first);
-    rest[..second.len()].copy_from_slice(second);
-    write(&room[..first.len() + second.len()])
+/// No reply has two strings, or a string and data.
+fn written_r(tag: Tag, msg: &Rmessage, out: &mut [u8]) -> Outcome {
+    let mut values = [0; R_VALUES];
+    let (ty, [only, _]) = msg.put(&mut values);
+    ffi::write_r(out, only, (ty, tag), &values)
+}
+
+/// A frame that has a size is refused in an output without room for that alone.
+fn sized(in_no_room: Result<usize, Refusal>, size: usize) -> Result<usize, Refusal> {
+    match in_no_room {
+        Err(Refusal::NoRoom) => Ok(size),
+        other => other,
+    }
+}
+
+#[cfg(feature = "std")]
+fn send(
+    encoded: Result<usize, Refusal>,
+    stream: &mut impl Write,
+    buffer: &[u8],
+) -> io::Result<usize> {
+    let len = encoded?;
+    stream.write_all(&buffer[..len])?;
+    Ok(len)
 }

@@ -1,27 +1,27 @@
 //! 9P2000.L frames for a server in Rust, read and written by a proved library.
 //!
-//! The types bear the names of p9 0.3.2's protocol module. What is read borrows from the bytes,
-//! nothing is allocated, and a refusal has its number. Where a frame ends is what its size says:
+//! The types bear the names of p9 0.3.2's protocol module. What is read borrows from the bytes, and
+//! a refusal has its number. Nothing is allocated, but for a Twalk of the caller's own names that
+//! are more than 16 or longer than 512 bytes together ([`Names::of`]). Where a frame ends is what its size says:
 //! bytes after the last field are a tail, and never another request; [`stream::Frames`] cuts a
 //! stream into frames by that, in a buffer that it allocates once, and [`stretch()`] bytes that
 //! hold several. The entries of a directory are given by [`Rreaddir::entries`]. The example
 //! `server` shows a directory with these, and is meant to be started from.
 //!
 //! ```
-//! use sheafsledge::{Names, Rframe, Rmessage, Tframe, Tmessage, Twalk};
+//! use sheafsledge::{Fid, Names, Rframe, Rmessage, Tag, Tframe, Tmessage, Twalk};
 //!
-//! let mut buffer = [0; 64];
-//! let wnames = Names::gather(&["dcim", "0001.jpg"], &mut buffer)?;
-//! let msg = Ok(Tmessage::Walk(Twalk { fid: 1, newfid: 2, wnames }));
+//! let wnames = Names::of(&["dcim", "0001.jpg"])?;
+//! let walk = Twalk { fid: Fid(1), newfid: Fid(2), wnames };
 //! let mut out = [0; 64];
-//! let len = Tframe { tag: 3, msg }.encode(&mut out)?;
+//! let len = Tframe { tag: Tag(3), msg: Ok(Tmessage::Walk(walk)) }.encode(&mut out)?;
 //!
 //! let read = Tframe::decode(&out[..len])?;
 //! assert_eq!(read.used, len);
 //! let Ok(Tmessage::Walk(walk)) = read.frame.msg else { panic!() };
-//! assert_eq!(walk.wnames.iter().last(), Some("0001.jpg"));
+//! assert_eq!(walk.wnames.iter().last().unwrap(), "0001.jpg");
 //!
-//! let reply = Rframe { tag: 3, msg: Rmessage::Flush };
+//! let reply = Rframe { tag: read.frame.tag, msg: Rmessage::Flush };
 //! assert_eq!(reply.encode(&mut out)?, 7);
 //! # Ok::<(), sheafsledge::Refusal>(())
 //! ```
@@ -32,32 +32,48 @@
 //! number. It looks at the count that stands before a string, and at its UTF-8 where assertions are.
 //!
 //! It is for x86-64 Linux alone: the library is compiled for that, and hands over its arguments as C
-//! does there.
+//! does there. Without the feature `std`, which is on by default, it needs `core` and `alloc` alone,
+//! and has no [`stream`], no `encode_to` and no `io::Error`.
 
+#![no_std]
 #![deny(unsafe_code)]
+#![warn(missing_docs)]
 
+extern crate alloc;
+#[cfg(feature = "std")]
+extern crate std;
+
+#[macro_use]
+mod about;
+mod data;
 mod dirents;
 #[allow(unsafe_code)]
 mod ffi;
-#[allow(unsafe_code)]
 mod fields;
 mod frames;
+mod ids;
 mod records;
 mod refusal;
+#[cfg(feature = "std")]
 pub mod stream;
 mod stretch;
 mod tables;
+mod text;
 mod walks;
 
 use sheafsledge_sys as boundary;
 
+pub use boundary::Qid;
+pub use data::Data;
 pub use dirents::{Dirent, Dirents};
 pub use frames::{Decoded, Rframe, Tframe};
+pub use ids::{Fid, Gid, Tag};
 pub use records::*;
 pub use refusal::Refusal;
 pub use stretch::{answers, stretch, Body, Listed, Mark, Stop, Stretch};
 pub use tables::{write_rwalk, write_twalk, WalkHead};
-pub use walks::{Names, Qids};
+pub use text::Text;
+pub use walks::{Names, NamesIter, Qids, QidsIter};
 
 /// Whether bytes are UTF-8 by RFC 3629, as the strings of a frame have to be.
 ///

@@ -1,16 +1,19 @@
 //! The records under the seller's names, and the two enums that hold them.
 
-pub use crate::boundary::Qid;
-use crate::fields::{Field, Filling, Put, Taken};
+use crate::fields::{fill, Field, Filling, Taken};
 use crate::walks::{Names, Qids};
-use crate::Refusal;
+use crate::{Data, Fid, Gid, Qid, Refusal, Tag, Text};
 
 /// A record's fields cross in declared order, which is the layout's.
 macro_rules! record {
     ($name:ident $(<$a:lifetime>)? { $($field:ident: $kind:ty,)* }) => {
+        #[doc = about!($name)]
         #[derive(Clone, Copy, Debug, PartialEq, Eq)]
         pub struct $name $(<$a>)? {
-            $(pub $field: $kind,)*
+            $(
+                #[doc = about!($field)]
+                pub $field: $kind,
+            )*
         }
 
         impl<'a> Field<'a> for $name $(<$a>)? {
@@ -23,6 +26,10 @@ macro_rules! record {
             #[inline(always)]
             fn put<const N: usize>(&self, put: &mut Filling<'_, 'a, N>) {
                 $(self.$field.put(put);)*
+            }
+
+            fn size(&self) -> usize {
+                0 $(+ self.$field.size())*
             }
         }
     };
@@ -40,8 +47,14 @@ macro_rules! message {
         $(#[$doc])*
         #[derive(Clone, Copy, Debug, PartialEq, Eq)]
         pub enum $message<'a> {
-            $($case($record $(<$a>)?),)*
-            $($empty,)*
+            $(
+                #[doc = about!($record)]
+                $case($record $(<$a>)?),
+            )*
+            $(
+                #[doc = about!($empty)]
+                $empty,
+            )*
         }
 
         impl<'a> $message<'a> {
@@ -60,12 +73,22 @@ macro_rules! message {
                 }
             }
 
-            /// Its type and what is to be written, handed on in the arm that lays it out.
+            /// Its type, and the slices that its values' spans point into; the values are laid out
+            /// where they are to be. All arms go on to one call of the library: with a call in each
+            /// they would be too many to be inlined.
             #[inline(always)]
-            pub(crate) fn put<const N: usize, A>(&self, write: impl FnOnce(u8, Put<'a, N>) -> A) -> A {
+            pub(crate) fn put<const N: usize>(&self, values: &mut [u64; N]) -> (u8, [&'a [u8]; 2]) {
                 match self {
-                    $(Self::$case(record) => write($ty, Put::of(record)),)*
-                    $(Self::$empty => write($number, Put::of(&())),)*
+                    $(Self::$case(record) => ($ty, fill(values, record)),)*
+                    $(Self::$empty => ($number, fill(values, &())),)*
+                }
+            }
+
+            /// How many bytes its fields are.
+            pub(crate) fn size(&self) -> usize {
+                match self {
+                    $(Self::$case(record) => record.size(),)*
+                    $(Self::$empty => ().size(),)*
                 }
             }
 

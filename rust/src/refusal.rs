@@ -1,11 +1,21 @@
 //! Why a frame is refused: the numbers of the requirements.
 
-use std::fmt;
+use core::fmt;
+#[cfg(feature = "std")]
 use std::io::{Error, ErrorKind};
 
 macro_rules! refusals {
     ($($number:literal $name:ident $kind:ident $text:literal)*) => {
         /// Why a frame was not read or not written. Later versions of the requirements have more.
+        ///
+        /// ```
+        /// use sheafsledge::{Refusal, Tframe};
+        /// let refusal = Tframe::decode(b"\x03\0\0\0").unwrap_err();
+        /// assert_eq!(refusal, Refusal::SizeBelowFour);
+        /// assert_eq!((refusal.number(), refusal.name()), (2, "SizeBelowFour"));
+        /// assert_eq!(refusal.sentence(), "the frame's size is less than 4");
+        /// assert_eq!(refusal.to_string(), "the frame's size is less than 4 (refusal 2)");
+        /// ```
         #[derive(Clone, Copy, Debug, PartialEq, Eq, Hash)]
         #[non_exhaustive]
         pub enum Refusal {
@@ -23,20 +33,26 @@ macro_rules! refusals {
                 }
             }
 
+            /// The name that it has here.
+            pub fn name(self) -> &'static str {
+                match self {
+                    $(Self::$name => stringify!($name),)*
+                }
+            }
+
+            /// What it says to people.
+            pub fn sentence(self) -> &'static str {
+                match self {
+                    $(Self::$name => $text,)*
+                }
+            }
+
             /// The kind of `std::io::Error` that p9 has for it, or the nearest where p9 has none.
+            #[cfg(feature = "std")]
             pub fn kind(self) -> ErrorKind {
                 match self {
                     $(Self::$name => ErrorKind::$kind,)*
                 }
-            }
-        }
-
-        impl fmt::Display for Refusal {
-            fn fmt(&self, f: &mut fmt::Formatter) -> fmt::Result {
-                let text = match self {
-                    $(Self::$name => $text,)*
-                };
-                write!(f, "{text} (refusal {})", self.number())
             }
         }
     };
@@ -69,9 +85,16 @@ impl Refusal {
     }
 }
 
-impl std::error::Error for Refusal {}
+impl fmt::Display for Refusal {
+    fn fmt(&self, f: &mut fmt::Formatter) -> fmt::Result {
+        write!(f, "{} (refusal {})", self.sentence(), self.number())
+    }
+}
+
+impl core::error::Error for Refusal {}
 
 /// So that a server written against p9 keeps its error handling.
+#[cfg(feature = "std")]
 impl From<Refusal> for Error {
     fn from(refusal: Refusal) -> Self {
         Error::new(refusal.kind(), refusal)

@@ -4,43 +4,43 @@
 message! {
     /// A request.
     Tmessage
-    8 Statfs: Tstatfs { fid: u32, }
-    12 Lopen: Tlopen { fid: u32, flags: u32, }
-    14 Lcreate: Tlcreate<'a> { fid: u32, name: &'a str, flags: u32, mode: u32, gid: u32, }
-    16 Symlink: Tsymlink<'a> { fid: u32, name: &'a str, symtgt: &'a str, gid: u32, }
-    18 Mknod: Tmknod<'a> { dfid: u32, name: &'a str, mode: u32, major: u32, minor: u32, gid: u32, }
-    20 Rename: Trename<'a> { fid: u32, dfid: u32, name: &'a str, }
-    22 Readlink: Treadlink { fid: u32, }
-    24 GetAttr: Tgetattr { fid: u32, request_mask: u64, }
+    8 Statfs: Tstatfs { fid: Fid, }
+    12 Lopen: Tlopen { fid: Fid, flags: u32, }
+    14 Lcreate: Tlcreate<'a> { fid: Fid, name: Text<'a>, flags: u32, mode: u32, gid: Gid, }
+    16 Symlink: Tsymlink<'a> { fid: Fid, name: Text<'a>, symtgt: Text<'a>, gid: Gid, }
+    18 Mknod: Tmknod<'a> { dfid: Fid, name: Text<'a>, mode: u32, major: u32, minor: u32, gid: Gid, }
+    20 Rename: Trename<'a> { fid: Fid, dfid: Fid, name: Text<'a>, }
+    22 Readlink: Treadlink { fid: Fid, }
+    24 GetAttr: Tgetattr { fid: Fid, request_mask: u64, }
     26 SetAttr: Tsetattr {
-        fid: u32, valid: u32, mode: u32, uid: u32, gid: u32, size: u64, atime_sec: u64,
+        fid: Fid, valid: u32, mode: u32, uid: u32, gid: Gid, size: u64, atime_sec: u64,
         atime_nsec: u64, mtime_sec: u64, mtime_nsec: u64,
     }
-    30 XattrWalk: Txattrwalk<'a> { fid: u32, newfid: u32, name: &'a str, }
-    32 XattrCreate: Txattrcreate<'a> { fid: u32, name: &'a str, attr_size: u64, flags: u32, }
-    40 Readdir: Treaddir { fid: u32, offset: u64, count: u32, }
-    50 Fsync: Tfsync { fid: u32, datasync: u32, }
+    30 XattrWalk: Txattrwalk<'a> { fid: Fid, newfid: Fid, name: Text<'a>, }
+    32 XattrCreate: Txattrcreate<'a> { fid: Fid, name: Text<'a>, attr_size: u64, flags: u32, }
+    40 Readdir: Treaddir { fid: Fid, offset: u64, count: u32, }
+    50 Fsync: Tfsync { fid: Fid, datasync: u32, }
     52 Lock: Tlock<'a> {
-        fid: u32, type_: u8, flags: u32, start: u64, length: u64, proc_id: u32, client_id: &'a str,
+        fid: Fid, type_: u8, flags: u32, start: u64, length: u64, proc_id: u32, client_id: Text<'a>,
     }
     54 GetLock: Tgetlock<'a> {
-        fid: u32, type_: u8, start: u64, length: u64, proc_id: u32, client_id: &'a str,
+        fid: Fid, type_: u8, start: u64, length: u64, proc_id: u32, client_id: Text<'a>,
     }
-    70 Link: Tlink<'a> { dfid: u32, fid: u32, name: &'a str, }
-    72 Mkdir: Tmkdir<'a> { dfid: u32, name: &'a str, mode: u32, gid: u32, }
+    70 Link: Tlink<'a> { dfid: Fid, fid: Fid, name: Text<'a>, }
+    72 Mkdir: Tmkdir<'a> { dfid: Fid, name: Text<'a>, mode: u32, gid: Gid, }
     74 RenameAt: Trenameat<'a> {
-        olddirfid: u32, oldname: &'a str, newdirfid: u32, newname: &'a str,
+        olddirfid: Fid, oldname: Text<'a>, newdirfid: Fid, newname: Text<'a>,
     }
-    76 UnlinkAt: Tunlinkat<'a> { dirfd: u32, name: &'a str, flags: u32, }
-    100 Version: Tversion<'a> { msize: u32, version: &'a str, }
-    102 Auth: Tauth<'a> { afid: u32, uname: &'a str, aname: &'a str, n_uname: u32, }
-    104 Attach: Tattach<'a> { fid: u32, afid: u32, uname: &'a str, aname: &'a str, n_uname: u32, }
-    108 Flush: Tflush { oldtag: u16, }
-    110 Walk: Twalk<'a> { fid: u32, newfid: u32, wnames: Names<'a>, }
-    116 Read: Tread { fid: u32, offset: u64, count: u32, }
-    118 Write: Twrite<'a> { fid: u32, offset: u64, data: &'a [u8], }
-    120 Clunk: Tclunk { fid: u32, }
-    122 Remove: Tremove { fid: u32, }
+    76 UnlinkAt: Tunlinkat<'a> { dirfd: Fid, name: Text<'a>, flags: u32, }
+    100 Version: Tversion<'a> { msize: u32, version: Text<'a>, }
+    102 Auth: Tauth<'a> { afid: Fid, uname: Text<'a>, aname: Text<'a>, n_uname: u32, }
+    104 Attach: Tattach<'a> { fid: Fid, afid: Fid, uname: Text<'a>, aname: Text<'a>, n_uname: u32, }
+    108 Flush: Tflush { oldtag: Tag, }
+    110 Walk: Twalk<'a> { fid: Fid, newfid: Fid, wnames: Names<'a>, }
+    116 Read: Tread { fid: Fid, offset: u64, count: u32, }
+    118 Write: Twrite<'a> { fid: Fid, offset: u64, data: Data<'a>, }
+    120 Clunk: Tclunk { fid: Fid, }
+    122 Remove: Tremove { fid: Fid, }
     empty:
 }
 
@@ -56,25 +56,25 @@ message! {
     15 Lcreate: Rlcreate { qid: Qid, iounit: u32, }
     17 Symlink: Rsymlink { qid: Qid, }
     19 Mknod: Rmknod { qid: Qid, }
-    23 Readlink: Rreadlink<'a> { target: &'a str, }
+    23 Readlink: Rreadlink<'a> { target: Text<'a>, }
     25 GetAttr: Rgetattr {
-        valid: u64, qid: Qid, mode: u32, uid: u32, gid: u32, nlink: u64, rdev: u64, size: u64,
+        valid: u64, qid: Qid, mode: u32, uid: u32, gid: Gid, nlink: u64, rdev: u64, size: u64,
         blksize: u64, blocks: u64, atime_sec: u64, atime_nsec: u64, mtime_sec: u64, mtime_nsec: u64,
         ctime_sec: u64, ctime_nsec: u64, btime_sec: u64, btime_nsec: u64, gen: u64,
         data_version: u64,
     }
     31 XattrWalk: Rxattrwalk { size: u64, }
-    41 Readdir: Rreaddir<'a> { data: &'a [u8], }
+    41 Readdir: Rreaddir<'a> { data: Data<'a>, }
     53 Lock: Rlock { status: u8, }
     55 GetLock: Rgetlock<'a> {
-        type_: u8, start: u64, length: u64, proc_id: u32, client_id: &'a str,
+        type_: u8, start: u64, length: u64, proc_id: u32, client_id: Text<'a>,
     }
     73 Mkdir: Rmkdir { qid: Qid, }
-    101 Version: Rversion<'a> { msize: u32, version: &'a str, }
+    101 Version: Rversion<'a> { msize: u32, version: Text<'a>, }
     103 Auth: Rauth { aqid: Qid, }
     105 Attach: Rattach { qid: Qid, }
     111 Walk: Rwalk<'a> { wqids: Qids<'a>, }
-    117 Read: Rread<'a> { data: &'a [u8], }
+    117 Read: Rread<'a> { data: Data<'a>, }
     119 Write: Rwrite { count: u32, }
     empty:
     21 Rename

@@ -4,11 +4,12 @@
 //! as a second request. Here the next frame begins where the size of this one says, also where a
 //! time-out came in the middle: [`Frames`] keeps what it has read.
 
-use std::fmt;
+use alloc::vec;
+use alloc::vec::Vec;
+use core::{fmt, mem};
 use std::io::{self, ErrorKind, Read};
-use std::mem;
 
-use crate::Refusal;
+use crate::{Refusal, Tag};
 
 /// A frame's first bytes: its size, its type and its tag.
 const HEADER: usize = 7;
@@ -41,7 +42,7 @@ pub enum Next<'a> {
 ///
 /// ```
 /// use sheafsledge::stream::{Frames, Next, TooLong};
-/// use sheafsledge::{Rframe, Rlerror, Rmessage};
+/// use sheafsledge::{Rframe, Rlerror, Rmessage, Tag};
 /// // A Twrite whose data would be a Tflush, and a Tflush.
 /// let tflush = b"\x09\0\0\0\x6c\x06\0\x02\0";
 /// let twrite = b"\x20\0\0\0\x76\x05\0\x02\0\0\0\0\0\0\0\0\0\0\0\x09\0\0\0";
@@ -49,7 +50,7 @@ pub enum Next<'a> {
 /// let mut frames = Frames::new(&bytes[..], 24);
 ///
 /// let Next::TooLong(long) = frames.next_frame()? else { panic!() };
-/// assert_eq!(long, TooLong { size: 32, ty: 0x76, tag: 5 });
+/// assert_eq!(long, TooLong { size: 32, ty: 0x76, tag: Tag(5) });
 /// let msg = Rmessage::Lerror(Rlerror { ecode: 90 });
 /// let reply = Rframe { tag: long.tag, msg };
 /// assert_eq!(frames.next_frame()?, Next::Frame(tflush));
@@ -63,7 +64,26 @@ pub struct TooLong {
     /// Its type.
     pub ty: u8,
     /// The tag that a reply to it bears.
-    pub tag: u16,
+    pub tag: Tag,
+}
+
+/// For a log; it is not that the output was too short.
+impl fmt::Display for TooLong {
+    fn fmt(&self, f: &mut fmt::Formatter) -> fmt::Result {
+        let Self { size, ty, tag } = self;
+        write!(
+            f,
+            "a frame of type {ty} and tag {tag} is {size} bytes long, above the msize"
+        )
+    }
+}
+
+impl core::error::Error for TooLong {}
+
+impl From<TooLong> for io::Error {
+    fn from(told: TooLong) -> Self {
+        Self::new(ErrorKind::InvalidData, told)
+    }
 }
 
 /// Why there is no frame.
@@ -310,7 +330,7 @@ impl<R: Read> Frames<R> {
         self.fill(HEADER, HEADER)?;
         if size > self.msize {
             let [.., ty, low, high] = self.header();
-            let tag = u16::from_le_bytes([low, high]);
+            let tag = Tag(u16::from_le_bytes([low, high]));
             self.left = len - mem::take(&mut self.filled);
             return Ok(Found::TooLong(TooLong { size, ty, tag }));
         }
@@ -413,7 +433,7 @@ impl fmt::Display for Broken {
     }
 }
 
-impl std::error::Error for Broken {}
+impl core::error::Error for Broken {}
 
 impl From<Broken> for io::Error {
     fn from(broken: Broken) -> Self {

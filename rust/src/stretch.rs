@@ -1,15 +1,17 @@
 //! Frames back to back: a recording, or a buffer that holds several. And which reply answers which
 //! request.
 
-use std::fmt;
-use std::iter::FusedIterator;
+use core::fmt;
+use core::iter::FusedIterator;
 
-use crate::{ffi, Refusal, Rframe, Rmessage, Tframe, Tmessage};
+use crate::{ffi, Refusal, Rframe, Rmessage, Tag, Tframe, Tmessage};
 
 /// What a frame holds: a request if its type is even, else a reply.
 #[derive(Clone, Copy, Debug, PartialEq, Eq)]
 pub enum Body<'a> {
+    /// A request, or why it can't be read.
     Request(Result<Tmessage<'a>, Refusal>),
+    /// A reply, or why it can't be read.
     Reply(Result<Rmessage<'a>, Refusal>),
 }
 
@@ -20,8 +22,11 @@ pub struct Listed<'a> {
     pub at: usize,
     /// How long it says that it is, and is.
     pub size: usize,
+    /// Its type, known or not.
     pub ty: u8,
-    pub tag: u16,
+    /// What joins a reply to its request.
+    pub tag: Tag,
+    /// What it holds.
     pub body: Body<'a>,
     /// How many bytes stand after its last field; 0 where the body is refused.
     pub tail: usize,
@@ -40,24 +45,26 @@ impl Listed<'_> {
 /// Where a stretch breaks off: 12 where it is cut, 13 at a size that no frame has.
 #[derive(Clone, Copy, Debug, PartialEq, Eq)]
 pub struct Stop {
+    /// The position of what is no frame.
     pub at: usize,
+    /// Why it is none.
     pub refusal: Refusal,
 }
 
 /// The frames of a stretch in their order. Where the stretch breaks off, the last item says so.
 ///
 /// ```
-/// use sheafsledge::{stretch, Body, Refusal, Stop, Tflush, Tmessage};
+/// use sheafsledge::{stretch, Body, Refusal, Stop, Tag, Tflush, Tmessage};
 /// // A Tflush with a tail of two bytes, a frame of no known type, and the start of another.
 /// let bytes = b"\x0b\0\0\0\x6c\x01\0\x02\0\xaa\xbb\x07\0\0\0\x6a\x05\0\x09\0\0\0\x6c";
 /// let mut frames = stretch(bytes);
 ///
 /// let flush = frames.next().unwrap()?;
-/// assert_eq!((flush.at, flush.size, flush.tag, flush.tail), (0, 11, 1, 2));
-/// assert_eq!(flush.body, Body::Request(Ok(Tmessage::Flush(Tflush { oldtag: 2 }))));
+/// assert_eq!((flush.at, flush.size, flush.tag, flush.tail), (0, 11, Tag(1), 2));
+/// assert_eq!(flush.body, Body::Request(Ok(Tmessage::Flush(Tflush { oldtag: Tag(2) }))));
 ///
 /// let unknown = frames.next().unwrap()?;
-/// assert_eq!((unknown.at, unknown.ty, unknown.tag), (11, 106, 5));
+/// assert_eq!((unknown.at, unknown.ty, unknown.tag), (11, 106, Tag(5)));
 /// assert_eq!(unknown.body, Body::Request(Err(Refusal::UnknownType)));
 ///
 /// assert_eq!(frames.next(), Some(Err(Stop { at: 18, refusal: Refusal::StretchCut })));
@@ -105,7 +112,7 @@ impl<'a> Iterator for Stretch<'a> {
         self.position = Some(next);
         let frame = &self.bytes[at..next];
         let size = frame.len();
-        let (ty, tag) = (step.ty, step.tag);
+        let (ty, tag) = (step.ty, Tag(step.tag));
         let listed = |body, tail| {
             Some(Ok(Listed {
                 at,
@@ -139,8 +146,9 @@ impl fmt::Display for Stop {
     }
 }
 
-impl std::error::Error for Stop {}
+impl core::error::Error for Stop {}
 
+#[cfg(feature = "std")]
 impl From<Stop> for std::io::Error {
     fn from(stop: Stop) -> Self {
         Self::new(stop.refusal.kind(), stop)
@@ -150,20 +158,22 @@ impl From<Stop> for std::io::Error {
 /// What a request and a reply are paired by.
 #[derive(Clone, Copy, Debug, PartialEq, Eq)]
 pub struct Mark {
+    /// The type.
     pub ty: u8,
-    pub tag: u16,
+    /// The tag.
+    pub tag: Tag,
 }
 
 /// Whether a reply answers a request: the tags are equal, the request's type is known, and the
 /// reply's is that number plus one. An Rlerror answers none by this rule.
 ///
 /// ```
-/// use sheafsledge::{answers, Mark};
-/// let tflush = Mark { ty: 108, tag: 1 };
-/// assert!(answers(tflush, Mark { ty: 109, tag: 1 }));
-/// assert!(!answers(tflush, Mark { ty: 109, tag: 2 }));
-/// assert!(!answers(tflush, Mark { ty: 7, tag: 1 }));
+/// use sheafsledge::{answers, Mark, Tag};
+/// let tflush = Mark { ty: 108, tag: Tag(1) };
+/// assert!(answers(tflush, Mark { ty: 109, tag: Tag(1) }));
+/// assert!(!answers(tflush, Mark { ty: 109, tag: Tag(2) }));
+/// assert!(!answers(tflush, Mark { ty: 7, tag: Tag(1) }));
 /// ```
 pub fn answers(request: Mark, reply: Mark) -> bool {
-    ffi::answers(request.ty, request.tag, reply.ty, reply.tag)
+    ffi::answers(request, reply)
 }

@@ -1,136 +1,372 @@
-//! The elements of walks: names and qids, as they stand on the wire.
+//! The elements of walks: names and qids, as they stand on the wire or as the caller has them.
+
+use core::fmt;
+use core::iter::FusedIterator;
 
 use crate::fields::{text, Field, Taken};
-use crate::{ffi, Qid, Refusal};
+use crate::{ffi, Qid, Refusal, Text};
 
-/// The names of a Twalk: a part of a frame that was read, or of a buffer that they were gathered in.
+/// Where elements are held.
+#[derive(Clone, Copy)]
+enum Held<'a, E> {
+    /// So many whole elements on the wire, which fill the bytes; the constructors see to it.
+    Part(u16, &'a [u8]),
+    Lent(&'a [E]),
+}
+
+impl<E> Held<'_, E> {
+    fn len(&self) -> usize {
+        match self {
+            Self::Part(count, _) => usize::from(*count),
+            Self::Lent(elements) => elements.len(),
+        }
+    }
+}
+
+/// The names of a Twalk: those of a frame that was read, or the caller's own.
 ///
 /// ```
 /// use sheafsledge::Names;
-/// let mut buffer = [0; 64];
-/// let names = Names::gather(&["a", "bc"], &mut buffer)?;
-/// assert_eq!(names.iter().collect::<Vec<_>>(), ["a", "bc"]);
+/// let names = Names::of(&["a", "bc"])?;
+/// assert_eq!(names.len(), 2);
+/// assert_eq!(names.iter().last().unwrap(), "bc");
+/// assert_eq!(format!("{names:?}"), r#"["a", "bc"]"#);
 /// # Ok::<(), sheafsledge::Refusal>(())
 /// ```
-#[derive(Clone, Copy, Debug, PartialEq, Eq)]
-pub struct Names<'a> {
-    count: u16,
-    // Only whole strings, each after its count; the constructors see to it.
-    part: &'a [u8],
-}
+#[derive(Clone, Copy)]
+pub struct Names<'a>(Held<'a, &'a str>);
 
 impl<'a> Names<'a> {
+    #[inline(always)]
     pub(crate) fn accepted(count: u16, part: &'a [u8]) -> Self {
-        Self { count, part }
+        Self(Held::Part(count, part))
     }
 
-    /// Puts names into a lent buffer, as a Twalk holds them: refused with 8, 7 or 11, and then the
-    /// buffer is as it was.
+    /// The caller's names: refused with 8, 7 or 6. They are put into the frame from where they are.
+    pub fn of(names: &'a [&'a str]) -> Result<Self, Refusal> {
+        counted(names.len())?;
+        for name in names {
+            Text::new(name)?;
+        }
+        Ok(Self(Held::Lent(names)))
+    }
+
+    /// Puts names into a lent buffer, as a Twalk holds them, so that they need not be kept: refused
+    /// with 8, 7, 6 or 11, and then the buffer is as it was.
+    ///
+    /// ```
+    /// use sheafsledge::Names;
+    /// let mut buffer = [0; 16];
+    /// let names = {
+    ///     let name = String::from("a");
+    ///     Names::gather(&[&name, "bc"], &mut buffer)?
+    /// };
+    /// assert_eq!(names, Names::of(&["a", "bc"])?);
+    /// # Ok::<(), sheafsledge::Refusal>(())
+    /// ```
     pub fn gather(names: &[&str], buffer: &'a mut [u8]) -> Result<Self, Refusal> {
-        let count = u16::try_from(names.len()).map_err(|_| Refusal::TableTooLong)?;
-        let lens = names.iter().map(|name| u16::try_from(name.len()));
-        // At most 65,535 names of 65,537 bytes.
-        let size = lens
-            .clone()
-            .try_fold(0, |size, len| Some(size + 2 + usize::from(len.ok()?)));
-        let size = size.ok_or(Refusal::StringTooLong)?;
-        let part = buffer.get_mut(..size).ok_or(Refusal::NoRoom)?;
+        let lent = Names::of(names)?;
+        let count = counted(names.len())?;
+        let part = buffer.get_mut(..lent.part_size());
+        let part = part.ok_or(Refusal::NoRoom)?;
         let mut rest = &mut *part;
-        for (name, len) in names.iter().zip(lens.flatten()) {
+        for name in names {
             let (place, after) = rest.split_at_mut(2 + name.len());
-            place[..2].copy_from_slice(&len.to_le_bytes());
+            // None is longer than a count can say: `of` has looked.
+            place[..2].copy_from_slice(&(name.len() as u16).to_le_bytes());
             place[2..].copy_from_slice(name.as_bytes());
             rest = after;
         }
-        Ok(Self { count, part })
+        Ok(Self::accepted(count, part))
     }
 
-    pub fn count(&self) -> u16 {
-        self.count
+    /// How many there are.
+    pub fn len(&self) -> usize {
+        self.0.len()
     }
 
-    pub(crate) fn part(&self) -> &'a [u8] {
-        self.part
+    /// Whether there is none: the walk of a fid to itself.
+    pub fn is_empty(&self) -> bool {
+        self.len() == 0
     }
 
-    /// Name `i` from 0 on, by the library's own function, which checks the whole part each time;
-    /// refused with 15 where there is none. For all of them, `iter` is the faster way.
+    /// The caller's names, which have no part on the wire yet.
+    #[inline(always)]
+    pub(crate) fn lent(&self) -> Option<&'a [&'a str]> {
+        match self.0 {
+            Held::Part(..) => None,
+            Held::Lent(names) => Some(names),
+        }
+    }
+
+    /// The count, and the elements on the wire.
+    #[inline(always)]
+    pub(crate) fn part(&self) -> (u16, &'a [u8]) {
+        on_the_wire(&self.0)
+    }
+
+    /// How many bytes the elements are on the wire.
+    pub(crate) fn part_size(&self) -> usize {
+        match self.0 {
+            Held::Part(_, part) => part.len(),
+            Held::Lent(names) => names.iter().map(|name| 2 + name.len()).sum(),
+        }
+    }
+
+    /// Name `i` from 0 on; refused with 15 where there is none. Of a frame's names it is found by the
+    /// library's own function, which checks all of them each time: `iter` is the faster way.
     ///
     /// ```
     /// # use sheafsledge::{Names, Refusal};
-    /// let mut buffer = [0; 64];
-    /// let names = Names::gather(&["a", "bc"], &mut buffer)?;
-    /// assert_eq!(names.get(1), Ok("bc"));
+    /// let names = Names::of(&["a", "bc"])?;
+    /// assert_eq!(names.get(1)?, "bc");
     /// assert_eq!(names.get(2), Err(Refusal::NoSuchElement));
     /// # Ok::<(), Refusal>(())
     /// ```
-    pub fn get(&self, i: usize) -> Result<&'a str, Refusal> {
-        let [start, len] = ffi::name_at(self.part, self.count, i)?;
-        Ok(text(self.part, start as usize, len as usize))
+    pub fn get(&self, i: usize) -> Result<Text<'a>, Refusal> {
+        let name = match self.0 {
+            Held::Part(count, part) => {
+                let [start, len] = ffi::name_at(part, count, i)?;
+                text(part, start as usize, len as usize)
+            }
+            Held::Lent(names) => names.get(i).ok_or(Refusal::NoSuchElement)?,
+        };
+        Ok(Text::accepted(name))
     }
 
-    pub fn iter(&self) -> impl Iterator<Item = &'a str> {
-        let mut rest = self.part;
-        std::iter::from_fn(move || {
-            let (count, after) = rest.split_first_chunk()?;
-            let len = usize::from(u16::from_le_bytes(*count));
-            let name = text(rest, 2, len);
-            rest = after.get(len..)?;
-            Some(name)
-        })
+    /// The names in their order.
+    #[inline]
+    pub fn iter(&self) -> NamesIter<'a> {
+        NamesIter(self.0)
     }
 }
 
-/// The qids of an Rwalk, 13 bytes each on the wire.
-#[derive(Clone, Copy, Debug, PartialEq, Eq)]
-pub struct Qids<'a> {
-    count: u16,
-    part: &'a [u8],
+/// The names of a Twalk in their order, see [`Names::iter`].
+#[derive(Clone)]
+pub struct NamesIter<'a>(Held<'a, &'a str>);
+
+impl<'a> Iterator for NamesIter<'a> {
+    type Item = Text<'a>;
+
+    #[inline]
+    fn next(&mut self) -> Option<Text<'a>> {
+        let name = match &mut self.0 {
+            Held::Part(left, rest) => {
+                *left = left.checked_sub(1)?;
+                let (count, after) = rest.split_first_chunk()?;
+                let len = usize::from(u16::from_le_bytes(*count));
+                let name = text(rest, 2, len);
+                *rest = after.get(len..)?;
+                name
+            }
+            Held::Lent(rest) => {
+                let (name, after) = rest.split_first()?;
+                *rest = after;
+                name
+            }
+        };
+        Some(Text::accepted(name))
+    }
+
+    fn size_hint(&self) -> (usize, Option<usize>) {
+        (self.0.len(), Some(self.0.len()))
+    }
 }
+
+/// The qids of an Rwalk: those of a frame that was read, or the caller's own.
+///
+/// ```
+/// use sheafsledge::{Qid, Qids};
+/// let walked = [Qid { ty: 0x80, version: 0, path: 7 }; 3];
+/// let qids = Qids::from(&walked[..]);
+/// assert_eq!(qids.len(), 3);
+/// assert_eq!(qids.iter().last(), Some(walked[2]));
+/// ```
+#[derive(Clone, Copy)]
+pub struct Qids<'a>(Held<'a, Qid>);
+
+/// How many bytes a qid is on the wire.
+const QID: usize = 13;
 
 impl<'a> Qids<'a> {
+    #[inline(always)]
     pub(crate) fn accepted(count: u16, part: &'a [u8]) -> Self {
-        Self { count, part }
+        Self(Held::Part(count, part))
     }
 
-    /// Puts qids into a lent buffer, as an Rwalk holds them: refused with 8 or 11, and then the
-    /// buffer is as it was.
+    /// Puts qids into a lent buffer, as an Rwalk holds them, so that they need not be kept: refused
+    /// with 8 or 11, and then the buffer is as it was.
     pub fn gather(qids: &[Qid], buffer: &'a mut [u8]) -> Result<Self, Refusal> {
-        let count = u16::try_from(qids.len()).map_err(|_| Refusal::TableTooLong)?;
-        let part = buffer.get_mut(..13 * qids.len()).ok_or(Refusal::NoRoom)?;
-        for (place, qid) in part.chunks_exact_mut(13).zip(qids) {
+        let count = counted(qids.len())?;
+        let part = buffer.get_mut(..QID * qids.len()).ok_or(Refusal::NoRoom)?;
+        for (place, qid) in part.chunks_exact_mut(QID).zip(qids) {
             place[0] = qid.ty;
             place[1..5].copy_from_slice(&qid.version.to_le_bytes());
             place[5..].copy_from_slice(&qid.path.to_le_bytes());
         }
-        Ok(Self { count, part })
+        Ok(Self::accepted(count, part))
     }
 
-    pub fn count(&self) -> u16 {
-        self.count
+    /// How many there are.
+    pub fn len(&self) -> usize {
+        self.0.len()
     }
 
-    pub(crate) fn part(&self) -> &'a [u8] {
-        self.part
+    /// Whether there is none, as in the answer to a walk without names.
+    pub fn is_empty(&self) -> bool {
+        self.len() == 0
     }
 
-    /// Qid `i` from 0 on, by the library's own functions; refused with 15 where there is none.
+    /// The caller's qids, which have no part on the wire yet.
+    #[inline(always)]
+    pub(crate) fn lent(&self) -> Option<&'a [Qid]> {
+        match self.0 {
+            Held::Part(..) => None,
+            Held::Lent(qids) => Some(qids),
+        }
+    }
+
+    /// The count, and the elements on the wire.
+    #[inline(always)]
+    pub(crate) fn part(&self) -> (u16, &'a [u8]) {
+        on_the_wire(&self.0)
+    }
+
+    /// How many bytes the elements are on the wire.
+    pub(crate) fn part_size(&self) -> usize {
+        QID * self.len()
+    }
+
+    /// Qid `i` from 0 on; refused with 15 where there is none. Of a frame's qids it is found by the
+    /// library's own functions.
     pub fn get(&self, i: usize) -> Result<Qid, Refusal> {
-        let [start, _] = ffi::qid_at(self.part, self.count, i)?;
-        let values = ffi::read_qid(self.part, start as usize)?;
-        let (values, frame) = (values.iter(), self.part);
-        Ok(Qid::take(&mut Taken { values, frame }))
+        match self.0 {
+            Held::Part(count, part) => {
+                let [start, _] = ffi::qid_at(part, count, i)?;
+                let values = ffi::read_qid(part, start as usize)?;
+                let (values, frame) = (values.iter(), part);
+                Ok(Qid::take(&mut Taken { values, frame }))
+            }
+            Held::Lent(qids) => qids.get(i).copied().ok_or(Refusal::NoSuchElement),
+        }
     }
 
-    pub fn iter(&self) -> impl Iterator<Item = Qid> + 'a {
-        self.part.chunks_exact(13).map(|qid| {
-            let version = qid[1..5].try_into().map(u32::from_le_bytes);
-            let path = qid[5..].try_into().map(u64::from_le_bytes);
-            Qid {
-                ty: qid[0],
-                version: version.unwrap_or(0),
-                path: path.unwrap_or(0),
-            }
-        })
+    /// The qids in their order.
+    #[inline]
+    pub fn iter(&self) -> QidsIter<'a> {
+        QidsIter(self.0)
     }
+}
+
+/// One that is longer than a walk can be is refused, with 8, when it is written.
+impl<'a> From<&'a [Qid]> for Qids<'a> {
+    fn from(qids: &'a [Qid]) -> Self {
+        Self(Held::Lent(qids))
+    }
+}
+
+/// The qids of an Rwalk in their order, see [`Qids::iter`].
+#[derive(Clone)]
+pub struct QidsIter<'a>(Held<'a, Qid>);
+
+impl Iterator for QidsIter<'_> {
+    type Item = Qid;
+
+    #[inline]
+    fn next(&mut self) -> Option<Qid> {
+        match &mut self.0 {
+            Held::Part(left, rest) => {
+                *left = left.checked_sub(1)?;
+                let (qid, after) = rest.split_first_chunk::<QID>()?;
+                *rest = after;
+                let [ty, version @ .., _, _, _, _, _, _, _, _] = *qid;
+                let [_, _, _, _, _, path @ ..] = *qid;
+                let (version, path) = (u32::from_le_bytes(version), u64::from_le_bytes(path));
+                Some(Qid { ty, version, path })
+            }
+            Held::Lent(rest) => {
+                let (qid, after) = rest.split_first()?;
+                *rest = after;
+                Some(*qid)
+            }
+        }
+    }
+
+    fn size_hint(&self) -> (usize, Option<usize>) {
+        (self.0.len(), Some(self.0.len()))
+    }
+}
+
+/// A vector's count: refused with 8 where it has more elements than that can say.
+fn counted(len: usize) -> Result<u16, Refusal> {
+    u16::try_from(len).map_err(|_| Refusal::TableTooLong)
+}
+
+/// Lent elements have none: who writes them asks for these first, and else they are refused, with 14.
+#[inline(always)]
+fn on_the_wire<'a, E>(held: &Held<'a, E>) -> (u16, &'a [u8]) {
+    match *held {
+        Held::Part(count, part) => (count, part),
+        Held::Lent(_) => (u16::MAX, &[]),
+    }
+}
+
+macro_rules! elements {
+    ($($elements:ident $iter:ident $element:ty;)*) => {
+        $(
+            impl ExactSizeIterator for $iter<'_> {}
+
+            impl FusedIterator for $iter<'_> {}
+
+            impl<'a> IntoIterator for $elements<'a> {
+                type Item = $element;
+                type IntoIter = $iter<'a>;
+
+                fn into_iter(self) -> $iter<'a> {
+                    self.iter()
+                }
+            }
+
+            impl<'a> IntoIterator for &$elements<'a> {
+                type Item = $element;
+                type IntoIter = $iter<'a>;
+
+                fn into_iter(self) -> $iter<'a> {
+                    self.iter()
+                }
+            }
+
+            /// Equal elements, wherever they are held.
+            impl PartialEq for $elements<'_> {
+                fn eq(&self, other: &Self) -> bool {
+                    self.iter().eq(other.iter())
+                }
+            }
+
+            impl Eq for $elements<'_> {}
+
+            impl Default for $elements<'_> {
+                fn default() -> Self {
+                    Self::accepted(0, &[])
+                }
+            }
+
+            impl fmt::Debug for $elements<'_> {
+                fn fmt(&self, f: &mut fmt::Formatter) -> fmt::Result {
+                    f.debug_list().entries(self).finish()
+                }
+            }
+
+            impl fmt::Debug for $iter<'_> {
+                fn fmt(&self, f: &mut fmt::Formatter) -> fmt::Result {
+                    f.debug_list().entries(self.clone()).finish()
+                }
+            }
+        )*
+    };
+}
+
+elements! {
+    Names NamesIter Text<'a>;
+    Qids QidsIter Qid;
 }

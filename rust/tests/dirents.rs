@@ -14,7 +14,7 @@ const OF_AB: Dirent = Dirent {
     },
     offset: 3,
     ty: 8,
-    name: "ab",
+    name: Text::from_static("ab"),
 };
 
 const OF_E: Dirent = Dirent {
@@ -25,10 +25,11 @@ const OF_E: Dirent = Dirent {
     },
     offset: 255,
     ty: 4,
-    name: "é",
+    name: Text::from_static("é"),
 };
 
 fn entries(data: &[u8]) -> Vec<Result<Dirent<'_>, Refusal>> {
+    let data = Data(data);
     Rreaddir { data }.entries().collect()
 }
 
@@ -41,7 +42,7 @@ fn entries_come_one_by_one() {
 }
 
 #[test]
-fn nothing_is_given_behind_a_refusal() {
+fn nothing_is_given_after_a_refusal() {
     for end in 27..52 {
         let cut = &[AB, E].concat()[..end];
         assert_eq!(entries(cut), [Ok(OF_AB), Err(Refusal::Short)], "{end}");
@@ -75,18 +76,11 @@ fn a_refused_entry_leaves_the_output_as_it_was() {
     assert_eq!(refused(OF_AB, 28, 3), Refusal::NoRoom);
     assert_eq!(refused(OF_AB, 28, 29), Refusal::NoRoom);
     assert_eq!(refused(OF_AB, 28, usize::MAX), Refusal::FrameTooLong);
-    let zero = Dirent {
-        name: "a\0",
-        ..OF_AB
-    };
-    assert_eq!(refused(zero, 64, 0), Refusal::ZeroByte);
-    let name = &"é".repeat(32_768);
-    assert_eq!(
-        refused(Dirent { name, ..OF_AB }, 70_000, 0),
-        Refusal::StringTooLong
-    );
-    let name = &name[..65_534];
+    let name = &"é".repeat(32_767);
+    let name = Text::new(name).expect("65,534 bytes");
+    let entry = Dirent { name, ..OF_AB };
     let mut out = vec![0; 65_558];
-    assert_eq!(Dirent { name, ..OF_AB }.encode(&mut out, 0), Ok(65_558));
-    assert_eq!(entries(&out), [Ok(Dirent { name, ..OF_AB })]);
+    assert_eq!(entry.encode(&mut out, 0), Ok(65_558));
+    assert_eq!(entry.byte_size(), 65_558);
+    assert_eq!(entries(&out), [Ok(entry)]);
 }

@@ -16,14 +16,14 @@ fn again(bytes: &[u8]) -> Vec<u8> {
 #[test]
 fn a_request_is_read_and_written() {
     let read = Tframe::decode(A).unwrap();
-    let version = "9P2000.L";
+    let version = Text::from_static("9P2000.L");
     let msg = Tmessage::Version(Tversion {
         msize: 8192,
         version,
     });
     assert_eq!(
         (read.frame.tag, read.frame.msg, read.used),
-        (65535, Ok(msg), 21)
+        (Tag(65535), Ok(msg), 21)
     );
     assert_eq!(again(A), A);
 }
@@ -50,7 +50,7 @@ fn refusals_have_their_numbers() {
     assert_eq!(number(b"\x03\0\0\0"), Err(2));
     assert_eq!(number(b"\x04\0\0\0"), Err(1));
     let j = Tframe::decode(b"\x07\0\0\0\x6a\x05\0").unwrap().frame;
-    assert_eq!((j.tag, j.msg), (5, Err(Refusal::UnknownType)));
+    assert_eq!((j.tag, j.msg), (Tag(5), Err(Refusal::UnknownType)));
     assert_eq!(j.encode(&mut [0; 64]), Err(Refusal::HoldsRefusal));
     let error = std::io::Error::from(Refusal::Short);
     assert_eq!(error.kind(), std::io::ErrorKind::UnexpectedEof);
@@ -66,7 +66,7 @@ fn replies_are_read_and_written() {
     let mut buffer = [0; 26];
     let wqids = Qids::gather(&[qid, Qid::default()], &mut buffer).unwrap();
     let frame = Rframe {
-        tag: 3,
+        tag: Tag(3),
         msg: Rmessage::Walk(Rwalk { wqids }),
     };
     let mut out = [0; 64];
@@ -82,19 +82,23 @@ fn replies_are_read_and_written() {
 
 fn symlink(name: &str, symtgt: &str, room: usize) -> Result<usize, Refusal> {
     let link = Tsymlink {
-        fid: 1,
-        name,
-        symtgt,
-        gid: 2,
+        fid: Fid(1),
+        name: Text::new(name)?,
+        symtgt: Text::new(symtgt)?,
+        gid: Gid(2),
     };
     let frame = Tframe {
-        tag: 1,
+        tag: Tag(1),
         msg: Ok(Tmessage::Symlink(link)),
     };
     let mut out = vec![0xee; room];
     let wrote = frame.encode(&mut out);
     match wrote {
-        Ok(len) => assert_eq!(Tframe::decode(&out[..len]).unwrap().frame, frame),
+        Ok(len) => {
+            assert_eq!(Tframe::decode(&out[..len]).unwrap().frame, frame);
+            assert!(out[len..].iter().all(|byte| *byte == 0xee));
+            assert_eq!(frame.byte_size(), Ok(len));
+        }
         Err(_) => assert!(out.iter().all(|byte| *byte == 0xee)),
     }
     wrote
@@ -103,11 +107,33 @@ fn symlink(name: &str, symtgt: &str, room: usize) -> Result<usize, Refusal> {
 #[test]
 fn two_strings_are_written_whatever_their_length() {
     let long = "a".repeat(65_535);
-    let over = "a".repeat(70_000);
     assert_eq!(symlink("ab", "c", 64), Ok(22));
     assert_eq!(symlink("", "", 19), Ok(19));
+    assert_eq!(symlink("", "c", 20), Ok(20));
+    assert_eq!(symlink("ab", "", 64), Ok(21));
     assert_eq!(symlink(&long, &long, 200_000), Ok(131_089));
-    assert_eq!(symlink(&over, &long, 200_000), Err(Refusal::StringTooLong));
-    assert_eq!(symlink("a\0", &over, 200_000), Err(Refusal::ZeroByte));
+    assert_eq!(symlink(&long, &long, 131_088), Err(Refusal::NoRoom));
     assert_eq!(symlink("ab", "c", 21), Err(Refusal::NoRoom));
+}
+
+/// The longest strings and walks leave enough of a thread that has 64 KiB.
+#[test]
+fn the_longest_frames_need_little_stack() {
+    let writes = || {
+        let long = "a".repeat(65_535);
+        assert_eq!(symlink(&long, &long, 200_000), Ok(131_089));
+        let names = [&long[..]; 40];
+        let wnames = Names::of(&names).unwrap();
+        let (fid, newfid) = (Fid(1), Fid(2));
+        let msg = Ok(Tmessage::Walk(Twalk {
+            fid,
+            newfid,
+            wnames,
+        }));
+        let mut out = vec![0; 3_000_000];
+        let len = Tframe { tag: Tag(1), msg }.encode(&mut out).unwrap();
+        assert_eq!(len, 17 + 40 * 65_537);
+    };
+    let thread = std::thread::Builder::new().stack_size(64 << 10);
+    thread.spawn(writes).unwrap().join().unwrap();
 }

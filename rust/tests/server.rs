@@ -162,7 +162,7 @@ fn a_directory_is_listed_in_parts() {
         }
         for entry in part.entries() {
             let entry = entry.expect("an entry");
-            names.push((entry.name.to_owned(), entry.ty, entry.qid.ty));
+            names.push((entry.name.to_string(), entry.ty, entry.qid.ty));
             assert_eq!(entry.offset, names.len() as u64);
         }
     }

@@ -19,7 +19,7 @@ use std::panic::{catch_unwind, AssertUnwindSafe};
 
 use counting::counted;
 use sheafsledge::stream::{Broken, Frames, Next, TooLong};
-use sheafsledge::{stretch, Refusal, Tframe, Tmessage};
+use sheafsledge::{stretch, Refusal, Tag, Tframe, Tmessage};
 
 const SESSION: &[u8] = include_bytes!("../../examples/diod-session.bin");
 
@@ -174,7 +174,7 @@ fn long(frame: &[u8]) -> Told {
     Told::TooLong(TooLong {
         size: size(frame),
         ty: frame[4],
-        tag: u16::from_le_bytes([frame[5], frame[6]]),
+        tag: Tag(u16::from_le_bytes([frame[5], frame[6]])),
     })
 }
 
@@ -269,7 +269,7 @@ fn data_is_no_frame_after_a_time_out() {
         let Ok(Tmessage::Write(write)) = Tframe::decode(frame).unwrap().frame.msg else {
             panic!("a Twrite");
         };
-        assert_eq!(write.data, TCLUNK);
+        assert_eq!(write.data.0, TCLUNK);
         assert_eq!(frames.next_frame().unwrap(), Next::Frame(RFLUSH));
     }
     try_all(&bytes, MSIZE);
@@ -287,7 +287,7 @@ fn a_frame_too_long_is_passed_over_and_none_of_it_is_a_frame() {
         Told::TooLong(long) => long,
         _ => panic!("{list:?}"),
     };
-    assert_eq!((size, ty, tag, list.len()), (56, 0x76, 5, 7));
+    assert_eq!((size, ty, tag, list.len()), (56, 0x76, Tag(5), 7));
     assert_eq!(list[2], Told::Frame(short));
 }
 

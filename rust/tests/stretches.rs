@@ -105,7 +105,7 @@ fn a_reply_answers_the_request_before_it() {
 fn only_the_next_number_with_the_same_tag_answers() {
     for request in 0..=255 {
         for reply in 0..=255 {
-            let mark = |ty, tag| Mark { ty, tag };
+            let mark = |ty, tag| Mark { ty, tag: Tag(tag) };
             let pair = REQUESTS.contains(&request) && reply == request + 1;
             assert_eq!(answers(mark(request, 9), mark(reply, 9)), pair);
             assert!(!answers(mark(request, 9), mark(reply, 265)));

@@ -3,9 +3,9 @@
 use sheafsledge::*;
 
 const HEAD: WalkHead = WalkHead {
-    tag: 3,
-    fid: 1,
-    newfid: 2,
+    tag: Tag(3),
+    fid: Fid(1),
+    newfid: Fid(2),
 };
 
 /// The paper's frame E: a Twalk of "a" and "bc".
@@ -37,7 +37,7 @@ fn names_are_the_same_in_order_and_by_number() {
         let mut out = vec![0; 8192];
         let len = write_twalk(&mut out, text, HEAD, rows).expect("room");
         let names = names_of(&out[..len]);
-        assert_eq!(usize::from(names.count()), rows.len());
+        assert_eq!((names.len(), names.iter().len()), (rows.len(), rows.len()));
         let in_order: Vec<_> = names.iter().collect();
         let by_number: Vec<_> = (0..rows.len()).map(|i| names.get(i).unwrap()).collect();
         assert_eq!(in_order, by_number);
@@ -59,7 +59,7 @@ fn qids_are_the_same_in_order_and_by_number() {
     for count in [0, 1, 2, 300] {
         let qids: Vec<Qid> = (0..count).map(qid).collect();
         let mut out = vec![0; 8192];
-        let len = write_rwalk(&mut out, 3, &qids).expect("room");
+        let len = write_rwalk(&mut out, Tag(3), &qids).expect("room");
         let read = qids_of(&out[..len]);
         assert_eq!(read.iter().collect::<Vec<_>>(), qids);
         let by_number: Vec<_> = (0..qids.len()).map(|i| read.get(i).unwrap()).collect();
@@ -82,14 +82,14 @@ fn a_twalk_from_a_table_has_the_papers_bytes() {
 #[test]
 fn an_rwalk_from_a_table_has_the_papers_bytes() {
     let mut out = [0xee; 30];
-    assert_eq!(write_rwalk(&mut out, 3, &[]), Ok(9));
+    assert_eq!(write_rwalk(&mut out, Tag(3), &[]), Ok(9));
     assert_eq!(out[..9], *b"\x09\0\0\0\x6f\x03\0\0\0");
     let qid = Qid {
         ty: 1,
         version: 2,
         path: 3,
     };
-    assert_eq!(write_rwalk(&mut out, 3, &[qid]), Ok(22));
+    assert_eq!(write_rwalk(&mut out, Tag(3), &[qid]), Ok(22));
     assert_eq!(out[..9], *b"\x16\0\0\0\x6f\x03\0\x01\0");
     assert_eq!(out[9..22], *b"\x01\x02\0\0\0\x03\0\0\0\0\0\0\0");
     assert_eq!(out[22..], [0xee; 8]);
@@ -114,8 +114,14 @@ fn refused_tables_leave_the_output_as_it_was() {
     assert_eq!(refused(&[[4, 65_535]; 65_535], 64), Refusal::FrameTooLong);
     let mut out = [0xee; 64];
     let qids = vec![Qid::default(); 65_536];
-    assert_eq!(write_rwalk(&mut out, 3, &qids), Err(Refusal::TableTooLong));
-    assert_eq!(write_rwalk(&mut out, 3, &qids[..5]), Err(Refusal::NoRoom));
+    assert_eq!(
+        write_rwalk(&mut out, Tag(3), &qids),
+        Err(Refusal::TableTooLong)
+    );
+    assert_eq!(
+        write_rwalk(&mut out, Tag(3), &qids[..5]),
+        Err(Refusal::NoRoom)
+    );
     assert_eq!(out, [0xee; 64]);
 }
 
@@ -146,4 +152,88 @@ fn a_refused_gathering_leaves_the_buffer_as_it_was() {
     let qids = Qids::gather(&[Qid::default(); 2], &mut buffer);
     assert_eq!(qids, Err(Refusal::NoRoom));
     assert_eq!(buffer, [0xee; 25]);
+}
+
+/// Frames written from the caller's own names and qids, beside those from tables and from a buffer.
+#[test]
+fn lent_elements_are_written_as_gathered_ones() {
+    let long = "ü".repeat(300);
+    let sixteen = ["a"; 16];
+    let many = ["dcim"; 300];
+    for names in [
+        &[][..],
+        &[""],
+        &["a", "höhe", ""],
+        &[&long],
+        &sixteen,
+        &many,
+    ] {
+        let mut buffer = vec![0; 8192];
+        let gathered = Names::gather(names, &mut buffer).expect("room");
+        let lent = Names::of(names).expect("names");
+        assert_eq!(lent, gathered);
+        assert_eq!(format!("{lent:?}"), format!("{names:?}"));
+        assert_eq!(lent.get(names.len()), Err(Refusal::NoSuchElement));
+        let framed = [gathered, lent].map(|wnames| {
+            let WalkHead { tag, fid, newfid } = HEAD;
+            let msg = Ok(Tmessage::Walk(Twalk {
+                fid,
+                newfid,
+                wnames,
+            }));
+            let frame = Tframe { tag, msg };
+            let mut out = vec![0xee; 4096];
+            let len = frame.encode(&mut out).expect("room");
+            assert_eq!(frame.byte_size(), Ok(len));
+            assert_eq!(frame.encode(&mut out[..len - 1]), Err(Refusal::NoRoom));
+            out
+        });
+        assert_eq!(framed[0], framed[1]);
+        let [_, wnames] = [(); 2].map(|()| names_of(&framed[1]));
+        assert!(wnames.into_iter().eq(lent));
+    }
+}
+
+#[test]
+fn lent_qids_are_written_as_gathered_ones() {
+    let qid = |path| Qid {
+        ty: 0x80,
+        version: 7,
+        path,
+    };
+    for count in [0, 1, 16, 300] {
+        let qids: Vec<Qid> = (0..count).map(qid).collect();
+        let mut buffer = vec![0; 8192];
+        let gathered = Qids::gather(&qids, &mut buffer).expect("room");
+        let lent = Qids::from(&qids[..]);
+        assert_eq!(lent, gathered);
+        assert_eq!((lent.len(), lent.is_empty()), (qids.len(), count == 0));
+        let framed = [gathered, lent].map(|wqids| {
+            let frame = Rframe {
+                tag: Tag(3),
+                msg: Rmessage::Walk(Rwalk { wqids }),
+            };
+            let mut out = vec![0xee; 4096];
+            let len = frame.encode(&mut out).expect("room");
+            assert_eq!(frame.byte_size(), Ok(len));
+            out
+        });
+        assert_eq!(framed[0], framed[1]);
+        assert!(qids_of(&framed[1]).iter().eq(qids));
+    }
+    let many = vec![Qid::default(); 65_536];
+    let msg = Rmessage::Walk(Rwalk {
+        wqids: Qids::from(&many[..]),
+    });
+    let frame = Rframe { tag: Tag(3), msg };
+    assert_eq!(frame.byte_size(), Err(Refusal::TableTooLong));
+    assert_eq!(frame.encode(&mut [0; 64]), Err(Refusal::TableTooLong));
+}
+
+#[test]
+fn names_that_no_frame_holds_are_refused_at_once() {
+    let long = "a".repeat(65_536);
+    assert_eq!(Names::of(&["a", &long]), Err(Refusal::StringTooLong));
+    assert_eq!(Names::of(&["a\0", &long]), Err(Refusal::ZeroByte));
+    assert_eq!(Names::of(&vec!["\0"; 65_536]), Err(Refusal::TableTooLong));
 }

@@ -5,6 +5,7 @@
 //! replaced by a link in the meantime. A symbolic link is shown as one, and is neither followed nor
 //! opened; `..` goes to the place that was walked from, and stays at the root there.
 
+use std::ffi::OsString;
 use std::fs::{self, File, Metadata, OpenOptions};
 use std::io;
 use std::os::fd::AsRawFd;
@@ -12,7 +13,7 @@ use std::os::unix::fs::{FileTypeExt, MetadataExt, OpenOptionsExt};
 use std::path::{Path, PathBuf};
 use std::rc::Rc;
 
-use sheafsledge::{Dirent, Qid, Refusal, Rgetattr};
+use sheafsledge::{Dirent, Gid, Qid, Refusal, Rgetattr, Text};
 
 /// What a client is told of a failure: Linux's number for it.
 #[derive(Clone, Copy, Debug, PartialEq, Eq)]
@@ -126,7 +127,7 @@ impl Place {
             qid: qid(&data),
             mode: data.mode(),
             uid: data.uid(),
-            gid: data.gid(),
+            gid: Gid(data.gid()),
             nlink: data.nlink(),
             rdev: data.rdev(),
             size: data.size(),
@@ -145,7 +146,7 @@ impl Place {
         })
     }
 
-    /// The directory as it is now. A name that is no UTF-8 has no place in a frame, and is left out.
+    /// The directory as it is now.
     pub fn list(self: &Rc<Self>) -> Result<Listing, Errno> {
         let above = self.above.as_ref().unwrap_or(self);
         let mut entries = vec![
@@ -155,8 +156,8 @@ impl Place {
         for entry in fs::read_dir(self.path())? {
             let entry = entry?;
             // One that has gone since is no fault.
-            if let (Ok(name), Ok(data)) = (entry.file_name().into_string(), entry.metadata()) {
-                entries.push(Entry::of(name, &data));
+            if let Ok(data) = entry.metadata() {
+                entries.push(Entry::of(entry.file_name(), &data));
             }
         }
         Ok(Listing(entries))
@@ -188,25 +189,28 @@ pub struct Listing(Vec<Entry>);
 struct Entry {
     qid: Qid,
     ty: u8,
-    name: String,
+    name: OsString,
 }
 
 impl Listing {
     pub fn from(&self, offset: u64) -> impl Iterator<Item = Dirent<'_>> {
         let start = usize::try_from(offset).unwrap_or(usize::MAX);
         let numbered = self.0.iter().zip(1..).skip(start);
-        numbered.map(|(entry, offset)| Dirent {
-            qid: entry.qid,
-            offset,
-            ty: entry.ty,
-            name: &entry.name,
+        // A name that no frame can hold is left out.
+        numbered.filter_map(|(entry, offset)| {
+            Some(Dirent {
+                qid: entry.qid,
+                offset,
+                ty: entry.ty,
+                name: Text::from_os(&entry.name).ok()?,
+            })
         })
     }
 }
 
 impl Entry {
     /// The kinds have Linux's numbers, as in `readdir`.
-    fn of(name: String, data: &Metadata) -> Self {
+    fn of(name: OsString, data: &Metadata) -> Self {
         let kind = data.file_type();
         let ty = match () {
             _ if kind.is_fifo() => 1,

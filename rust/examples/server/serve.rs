@@ -27,8 +27,7 @@ pub fn serve(from: impl Read, mut to: impl Write, directory: &Path) -> io::Resul
             Next::End => return Ok(()),
         };
         let msg = answer.unwrap_or_else(|Errno(ecode)| Rmessage::Lerror(Rlerror { ecode }));
-        let len = Rframe { tag, msg }.encode(&mut reply)?;
-        to.write_all(&reply[..len])?;
+        Rframe { tag, msg }.encode_to(&mut to, &mut reply)?;
         // A Tversion may have changed it.
         requests.set_msize(session.msize());
     }

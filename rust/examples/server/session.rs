@@ -17,24 +17,21 @@ pub const MOST: usize = 65_536;
 /// No reply but those with data or entries is longer.
 const LEAST: usize = 512;
 
-/// An Rread's and an Rreaddir's bytes before the data: the header, and the data's count.
-const BEFORE_DATA: usize = 11;
-
 /// As many names as a Twalk may have.
 const MOST_NAMES: usize = 16;
 
-const DIALECT: &str = "9P2000.L";
+const DIALECT: Text = Text::from_static("9P2000.L");
 
-/// Stands where a client has no fid for authentication.
-const NO_FID: u32 = u32::MAX;
+/// What a server answers that does not speak the client's dialect.
+const UNKNOWN: Text = Text::from_static("unknown");
 
 /// Of Tlopen's flags those that would write: for writing alone, for both, or truncated at once.
 const WRITES: u32 = 0o1003;
 
 type Answer<'d> = Result<Rmessage<'d>, Errno>;
 
-/// A file that the client has a number for, and what it is read from once it is open.
-struct Fid {
+/// A file that the client has a fid for, and what it is read from once it is open.
+struct Named {
     place: Rc<Place>,
     open: Option<Open>,
 }
@@ -46,7 +43,7 @@ enum Open {
 
 pub struct Session {
     root: Rc<Place>,
-    fids: HashMap<u32, Fid>,
+    fids: HashMap<Fid, Named>,
     msize: usize,
 }
 
@@ -94,9 +91,9 @@ impl Session {
         }
         self.fids.clear();
         self.msize = msize;
-        let version = match asked.version {
-            DIALECT => DIALECT,
-            _ => "unknown",
+        let version = match asked.version == DIALECT {
+            true => DIALECT,
+            false => UNKNOWN,
         };
         let msize = msize as u32;
         Ok(Rmessage::Version(Rversion { msize, version }))
@@ -104,7 +101,7 @@ impl Session {
 
     /// There is one tree, whatever name the client has for it.
     fn attach<'d>(&mut self, asked: Tattach) -> Answer<'d> {
-        if asked.afid != NO_FID {
+        if asked.afid != Fid::NONE {
             return Err(Errno::BAD_FID);
         }
         self.unused(asked.fid)?;
@@ -119,7 +116,7 @@ impl Session {
         let from = self.fid(asked.fid)?;
         let moves = asked.newfid == asked.fid;
         // From an open fid to a new one is well: diod's clients look at each file of a directory so.
-        if moves && from.open.is_some() || usize::from(asked.wnames.count()) > MOST_NAMES {
+        if moves && from.open.is_some() || asked.wnames.len() > MOST_NAMES {
             return Err(Errno::INVALID);
         }
         let mut place = from.place.clone();
@@ -127,8 +124,8 @@ impl Session {
             self.unused(asked.newfid)?;
         }
         let mut qids = Vec::new();
-        for name in asked.wnames.iter() {
-            match place.walk(name).and_then(|next| Ok((next.qid()?, next))) {
+        for name in asked.wnames {
+            match place.walk(&name).and_then(|next| Ok((next.qid()?, next))) {
                 Ok((qid, next)) => {
                     qids.push(qid);
                     place = next;
@@ -137,7 +134,7 @@ impl Session {
                 Err(_) => break,
             }
         }
-        if qids.len() == usize::from(asked.wnames.count()) {
+        if qids.len() == asked.wnames.len() {
             self.name(asked.newfid, place);
         }
         let wqids = Qids::gather(&qids, data)?;
@@ -166,18 +163,18 @@ impl Session {
     }
 
     fn read<'d>(&self, asked: Tread, data: &'d mut [u8]) -> Answer<'d> {
-        let place = self.room(asked.count, data);
+        let place = self.room(asked.count, data)?;
         let Some(Open::File(file)) = &self.fid(asked.fid)?.open else {
             return Err(Errno::BAD_FID);
         };
         let count = file.read_at(place, asked.offset)?;
-        let data = &place[..count];
+        let data = Data(&place[..count]);
         Ok(Rmessage::Read(Rread { data }))
     }
 
     /// As many entries as there is room for, from the one whose number the last one gave.
     fn readdir<'d>(&self, asked: Treaddir, data: &'d mut [u8]) -> Answer<'d> {
-        let place = self.room(asked.count, data);
+        let place = self.room(asked.count, data)?;
         let Some(Open::Directory(listing)) = &self.fid(asked.fid)?.open else {
             return Err(Errno::BAD_FID);
         };
@@ -190,33 +187,34 @@ impl Session {
                 Err(_) => break,
             }
         }
-        let data = &place[..end];
+        let data = Data(&place[..end]);
         Ok(Rmessage::Readdir(Rreaddir { data }))
     }
 
-    fn clunk(&mut self, fid: u32) -> Result<(), Errno> {
+    fn clunk(&mut self, fid: Fid) -> Result<(), Errno> {
         let gone = self.fids.remove(&fid);
         gone.map(drop).ok_or(Errno::BAD_FID)
     }
 
-    /// So much of the data as was asked for and fits into a frame.
-    fn room<'d>(&self, count: u32, data: &'d mut [u8]) -> &'d mut [u8] {
-        let most = self.msize - BEFORE_DATA;
-        &mut data[..most.min(count as usize)]
+    /// So much of the data as was asked for and fits into a frame. An Rreaddir's fields are the same.
+    fn room<'d>(&self, count: u32, data: &'d mut [u8]) -> Result<&'d mut [u8], Errno> {
+        let (tag, msg) = (Tag::NONE, Rmessage::Read(Rread { data: Data(b"") }));
+        let most = self.msize - Rframe { tag, msg }.byte_size()?;
+        Ok(&mut data[..most.min(count as usize)])
     }
 
-    fn fid(&self, fid: u32) -> Result<&Fid, Errno> {
+    fn fid(&self, fid: Fid) -> Result<&Named, Errno> {
         self.fids.get(&fid).ok_or(Errno::BAD_FID)
     }
 
-    fn unused(&self, fid: u32) -> Result<(), Errno> {
-        match fid == NO_FID || self.fids.contains_key(&fid) {
+    fn unused(&self, fid: Fid) -> Result<(), Errno> {
+        match fid == Fid::NONE || self.fids.contains_key(&fid) {
             true => Err(Errno::BAD_FID),
             false => Ok(()),
         }
     }
 
-    fn name(&mut self, fid: u32, place: Rc<Place>) {
-        self.fids.insert(fid, Fid { place, open: None });
+    fn name(&mut self, fid: Fid, place: Rc<Place>) {
+        self.fids.insert(fid, Named { place, open: None });
     }
 }

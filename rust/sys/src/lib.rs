@@ -38,8 +38,11 @@ pub struct Outcome {
 #[repr(C)]
 #[derive(Clone, Copy, Debug, Default, PartialEq, Eq)]
 pub struct Qid {
+    /// The kind of file: 0x80 for a directory, 0x02 for a symbolic link, 0 for a file.
     pub ty: u8,
+    /// Another one whenever the file's bytes are others.
     pub version: u32,
+    /// The file's own number, which no other file of the server has.
     pub path: u64,
 }
 
@@ -69,6 +72,17 @@ extern "C" {
         lent: *const u8,
         count: usize,
         refusal: u8,
+        ty: u8,
+        tag: Tag,
+        values: *const [u64; T_VALUES],
+    ) -> Outcome;
+    pub fn sheafsledge_write_two(
+        out: *mut u8,
+        room: usize,
+        first: *const u8,
+        first_count: usize,
+        second: *const u8,
+        second_count: usize,
         ty: u8,
         tag: Tag,
         values: *const [u64; T_VALUES],

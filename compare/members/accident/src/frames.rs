@@ -4,7 +4,7 @@
 use std::io;
 
 use sheafsledge::stream::{Frames, Next};
-use sheafsledge::{Refusal, Tframe};
+use sheafsledge::{Refusal, Tag, Tframe};
 
 /// What the session begins with.
 const MSIZE: u32 = 8192;
@@ -12,7 +12,7 @@ const MSIZE: u32 = 8192;
 /// The bytes after the last field of a frame, and the frame's tag.
 #[derive(Clone, Debug, PartialEq, Eq)]
 pub struct Tail {
-    pub tag: u16,
+    pub tag: Tag,
     pub bytes: Vec<u8>,
 }
 
@@ -23,7 +23,7 @@ pub fn stripped(stream: &[u8]) -> io::Result<(Vec<u8>, Vec<Tail>)> {
     loop {
         let frame = match frames.next_frame()? {
             Next::Frame(frame) => frame,
-            Next::TooLong(told) => return Err(io::Error::other(format!("{told:?}"))),
+            Next::TooLong(told) => return Err(told.into()),
             Next::End => return Ok((requests, tails)),
         };
         let read = Tframe::decode(frame)?;

@@ -8,6 +8,7 @@ use std::io;
 use std::process::ExitCode;
 
 use p9::show::hex;
+use sheafsledge::Tag;
 
 use frames::{stripped, Tail};
 use requests::{OPENING, TAG, TWRITE, TWRITE_OF_48};
@@ -85,7 +86,7 @@ fn show() -> io::Result<bool> {
     let twice = stream(&[TWRITE, TWRITE]);
     let copied = stream(&[TWRITE_OF_48, TWRITE]);
     let copy = Tail {
-        tag: TAG,
+        tag: Tag(TAG),
         bytes: TWRITE.to_vec(),
     };
 

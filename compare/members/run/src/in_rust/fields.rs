@@ -5,7 +5,7 @@ use std::io;
 
 use p9::protocol::{self as seller, Data, P9String};
 use p9::show::{shown, Show};
-use sheafsledge::{Names, Qid, Qids, Refusal};
+use sheafsledge::{Data as OurData, Fid, Gid, Names, Qid, Qids, Refusal, Tag, Text};
 
 use super::{unequal, Found, SOUND};
 use crate::compare::{differs, start};
@@ -36,6 +36,26 @@ macro_rules! numbers {
 
 numbers!(u8 u16 u32 u64);
 
+macro_rules! ids {
+    ($($id:ident $number:ty;)*) => {
+        $(impl<'a> Beside<'a, $number> for $id {
+            fn difference(&self, theirs: &$number) -> Found {
+                unequal(&self.0, theirs)
+            }
+
+            fn made(theirs: &'a $number, _: &Room<'a>) -> Self {
+                Self(*theirs)
+            }
+        })*
+    };
+}
+
+ids! {
+    Fid u32;
+    Gid u32;
+    Tag u16;
+}
+
 /// Of a string the bytes are told, since a wrong one need not be UTF-8.
 fn unlike(same: bool, ours: impl FnOnce() -> String, theirs: &impl Show) -> Found {
     match same {
@@ -44,24 +64,24 @@ fn unlike(same: bool, ours: impl FnOnce() -> String, theirs: &impl Show) -> Foun
     }
 }
 
-impl<'a> Beside<'a, P9String> for &'a str {
+impl<'a> Beside<'a, P9String> for Text<'a> {
     fn difference(&self, theirs: &P9String) -> Found {
         let bytes = self.as_bytes();
         unlike(bytes == theirs.as_bytes(), || start(bytes), theirs)
     }
 
     fn made(theirs: &'a P9String, _: &Room<'a>) -> Self {
-        std::str::from_utf8(theirs.as_bytes()).expect("the seller's strings are UTF-8")
+        Text::from_bytes(theirs.as_bytes()).expect("the seller's strings are UTF-8")
     }
 }
 
-impl<'a> Beside<'a, Data> for &'a [u8] {
+impl<'a> Beside<'a, Data> for OurData<'a> {
     fn difference(&self, theirs: &Data) -> Found {
-        unlike(*self == &theirs[..], || start(self), theirs)
+        unlike(self.0 == &theirs[..], || start(self), theirs)
     }
 
     fn made(theirs: &'a Data, _: &Room<'a>) -> Self {
-        theirs
+        OurData(theirs)
     }
 }
 
@@ -71,13 +91,14 @@ const LONG_ENOUGH: &str = "the room is as long as the frame";
 impl<'a> Beside<'a, Vec<P9String>> for Names<'a> {
     fn difference(&self, theirs: &Vec<P9String>) -> Found {
         let bytes = theirs.iter().map(P9String::as_bytes);
-        let same = self.iter().map(str::as_bytes).eq(bytes);
+        let same = self.iter().map(|name| name.as_str().as_bytes()).eq(bytes);
         let told = || self.iter().map(|name| start(name.as_bytes())).collect();
-        unlike(same, told, theirs).or_else(|| unequal(&usize::from(self.count()), &theirs.len()))
+        unlike(same, told, theirs).or_else(|| unequal(&self.len(), &theirs.len()))
     }
 
     fn made(theirs: &'a Vec<P9String>, room: &Room<'a>) -> Self {
-        let names: Vec<&str> = theirs.iter().map(|name| Beside::made(name, room)).collect();
+        let name = |name| <Text as Beside<P9String>>::made(name, room).as_str();
+        let names: Vec<&str> = theirs.iter().map(name).collect();
         Names::gather(&names, room.take()).expect(LONG_ENOUGH)
     }
 }
@@ -87,7 +108,7 @@ impl<'a> Beside<'a, Vec<seller::Qid>> for Qids<'a> {
         let mut both = self.iter().zip(theirs);
         both.find_map(|(ours, theirs)| ours.difference(theirs))
             .or_else(|| unequal(&self.iter().count(), &theirs.len()))
-            .or_else(|| unequal(&usize::from(self.count()), &theirs.len()))
+            .or_else(|| unequal(&self.len(), &theirs.len()))
     }
 
     fn made(theirs: &'a Vec<seller::Qid>, room: &Room<'a>) -> Self {

@@ -6,7 +6,9 @@ use judge::cases::wraps;
 use judge::{written, Direction};
 use p9::draw::Draws;
 use p9::protocol::{self as seller, WireFormat};
-use sheafsledge::{Decoded, Refusal, Rframe, Rmessage, Rread, Rreaddir, Tframe, Tmessage, Twrite};
+use sheafsledge::{
+    Data, Decoded, Fid, Refusal, Rframe, Rmessage, Rread, Rreaddir, Tag, Tframe, Tmessage, Twrite,
+};
 
 use super::fields::Beside;
 use super::{answer, found, put, unequal, Found, Wrote};
@@ -19,6 +21,8 @@ pub trait Frame<'a>: Beside<'a, Self::Theirs> {
     fn read(bytes: &'a [u8]) -> Result<Decoded<Self>, Refusal>;
 
     fn write(&self, out: &mut [u8]) -> Wrote;
+
+    fn size(&self) -> Wrote;
 
     /// The type, where there is a message.
     fn ty(&self) -> Option<u8>;
@@ -35,6 +39,10 @@ macro_rules! frame {
 
             fn write(&self, out: &mut [u8]) -> Wrote {
                 self.encode(out)
+            }
+
+            fn size(&self) -> Wrote {
+                self.byte_size()
             }
 
             fn ty(&self) -> Option<u8> {
@@ -73,8 +81,10 @@ pub fn read_reply(bytes: &[u8]) -> Found {
 
 fn again<'a, F: Frame<'a>>(ours: &F, theirs: &F::Theirs) -> Found {
     let theirs = written(theirs).map_err(|error| refusal(&error));
-    let room = theirs.as_ref().map_or(0, Vec::len) + 3;
+    let size = theirs.as_ref().map(Vec::len).map_err(|refusal| *refusal);
+    let room = size.unwrap_or(0) + 3;
     found(in_a_room(room, theirs, |out| answer(ours.write(out))))
+        .or_else(|| unequal(&ours.size().map_err(Refusal::number), &size))
 }
 
 /// A frame of ours made from the seller's, and written beside what the seller wrote. The buffer is as
@@ -87,12 +97,13 @@ pub fn made<'a, F: Frame<'a>>(
 ) -> Found {
     let ours = F::made(theirs, &Cell::new(buffer));
     put(0, bytes, draws, |out| ours.write(out))
+        .or_else(|| unequal(&ours.size(), &Ok(theirs.byte_size() as usize)))
 }
 
 /// A frame with data that may be too long to be read again. Its numbers are those of `limits`.
 pub fn data(frame: &[u8], draws: &mut Draws) -> Found {
-    let (tag, fid, offset) = (1, 1, 2);
-    let data = |start| frame.get(start..).unwrap_or_default();
+    let (tag, fid, offset) = (Tag(1), Fid(1), 2);
+    let data = |start| Data(frame.get(start..).unwrap_or_default());
     let msg = match frame[4] {
         118 => {
             let data = data(23);

@@ -6,8 +6,8 @@ use judge::written;
 use p9::draw::Draws;
 use p9::protocol::{self as seller, WireFormat};
 use sheafsledge::{
-    write_rwalk, write_twalk, Dirent, Qid, Refusal, Rframe, Rmessage, Rreaddir, Tframe, Tmessage,
-    WalkHead,
+    write_rwalk, write_twalk, Data, Dirent, Fid, Names, Qid, Qids, Refusal, Rframe, Rmessage,
+    Rreaddir, Rwalk, Tag, Tframe, Tmessage, Twalk, WalkHead,
 };
 
 use super::fields::Beside;
@@ -30,7 +30,7 @@ pub fn entry(at: usize, bytes: &[u8], draws: &mut Draws) -> Found {
 
 /// Those of an Rreaddir, up to the first that is refused.
 fn entries(data: &[u8]) -> Found {
-    let mut ours = Rreaddir { data }.entries();
+    let mut ours = Rreaddir { data: Data(data) }.entries();
     let mut rest = data;
     while !rest.is_empty() {
         let theirs = seller::Dirent::decode(&mut rest);
@@ -54,6 +54,7 @@ fn written_at(theirs: &seller::Dirent, draws: &mut Draws) -> Found {
     let bytes = written(theirs).expect(SOUND);
     let before = draws.below(40);
     put(before, &bytes, draws, |out| ours.encode(out, before))
+        .or_else(|| unequal(&ours.byte_size(), &bytes.len()))
 }
 
 /// Each name of a Twalk by its number, and none after the last.
@@ -90,41 +91,66 @@ fn numbered<'a, T, O: Beside<'a, T>>(ours: Result<O, Refusal>, theirs: Option<&T
     }
 }
 
-/// A Twalk written from a table of its names.
+/// A Twalk written from a table of its names, and from names that stand each for itself.
 pub fn twalk(frame: &[u8], draws: &mut Draws) -> Found {
     let (tag, theirs) = their_twalk(frame);
-    let (fid, newfid) = (theirs.fid, theirs.newfid);
+    let (fid, newfid) = (Fid(theirs.fid), Fid(theirs.newfid));
     let head = WalkHead { tag, fid, newfid };
     let names: Vec<&[u8]> = theirs.wnames.iter().map(|name| name.as_bytes()).collect();
     let (lent, rows) = spans(&names, draws);
-    put(0, frame, draws, |out| write_twalk(out, &lent, head, &rows))
+    let from_table = put(0, frame, draws, |out| write_twalk(out, &lent, head, &rows));
+    from_table.or_else(|| {
+        let texts = names.iter().map(|name| std::str::from_utf8(name));
+        let texts = texts.collect::<Result<Vec<_>, _>>().expect(SOUND);
+        let wnames = Names::of(&texts).expect(SOUND);
+        let walk = Twalk {
+            fid,
+            newfid,
+            wnames,
+        };
+        let ours = Tframe {
+            tag,
+            msg: Ok(Tmessage::Walk(walk)),
+        };
+        put(0, frame, draws, |out| ours.encode(out))
+            .or_else(|| unequal(&ours.byte_size(), &Ok(frame.len())))
+    })
 }
 
-/// An Rwalk of its qids.
+/// An Rwalk of its qids, by the function for tables and as a record.
 pub fn rwalk(frame: &[u8], draws: &mut Draws) -> Found {
     let (tag, theirs) = their_rwalk(frame);
     let none = Cell::default();
     let qids = theirs.wqids.iter().map(|qid| Beside::made(qid, &none));
     let qids: Vec<Qid> = qids.collect();
-    put(0, frame, draws, |out| write_rwalk(out, tag, &qids))
+    let from_table = put(0, frame, draws, |out| write_rwalk(out, tag, &qids));
+    from_table.or_else(|| {
+        let wqids = Qids::from(&qids[..]);
+        let ours = Rframe {
+            tag,
+            msg: Rmessage::Walk(Rwalk { wqids }),
+        };
+        put(0, frame, draws, |out| ours.encode(out))
+            .or_else(|| unequal(&ours.byte_size(), &Ok(frame.len())))
+    })
 }
 
-fn their_twalk(frame: &[u8]) -> (u16, seller::Twalk) {
+fn their_twalk(frame: &[u8]) -> (Tag, seller::Twalk) {
     match their(frame) {
         seller::Tframe {
             tag,
             msg: Ok(seller::Tmessage::Walk(walk)),
-        } => (tag, walk),
+        } => (Tag(tag), walk),
         _ => unreachable!("a Twalk is asked for its names"),
     }
 }
 
-fn their_rwalk(frame: &[u8]) -> (u16, seller::Rwalk) {
+fn their_rwalk(frame: &[u8]) -> (Tag, seller::Rwalk) {
     match their(frame) {
         seller::Rframe {
             tag,
             msg: seller::Rmessage::Walk(walk),
-        } => (tag, walk),
+        } => (Tag(tag), walk),
         _ => unreachable!("an Rwalk is asked for its qids"),
     }
 }

@@ -4,7 +4,7 @@ use judge::cases::unknown;
 use judge::stretch::whole;
 use judge::Direction;
 use p9::protocol::{self as seller, WireFormat};
-use sheafsledge::{answers, Body, Listed, Mark};
+use sheafsledge::{answers, Body, Listed, Mark, Tag};
 
 use super::fields::Beside;
 use super::{unequal, Found};
@@ -37,7 +37,7 @@ pub fn stretch(bytes: &[u8]) -> Found {
 }
 
 fn listed(ours: &Listed, at: usize, frame: &[u8]) -> Found {
-    let (ty, tag) = (frame[4], u16::from_le_bytes([frame[5], frame[6]]));
+    let (ty, tag) = (frame[4], Tag(u16::from_le_bytes([frame[5], frame[6]])));
     let places = [ours.at, ours.size, ours.next];
     unequal(&places, &[at, frame.len(), at + frame.len()])
         .or_else(|| unequal(&(ours.ty, ours.tag), &(ty, tag)))
@@ -66,7 +66,7 @@ fn body(ours: &Listed, frame: &[u8]) -> Found {
 /// Whether the next number answers it, by F7.1, with its tag and with another.
 fn pairs(ours: Mark, Mark { ty, tag }: Mark) -> Found {
     let ty_after = ty.wrapping_add(1);
-    let tags = [tag, !tag];
+    let tags = [tag, Tag(!tag.0)];
     let replies = tags.map(|tag| answers(ours, Mark { ty: ty_after, tag }));
     let known = !unknown(Direction::T).contains(&ty);
     unequal(&replies, &[known, false])
