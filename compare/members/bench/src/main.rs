@@ -3,6 +3,7 @@
 mod clock;
 mod frames;
 mod in_rust;
+mod served;
 mod stretch;
 mod texts;
 
@@ -27,7 +28,8 @@ fn main() -> ExitCode {
     let done = requests.all(|(name, frame)| rows::<CrossedT, Request, Tframe>(name, frame))
         && replies.all(|(name, frame)| rows::<CrossedR, Reply, Rframe>(name, frame))
         && stretch::row_of_a_million()
-        && texts::rows();
+        && texts::rows()
+        && served::rows();
     match done {
         true => ExitCode::SUCCESS,
         false => ExitCode::FAILURE,

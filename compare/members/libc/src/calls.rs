@@ -1,16 +1,13 @@
 //! Functions of the C library, which every Rust program here is linked with already.
 
 use crate::DIR;
-use crate::{c_char, c_int, c_long, dirent64, gid_t, mode_t, stat64, statfs64, timespec, uid_t};
+use crate::{c_char, c_int, c_long, dirent64, gid_t, mode_t, timespec, uid_t};
 
 extern "C" {
     pub fn openat64(dir: c_int, path: *const c_char, flags: c_int, ...) -> c_int;
     pub fn close(fd: c_int) -> c_int;
     pub fn fcntl(fd: c_int, command: c_int, ...) -> c_int;
 
-    pub fn fstat64(fd: c_int, stat: *mut stat64) -> c_int;
-    pub fn fstatat64(dir: c_int, path: *const c_char, stat: *mut stat64, flags: c_int) -> c_int;
-    pub fn fstatfs64(fd: c_int, statfs: *mut statfs64) -> c_int;
     pub fn readlinkat(dir: c_int, path: *const c_char, out: *mut c_char, room: usize) -> isize;
 
     pub fn fchmodat(dir: c_int, path: *const c_char, mode: mode_t, flags: c_int) -> c_int;

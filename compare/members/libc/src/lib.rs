@@ -14,6 +14,8 @@ mod calls;
 mod numbers;
 #[cfg(all(target_arch = "x86_64", target_os = "linux", target_env = "gnu"))]
 mod records;
+#[cfg(all(target_arch = "x86_64", target_os = "linux", target_env = "gnu"))]
+mod steady;
 
 #[cfg(all(target_arch = "x86_64", target_os = "linux", target_env = "gnu"))]
-pub use {calls::*, numbers::*, records::*};
+pub use {calls::*, numbers::*, records::*, steady::*};
