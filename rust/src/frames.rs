@@ -51,6 +51,7 @@ impl<'a> Tframe<'a> {
     /// assert_eq!(read.frame.msg, Ok(Tmessage::Flush(Tflush { oldtag: Tag(2) })));
     /// # Ok::<(), sheafsledge::Refusal>(())
     /// ```
+    #[inline]
     pub fn decode(bytes: &'a [u8]) -> Result<Decoded<Self>, Refusal> {
         Self::read(bytes, Err, |tag, msg, used| {
             let frame = Self { tag, msg };
@@ -119,6 +120,7 @@ impl<'a> Tframe<'a> {
 
 impl<'a> Rframe<'a> {
     /// Reads the reply at the front of some bytes; no byte after its declared size is looked at.
+    #[inline]
     pub fn decode(bytes: &'a [u8]) -> Result<Decoded<Self>, Refusal> {
         Self::read(bytes, |tag, msg, used| {
             let frame = Self { tag, msg: msg? };

@@ -125,6 +125,17 @@ macro_rules! message {
             $($empty,)*
         }
 
+        impl $message {
+            /// The crate's message, if it is one that needs no more than its type.
+            #[inline(always)]
+            pub fn without_fields(&self) -> Option<sheafsledge::$message<'static>> {
+                match self {
+                    $(Self::$empty => Some(sheafsledge::$message::$empty),)*
+                    _ => None,
+                }
+            }
+        }
+
         impl<'a> Field<'a, sheafsledge::$message<'a>> for $message {
             #[inline(always)]
             fn owned(ours: sheafsledge::$message<'a>) -> Self {

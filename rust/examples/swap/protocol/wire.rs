@@ -16,11 +16,13 @@ pub trait WireFormat: Sized {
     fn decode<R: Read>(reader: &mut R) -> io::Result<Self>;
 }
 
-/// A frame's size.
+/// A frame's size, and all that stands before its fields.
 const SIZE: usize = 4;
+const HEADER: usize = 7;
 
-/// Most frames are so short that they have room on the stack.
-const SMALL: usize = 192;
+/// Most requests and most replies are so short that they have room on the stack.
+const SMALL_REQUEST: usize = 64;
+const SMALL_REPLY: usize = 192;
 
 /// Frames of so many bytes are read in a buffer that is kept; longer ones have one of their own.
 const SHORT: usize = 4096;
@@ -56,6 +58,15 @@ impl WireFormat for Rframe {
     }
 
     fn encode<W: Write>(&self, writer: &mut W) -> io::Result<()> {
+        if let Some(msg) = self.msg.without_fields() {
+            let frame = sheafsledge::Rframe {
+                tag: Tag(self.tag),
+                msg,
+            };
+            let mut out = [0; HEADER];
+            let len = frame.encode(&mut out)?;
+            return writer.write_all(&out[..len]);
+        }
         let room = Room::default();
         let frame = lent_r(self, &room)?;
         put(writer, |out| frame.encode(out), || frame.byte_size())
@@ -160,12 +171,12 @@ fn framed<R: Read, F>(
     short: impl Fn(&[u8]) -> io::Result<F>,
     long: impl FnOnce(Vec<u8>) -> io::Result<F>,
 ) -> io::Result<F> {
-    let mut small = [0; SMALL];
+    let mut small = [0; SMALL_REQUEST];
     reader.read_exact(&mut small[..SIZE])?;
     let [a, b, c, d, ..] = small;
     let len = u32::from_le_bytes([a, b, c, d]) as usize;
     match len {
-        ..=SMALL => short(filled(reader, &mut small, len)?),
+        ..=SMALL_REQUEST => short(filled(reader, &mut small, len)?),
         ..=SHORT => READ.with_borrow_mut(|buffer| {
             buffer[..SIZE].copy_from_slice(&small[..SIZE]);
             short(filled(reader, buffer, len)?)
@@ -201,7 +212,7 @@ fn put(
     encode: impl Fn(&mut [u8]) -> Result<usize, Refusal>,
     size: impl FnOnce() -> Result<usize, Refusal>,
 ) -> io::Result<()> {
-    let mut small = [0; SMALL];
+    let mut small = [0; SMALL_REPLY];
     match encode(&mut small) {
         Err(Refusal::NoRoom) => {}
         encoded => return writer.write_all(&small[..encoded?]),
