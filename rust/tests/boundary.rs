@@ -236,3 +236,13 @@ fn the_functions_are_the_librarys() {
     let differ = differences(&library.functions, &rust.functions);
     assert!(differ.is_empty(), "\n{}", differ.join("\n"));
 }
+
+#[test]
+fn the_library_is_of_this_boundary() {
+    // SAFETY: it is handed nothing.
+    let number = unsafe { sheafsledge_sys::sheafsledge_boundary_1() };
+    assert_eq!(number, sheafsledge_sys::BOUNDARY);
+    let (_, rust) = both();
+    let symbol = format!("{PREFIX}boundary_{number}");
+    assert!(rust.functions.contains_key(&symbol), "no {symbol}");
+}

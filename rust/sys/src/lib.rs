@@ -12,6 +12,10 @@
 #[cfg(not(all(target_arch = "x86_64", target_os = "linux")))]
 compile_error!("sheafsledge is for x86-64 Linux alone: the proved library is compiled for that");
 
+mod boundary;
+
+pub use boundary::BOUNDARY;
+
 /// How many values cross with a request, a reply, a directory entry, a qid and an element of a walk.
 pub const T_VALUES: usize = 10;
 pub const R_VALUES: usize = 22;
@@ -161,7 +165,12 @@ extern "C" {
         qids_count: usize,
     ) -> Outcome;
     pub fn sheafsledge_frame_at(bytes: *const u8, count: usize, position: usize) -> Outcome;
+    pub fn sheafsledge_boundary_1() -> u32;
 }
+
+/// Nothing links without it, whether or not it is called: a library of another boundary has it not.
+#[used]
+static BOUNDARY_IS_LINKED: unsafe extern "C" fn() -> u32 = sheafsledge_boundary_1;
 
 /// Holds a struct to its size, its alignment and the offset of each field, in bytes.
 macro_rules! laid_out {
