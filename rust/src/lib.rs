@@ -84,3 +84,8 @@ pub use walks::{Names, NamesIter, Qids, QidsIter};
 pub fn is_utf8(bytes: &[u8]) -> bool {
     ffi::is_utf8(bytes)
 }
+
+/// The example there is tried, too.
+#[cfg(doctest)]
+#[doc = include_str!("../README.md")]
+struct Readme;
