@@ -40,7 +40,7 @@ macro_rules! message {
     (
         $(#[$doc:meta])* $message:ident
         $($ty:literal $case:ident: $record:ident $(<$a:lifetime>)? { $($field:ident: $kind:ty,)* })*
-        empty: $($number:literal $empty:ident)*
+        empty: $($number:literal $empty:ident: $name:ident)*
     ) => {
         $(record!($record $(<$a>)? { $($field: $kind,)* });)*
 
@@ -92,6 +92,15 @@ macro_rules! message {
                 }
             }
 
+            /// What a type is called, as `Twalk`; none if the direction has no such type.
+            pub(crate) fn name_of(ty: u8) -> Option<&'static str> {
+                match ty {
+                    $($ty => Some(stringify!($record)),)*
+                    $($number => Some(stringify!($name)),)*
+                    _ => None,
+                }
+            }
+
             /// The message's type number.
             pub fn ty(&self) -> u8 {
                 match self {
@@ -104,3 +113,15 @@ macro_rules! message {
 }
 
 include!("rows.rs");
+
+/// What a message type is called, in either direction; none if it is unknown.
+///
+/// ```
+/// use sheafsledge::message_name;
+/// assert_eq!(message_name(110), Some("Twalk"));
+/// assert_eq!(message_name(71), Some("Rlink"));
+/// assert_eq!(message_name(106), None);
+/// ```
+pub fn message_name(ty: u8) -> Option<&'static str> {
+    Tmessage::name_of(ty).or_else(|| Rmessage::name_of(ty))
+}

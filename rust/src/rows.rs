@@ -77,14 +77,14 @@ message! {
     117 Read: Rread<'a> { data: Data<'a>, }
     119 Write: Rwrite { count: u32, }
     empty:
-    21 Rename
-    27 SetAttr
-    33 XattrCreate
-    51 Fsync
-    71 Link
-    75 RenameAt
-    77 UnlinkAt
-    109 Flush
-    121 Clunk
-    123 Remove
+    21 Rename: Rrename
+    27 SetAttr: Rsetattr
+    33 XattrCreate: Rxattrcreate
+    51 Fsync: Rfsync
+    71 Link: Rlink
+    75 RenameAt: Rrenameat
+    77 UnlinkAt: Runlinkat
+    109 Flush: Rflush
+    121 Clunk: Rclunk
+    123 Remove: Rremove
 }

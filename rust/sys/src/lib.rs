@@ -8,6 +8,7 @@
 //! parameter by parameter.
 
 #![no_std]
+#![warn(missing_docs)]
 
 #[cfg(not(all(target_arch = "x86_64", target_os = "linux")))]
 compile_error!("sheafsledge is for x86-64 Linux alone: the proved library is compiled for that");
@@ -16,11 +17,15 @@ mod boundary;
 
 pub use boundary::BOUNDARY;
 
-/// How many values cross with a request, a reply, a directory entry, a qid and an element of a walk.
+/// How many values hold any request.
 pub const T_VALUES: usize = 10;
+/// How many values hold any reply.
 pub const R_VALUES: usize = 22;
+/// How many values a directory entry has.
 pub const ENTRY_VALUES: usize = 7;
+/// How many values a qid has.
 pub const QID_VALUES: usize = 3;
+/// How many values an element of a walk has: where it starts, and its length.
 pub const SPAN_VALUES: usize = 2;
 
 /// What the library answers for all that it reads or writes: 0 and the place after it, or the
@@ -31,10 +36,15 @@ pub const SPAN_VALUES: usize = 2;
 #[repr(C)]
 #[derive(Clone, Copy, Debug, Default, PartialEq, Eq)]
 pub struct Outcome {
+    /// 0, or the number of the refusal.
     pub refusal: u8,
+    /// A frame's type.
     pub ty: u8,
+    /// A frame's tag.
     pub tag: u16,
+    /// Whether there is a frame.
     pub held: bool,
+    /// The place after what was read or written.
     pub place: usize,
 }
 
@@ -53,23 +63,33 @@ pub struct Qid {
 /// A fid is handed over only where a fid is meant: neither a tag nor any other number fits there.
 #[repr(C)]
 #[derive(Clone, Copy, Debug, PartialEq, Eq)]
-pub struct Fid(pub u32);
+pub struct Fid(
+    /// The number on the wire.
+    pub u32,
+);
 
+/// A tag, in the same way.
 #[repr(C)]
 #[derive(Clone, Copy, Debug, PartialEq, Eq)]
-pub struct Tag(pub u16);
+pub struct Tag(
+    /// The number on the wire.
+    pub u16,
+);
 
 extern "C" {
+    /// Reads the request at the front of the bytes.
     pub fn sheafsledge_read_tframe(
         bytes: *const u8,
         count: usize,
         values: *mut [u64; T_VALUES],
     ) -> Outcome;
+    /// Reads the reply at the front of the bytes.
     pub fn sheafsledge_read_rframe(
         bytes: *const u8,
         count: usize,
         values: *mut [u64; R_VALUES],
     ) -> Outcome;
+    /// Writes a request from values whose spans point into the lent bytes.
     pub fn sheafsledge_write_tframe(
         out: *mut u8,
         room: usize,
@@ -80,6 +100,7 @@ extern "C" {
         tag: Tag,
         values: *const [u64; T_VALUES],
     ) -> Outcome;
+    /// Writes a request with two strings, the one all of `first` and the other all of `second`.
     pub fn sheafsledge_write_two(
         out: *mut u8,
         room: usize,
@@ -91,6 +112,7 @@ extern "C" {
         tag: Tag,
         values: *const [u64; T_VALUES],
     ) -> Outcome;
+    /// Writes a reply from values whose spans point into the lent bytes.
     pub fn sheafsledge_write_rframe(
         out: *mut u8,
         room: usize,
@@ -101,12 +123,14 @@ extern "C" {
         tag: Tag,
         values: *const [u64; R_VALUES],
     ) -> Outcome;
+    /// Reads the directory entry at a place.
     pub fn sheafsledge_read_dirent(
         bytes: *const u8,
         count: usize,
         at: usize,
         values: *mut [u64; ENTRY_VALUES],
     ) -> Outcome;
+    /// Writes a directory entry at a place.
     pub fn sheafsledge_write_dirent(
         out: *mut u8,
         room: usize,
@@ -115,13 +139,16 @@ extern "C" {
         count: usize,
         values: *const [u64; ENTRY_VALUES],
     ) -> Outcome;
+    /// Whether the bytes are UTF-8 by RFC 3629.
     pub fn sheafsledge_is_utf8(bytes: *const u8, count: usize) -> bool;
+    /// Whether a reply answers a request, by types and tags.
     pub fn sheafsledge_answers(
         request_ty: u8,
         request_tag: Tag,
         reply_ty: u8,
         reply_tag: Tag,
     ) -> bool;
+    /// Where name `i` of a walk stands.
     pub fn sheafsledge_name_at(
         lent: *const u8,
         lent_count: usize,
@@ -131,6 +158,7 @@ extern "C" {
         i: usize,
         span: *mut [u64; SPAN_VALUES],
     ) -> Outcome;
+    /// Where qid `i` of a walk stands.
     pub fn sheafsledge_qid_at(
         lent: *const u8,
         lent_count: usize,
@@ -140,12 +168,14 @@ extern "C" {
         i: usize,
         span: *mut [u64; SPAN_VALUES],
     ) -> Outcome;
+    /// Reads the qid at a place.
     pub fn sheafsledge_read_qid(
         bytes: *const u8,
         count: usize,
         at: usize,
         values: *mut [u64; QID_VALUES],
     ) -> Outcome;
+    /// Writes a Twalk whose names are parts of the lent bytes, a row for each.
     pub fn sheafsledge_write_twalk(
         out: *mut u8,
         room: usize,
@@ -157,6 +187,7 @@ extern "C" {
         names: *const [usize; 2],
         names_count: usize,
     ) -> Outcome;
+    /// Writes an Rwalk of a table of qids.
     pub fn sheafsledge_write_rwalk(
         out: *mut u8,
         room: usize,
@@ -164,7 +195,9 @@ extern "C" {
         qids: *const Qid,
         qids_count: usize,
     ) -> Outcome;
+    /// The frame at a position of a stretch, by its size.
     pub fn sheafsledge_frame_at(bytes: *const u8, count: usize, position: usize) -> Outcome;
+    /// Answers 1, the number of the boundary.
     pub fn sheafsledge_boundary_1() -> u32;
 }
 

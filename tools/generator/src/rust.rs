@@ -36,7 +36,7 @@ impl Rows {
             text += "    empty:\n";
             text += &empty
                 .iter()
-                .map(|m| format!("    {} {}\n", m.number, m.case))
+                .map(|m| format!("    {} {}: {}\n", m.number, m.case, m.record()))
                 .collect::<String>();
             text += "}\n";
         }

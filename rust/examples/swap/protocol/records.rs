@@ -114,7 +114,7 @@ macro_rules! message {
     (
         $(#[$doc:meta])* $message:ident
         $($ty:literal $case:ident: $record:ident $(<$a:lifetime>)? { $($field:ident: $kind:ty,)* })*
-        empty: $($number:literal $empty:ident)*
+        empty: $($number:literal $empty:ident: $name:ident)*
     ) => {
         $(record!($record, sheafsledge::$record $(<$a>)? { $($field: $kind,)* });)*
 
