@@ -137,3 +137,31 @@ fn the_longest_frames_need_little_stack() {
     let thread = std::thread::Builder::new().stack_size(64 << 10);
     thread.spawn(writes).unwrap().join().unwrap();
 }
+
+/// Of the 256 types four are written from two slices, and the others refused with 3; over the
+/// boundary itself, since the crate asks for no other.
+#[test]
+fn four_types_have_two_strings() {
+    let (first, second, values) = (b"ab", b"c", [7; sheafsledge_sys::T_VALUES]);
+    for ty in 0..=u8::MAX {
+        let mut out = [0xee; 64];
+        let tag = sheafsledge_sys::Tag(1);
+        // SAFETY: the pointers and counts are of arrays, and the output is borrowed alone.
+        let wrote = unsafe {
+            sheafsledge_sys::sheafsledge_write_two(
+                out.as_mut_ptr(),
+                out.len(),
+                first.as_ptr(),
+                first.len(),
+                second.as_ptr(),
+                second.len(),
+                ty,
+                tag,
+                &values,
+            )
+        };
+        let has_two = [16, 74, 102, 104].contains(&ty);
+        assert_eq!(wrote.refusal, if has_two { 0 } else { 3 }, "type {ty}");
+        assert_eq!(out == [0xee; 64], !has_two, "type {ty}");
+    }
+}
