@@ -48,7 +48,7 @@ impl WireFormat for Tframe {
     }
 
     fn decode<R: Read>(reader: &mut R) -> io::Result<Self> {
-        framed(reader, |frame| read_t(frame), |frame| read_long_t(frame))
+        framed(reader, read_t, read_long_t)
     }
 }
 
@@ -73,7 +73,7 @@ impl WireFormat for Rframe {
     }
 
     fn decode<R: Read>(reader: &mut R) -> io::Result<Self> {
-        framed(reader, |frame| read_r(frame), |frame| read_r(&frame))
+        framed(reader, read_r, |frame| read_r(&frame))
     }
 }
 
@@ -175,19 +175,19 @@ fn framed<R: Read, F>(
     reader.read_exact(&mut small[..SIZE])?;
     let [a, b, c, d, ..] = small;
     let len = u32::from_le_bytes([a, b, c, d]) as usize;
-    match len {
-        ..=SMALL_REQUEST => short(filled(reader, &mut small, len)?),
-        ..=SHORT => READ.with_borrow_mut(|buffer| {
+    if len <= SMALL_REQUEST {
+        return short(filled(reader, &mut small, len)?);
+    }
+    if len <= SHORT {
+        return READ.with_borrow_mut(|buffer| {
             buffer[..SIZE].copy_from_slice(&small[..SIZE]);
             short(filled(reader, buffer, len)?)
-        }),
-        _ => {
-            let mut bytes = Vec::with_capacity(len.min(LONG));
-            bytes.extend(&small[..SIZE]);
-            reader.take((len - SIZE) as u64).read_to_end(&mut bytes)?;
-            long(bytes)
-        }
+        });
     }
+    let mut bytes = Vec::with_capacity(len.min(LONG));
+    bytes.extend(&small[..SIZE]);
+    reader.take((len - SIZE) as u64).read_to_end(&mut bytes)?;
+    long(bytes)
 }
 
 /// The frame after its size, as far as the stream has it.
