@@ -1,0 +1,29 @@
+# Completions of sheafsledge for bash: source this file, or put it into bash-completion's folder under the name `sheafsledge`.
+
+_sheafsledge() {
+    local word=${COMP_WORDS[COMP_CWORD]} before=${COMP_WORDS[COMP_CWORD - 1]} offers='' i
+    COMPREPLY=()
+    if [ "$COMP_CWORD" -eq 1 ]; then
+        mapfile -t COMPREPLY < <(compgen -W 'list --help -h --version -V' -- "$word")
+        return
+    fi
+    case ${COMP_WORDS[1]} in
+    list) offers='--names --json --output -o --help -h' ;;
+    esac
+    # After `--`, and as an option's value, a word is a file in any case.
+    for ((i = 2; i < COMP_CWORD; i++)); do
+        [ "${COMP_WORDS[i]}" != -- ] || offers=''
+    done
+    case $before in
+    -o | --output | =) offers='' ;;
+    esac
+    case $word in
+    =) word='' ;;
+    -*)
+        mapfile -t COMPREPLY < <(compgen -W "$offers" -- "$word")
+        return
+        ;;
+    esac
+    mapfile -t COMPREPLY < <(compgen -f -- "$word")
+}
+complete -o filenames -F _sheafsledge sheafsledge

@@ -1,0 +1,11 @@
+//! What a listing looks like.
+
+use crate::recording::{Ended, Row};
+
+/// A way to write a listing.
+pub trait Form {
+    /// `heading` where the listing is one of several.
+    fn begin(&mut self, heading: Option<&str>, text: &mut Vec<u8>);
+    fn row(&mut self, row: &Row, text: &mut Vec<u8>);
+    fn end(&mut self, ended: &Ended, frames: u64, text: &mut Vec<u8>);
+}

@@ -1,0 +1,119 @@
+//! An object a line, with the file's name in each, so that listings can be joined.
+
+use std::ffi::OsStr;
+use std::fmt::Write;
+
+use sheafsledge::message_name;
+
+use crate::digits::push;
+use crate::recording::{Ended, Row};
+
+use super::form::Form;
+
+pub struct Json {
+    /// `{"file":"NAME"`, what each object begins with.
+    front: Vec<u8>,
+}
+
+impl Json {
+    pub fn of(file: &OsStr) -> Self {
+        let front = format!("{{\"file\":{}", quoted(&file.to_string_lossy()));
+        let front = front.into_bytes();
+        Self { front }
+    }
+
+    fn open(&self, text: &mut Vec<u8>, numbers: &[(&str, u64)]) {
+        text.extend_from_slice(&self.front);
+        numbers.iter().for_each(|(key, n)| number(text, key, *n));
+    }
+}
+
+impl Form for Json {
+    fn begin(&mut self, _: Option<&str>, _: &mut Vec<u8>) {}
+
+    fn row(&mut self, row: &Row, text: &mut Vec<u8>) {
+        self.open(
+            text,
+            &[
+                ("at", row.at),
+                ("size", row.size as u64),
+                ("type", row.ty as u64),
+                ("tag", row.tag as u64),
+                ("answer", row.answer() as u64),
+            ],
+        );
+        match row.refusal {
+            Some(_) => text.extend_from_slice(b",\"tail\":null"),
+            None => number(text, "tail", row.tail as u64),
+        }
+        match message_name(row.ty) {
+            Some(name) => string(text, "name", name),
+            None => text.extend_from_slice(b",\"name\":null"),
+        }
+        if let Some(refusal) = row.refusal {
+            string(text, "sentence", refusal.sentence());
+        }
+        text.extend_from_slice(b"}\n");
+    }
+
+    fn end(&mut self, ended: &Ended, frames: u64, text: &mut Vec<u8>) {
+        match *ended {
+            Ended::Whole(bytes) => self.open(text, &[("end", bytes)]),
+            Ended::Stopped { at, refusal } => {
+                self.open(text, &[("stop", at), ("answer", refusal.number() as u64)]);
+                string(text, "sentence", refusal.sentence());
+            }
+        }
+        number(text, "frames", frames);
+        text.extend_from_slice(b"}\n");
+    }
+}
+
+fn number(text: &mut Vec<u8>, key: &str, n: u64) {
+    text.extend_from_slice(b",\"");
+    text.extend_from_slice(key.as_bytes());
+    text.extend_from_slice(b"\":");
+    push(text, n);
+}
+
+/// Of a text that needs no escapes: the crate's names and sentences have none.
+fn string(text: &mut Vec<u8>, key: &str, value: &str) {
+    text.extend_from_slice(b",\"");
+    text.extend_from_slice(key.as_bytes());
+    text.extend_from_slice(b"\":\"");
+    text.extend_from_slice(value.as_bytes());
+    text.push(b'"');
+}
+
+/// As RFC 8259 wants it; control characters that it would let stand are escaped too.
+fn quoted(text: &str) -> String {
+    let mut quoted = String::from("\"");
+    for letter in text.chars() {
+        match letter {
+            '"' | '\\' => quoted.extend(['\\', letter]),
+            _ if letter.is_control() => {
+                // All of them are below U+10000. Writing into a string can't fail.
+                let _ = write!(quoted, "\\u{:04x}", letter as u32);
+            }
+            _ => quoted.push(letter),
+        }
+    }
+    quoted + "\""
+}
+
+#[cfg(test)]
+mod tests {
+    use super::quoted;
+
+    #[test]
+    fn names_are_escaped() {
+        for (text, told) in [
+            ("a.bin", r#""a.bin""#),
+            ("\"\\/", r#""\"\\/""#),
+            ("\n\u{1b}\u{7f}\u{9f}", r#""\u000a\u001b\u007f\u009f""#),
+            ("höhe\u{10ffff}\u{fffd}", "\"höhe\u{10ffff}\u{fffd}\""),
+        ] {
+            assert_eq!(quoted(text), told);
+        }
+    }
+}

@@ -1,0 +1,184 @@
+//! `sheafsledge list`: the proved lister's columns, for recordings of any length.
+
+mod form;
+mod json;
+mod lines;
+mod summary;
+
+use std::ffi::OsStr;
+use std::io::{self, Write};
+
+use crate::command::Command;
+use crate::help;
+use crate::input::{is_standard, named, Input};
+use crate::output::Output;
+use crate::recording::{Recording, PIECE};
+use crate::status::{say, Failure, Status};
+use crate::terminal::{error_is_terminal, is_watched, Paint};
+use crate::words::{Opt, Words};
+
+use form::Form;
+use json::Json;
+use lines::Lines;
+use summary::Summary;
+
+const NAMES: Opt = Opt {
+    long: "names",
+    short: None,
+    value: None,
+    says: "adds the message's name ('?' if it is unknown) and, if the\n\
+           frame is refused, why",
+};
+
+const JSON: Opt = Opt {
+    long: "json",
+    short: None,
+    value: None,
+    says: "prints an object a line instead, with the file, the name\n\
+           and why a frame is refused",
+};
+
+const OUTPUT: Opt = Opt {
+    long: "output",
+    short: Some('o'),
+    value: Some("FILE"),
+    says: "writes to FILE, which appears whole or not at all",
+};
+
+pub const COMMAND: Command = Command {
+    name: "list",
+    says: "lists the frames of recordings, a line each",
+    usage: "[OPTION].. FILE..",
+    about: "\
+Lists the frames of each recording, a line a frame; FILE '-' is standard input.
+A recording is frames back to back and may have any length.
+
+A line has the frame's position, its size, its type (even: a request; odd: a
+reply), its tag, the answer and the tail. The answer is 0 if the frame is sound,
+else the number of the refusal, and the tail is '-' then. The tail is how many
+bytes follow the last field inside the frame. The last line is 'end BYTES
+FRAMES', or 'stop POSITION NUMBER' where the recording is cut (12) or has a size
+that no frame has (13). A summary goes to standard error.
+",
+    options: &[NAMES, JSON, OUTPUT, help::HELP],
+    examples: &["list examples/diod-session.bin"],
+    run,
+};
+
+fn run(words: &Words) -> Result<Status, Failure> {
+    let files = words.files();
+    if files.is_empty() {
+        return Err(words.wrong("name a file, or '-' for standard input".into()));
+    }
+    if files.iter().filter(|file| is_standard(file)).count() > 1 {
+        return Err(words.wrong("standard input, '-', is named twice".into()));
+    }
+    let output = Output::open(words.value(OUTPUT.long))?;
+    let watched = is_watched(output.is_terminal());
+    let paint = Paint::on(output.is_terminal());
+    let listing = Listing {
+        output,
+        watched,
+        several: files.len() > 1,
+        begun: false,
+        summary: Summary::new(),
+        failed: false,
+    };
+    match (words.has(JSON.long), words.has(NAMES.long)) {
+        (true, _) => listing.of(files, Json::of),
+        (false, true) => listing.of(files, |_| Lines::<true>::new(paint)),
+        (false, false) => listing.of(files, |_| Lines::<false>::new(paint)),
+    }
+}
+
+struct Listing {
+    output: Output,
+    watched: bool,
+    several: bool,
+    /// Whether anything is listed.
+    begun: bool,
+    summary: Summary,
+    /// Whether a file could not be read.
+    failed: bool,
+}
+
+impl Listing {
+    /// Each file in its form, and the summary.
+    fn of<F: Form>(
+        mut self,
+        files: &[impl AsRef<OsStr>],
+        form: impl Fn(&OsStr) -> F,
+    ) -> Result<Status, Failure> {
+        for file in files {
+            let file = file.as_ref();
+            if let Err(error) = self.file(file, form(file))? {
+                self.output
+                    .flush()
+                    .map_err(|error| self.output.failure(error))?;
+                Failure::file(&named(file), error).said();
+                self.failed = true;
+            }
+        }
+        self.end()
+    }
+
+    /// The inner error is of the file that is read: the others can still be.
+    fn file(&mut self, file: &OsStr, mut form: impl Form) -> Result<io::Result<()>, Failure> {
+        let input = match Input::open(file, self.watched) {
+            Ok(input) => input,
+            Err(error) => return Ok(Err(error)),
+        };
+        let mut recording = Recording::new(input, PIECE);
+        let (mut frames, mut begun) = (0, false);
+        let ended = loop {
+            let ended = match recording.go_on() {
+                Ok(ended) => ended,
+                Err(error) => return Ok(Err(error)),
+            };
+            // Not before something of it could be read.
+            if !begun {
+                form.begin(self.heading(file).as_deref(), self.output.text());
+                (begun, self.begun) = (true, true);
+            }
+            for row in recording.rows() {
+                self.summary.row(row);
+                form.row(row, self.output.text());
+                let settled = self.output.settle();
+                settled.map_err(|error| self.output.failure(error))?;
+            }
+            frames += recording.rows().len() as u64;
+            if let Some(ended) = ended {
+                break ended;
+            }
+        };
+        self.summary.ended(&ended);
+        form.end(&ended, frames, self.output.text());
+        Ok(Ok(()))
+    }
+
+    /// What stands above a listing where there are several, as `head` has it.
+    fn heading(&self, file: &OsStr) -> Option<String> {
+        let gap = if self.begun { "\n" } else { "" };
+        let heading = || format!("{gap}==> {} <==\n", named(file));
+        self.several.then(heading)
+    }
+
+    fn end(self) -> Result<Status, Failure> {
+        let pending = self.output.pending().map(String::from);
+        match pending.filter(|_| self.failed) {
+            // A listing without one of its files is not whole.
+            Some(name) => {
+                drop(self.output);
+                say(&format!("{name}: not written, since a file cannot be read"));
+            }
+            None => self.output.finish()?,
+        }
+        let text = self.summary.text(Paint::on(error_is_terminal()));
+        let _ = io::stderr().write_all(text.as_bytes());
+        Ok(match (self.failed, self.summary.is_sound()) {
+            (true, _) => Status::Failed,
+            (false, true) => Status::Sound,
+            (false, false) => Status::Unsound,
+        })
+    }
+}

@@ -1,0 +1,271 @@
+//! The frames of a recording of any length, piece by piece.
+//!
+//! A piece is cut and read by the crate's `stretch`; a frame that a piece ends in is kept for the
+//! next one. A frame that is longer than a piece is never held whole: what its fields need of it is,
+//! and the rest is passed over.
+
+#[cfg(test)]
+mod tests;
+
+use std::io::{self, ErrorKind, Read};
+use std::ops::Range;
+
+use sheafsledge::{stretch, Body, Listed, Refusal, Rframe, Stop, Tag, Tframe};
+
+/// How much is read at once.
+pub const PIECE: usize = 1 << 20;
+
+/// How many frames are told of at once, so that their rows stay in a fast cache.
+const ROWS: usize = 512;
+
+/// A frame's first bytes: its size, its type and its tag.
+const HEADER: usize = 7;
+
+/// The most that the fields of a message are, with the header: those of a Twrite whose data is as
+/// long as data may be. A walk of very many long names alone may be longer.
+const FIELDS: usize = 33_554_432 + 23;
+
+pub trait Source: Read {
+    /// Passes over so many bytes; whether so many were there.
+    fn pass(&mut self, count: u64) -> io::Result<bool>;
+}
+
+/// A frame's place and what is answered for it.
+#[derive(Clone, Copy, Debug, PartialEq, Eq)]
+pub struct Row {
+    pub at: u64,
+    pub size: u32,
+    pub ty: u8,
+    pub tag: u16,
+    pub refusal: Option<Refusal>,
+    /// 0 where it is refused.
+    pub tail: u32,
+}
+
+impl Row {
+    /// Of a frame in a piece that starts there. What of the body nobody asks for is not made, as
+    /// long as this is inlined.
+    #[inline(always)]
+    fn of(start: u64, frame: &Listed) -> Self {
+        Self {
+            at: start + frame.at as u64,
+            size: frame.size as u32,
+            ty: frame.ty,
+            tag: frame.tag.0,
+            refusal: refusal(&frame.body),
+            tail: frame.tail as u32,
+        }
+    }
+
+    /// 0, or the refusal's number.
+    #[inline]
+    pub fn answer(&self) -> u8 {
+        self.refusal.map_or(0, Refusal::number)
+    }
+}
+
+/// How a recording ended.
+#[derive(Clone, Copy, Debug, PartialEq, Eq)]
+pub enum Ended {
+    /// After so many bytes, which are frames.
+    Whole(u64),
+    /// At a position that is no frame's.
+    Stopped { at: u64, refusal: Refusal },
+}
+
+pub struct Recording<S> {
+    source: S,
+    /// How long a piece is.
+    piece: usize,
+    /// A piece, or more while a longer frame is looked at.
+    buffer: Vec<u8>,
+    /// Which bytes of the buffer are the recording's, and not in a row yet.
+    left: Range<usize>,
+    /// Where the first of these stands in the recording.
+    start: u64,
+    rows: Vec<Row>,
+}
+
+impl<S: Source> Recording<S> {
+    /// A header has to fit into a piece, so a shorter one is made as long.
+    pub fn new(source: S, piece: usize) -> Self {
+        let piece = piece.max(HEADER);
+        Self {
+            source,
+            piece,
+            buffer: vec![0; piece],
+            left: 0..0,
+            start: 0,
+            rows: Vec::with_capacity(ROWS),
+        }
+    }
+
+    /// The frames that the last call came to.
+    pub fn rows(&self) -> &[Row] {
+        &self.rows
+    }
+
+    /// Goes on to the next frames, at least one; none at the end alone, and how it ended. After that,
+    /// and after an error, it is not called again.
+    pub fn go_on(&mut self) -> io::Result<Option<Ended>> {
+        self.rows.clear();
+        loop {
+            let stop = take(&self.buffer[self.left.clone()], self.start, &mut self.rows);
+            if let Some(last) = self.rows.last() {
+                let end = last.at + u64::from(last.size);
+                self.left.start += (end - self.start) as usize;
+                self.start = end;
+                return Ok(None);
+            }
+            if let Some(refusal) = stop.filter(|refusal| *refusal != Refusal::StretchCut) {
+                return Ok(Some(self.stopped(refusal)));
+            }
+            self.to_the_front();
+            let size = self.declared();
+            let goes_on = match size > self.piece {
+                true => self.long_frame(size)?,
+                false => self.read_more()?,
+            };
+            if !goes_on {
+                return Ok(Some(match stop {
+                    Some(refusal) => self.stopped(refusal),
+                    None => Ended::Whole(self.start),
+                }));
+            }
+            if !self.rows.is_empty() {
+                return Ok(None);
+            }
+        }
+    }
+
+    fn to_the_front(&mut self) {
+        let len = self.left.len();
+        self.buffer.copy_within(self.left.clone(), 0);
+        self.left = 0..len;
+    }
+
+    /// The size of the frame at the front; 0 if that isn't there yet.
+    fn declared(&self) -> usize {
+        let front = self.buffer[self.left.clone()].first_chunk();
+        front.map_or(0, |size| u32::from_le_bytes(*size) as usize)
+    }
+
+    /// Looks at a frame that is longer than a piece, of which the front is in the buffer and nothing
+    /// else is. False where the recording ends in it.
+    fn long_frame(&mut self, size: usize) -> io::Result<bool> {
+        let mut wanted = self.piece;
+        let row = loop {
+            if !self.fill(wanted)? {
+                return Ok(false);
+            }
+            let row = Row::of(self.start, &front(&self.buffer[..wanted], size));
+            if row.refusal != Some(Refusal::Short) || wanted == size {
+                break row;
+            }
+            wanted = more(wanted).min(size);
+        };
+        if !self.source.pass((size - wanted) as u64)? {
+            return Ok(false);
+        }
+        self.rows.push(row);
+        self.start += size as u64;
+        self.left = 0..0;
+        self.buffer.truncate(self.piece);
+        self.buffer.shrink_to_fit();
+        Ok(true)
+    }
+
+    /// So many bytes of a long frame; false where there are fewer. Without the room, an error and no
+    /// panic.
+    fn fill(&mut self, wanted: usize) -> io::Result<bool> {
+        let missing = wanted - self.left.end;
+        self.buffer.truncate(self.left.end);
+        let room = self.buffer.try_reserve_exact(missing);
+        room.map_err(|_| ErrorKind::OutOfMemory)?;
+        let mut source = self.source.by_ref().take(missing as u64);
+        let read = source.read_to_end(&mut self.buffer)?;
+        self.left.end += read;
+        Ok(read == missing)
+    }
+
+    /// Some bytes more of a piece; false at the end.
+    fn read_more(&mut self) -> io::Result<bool> {
+        loop {
+            match self.source.read(&mut self.buffer[self.left.end..]) {
+                Ok(count) => {
+                    self.left.end += count;
+                    return Ok(count > 0);
+                }
+                Err(error) if error.kind() == ErrorKind::Interrupted => {}
+                Err(error) => return Err(error),
+            }
+        }
+    }
+
+    fn stopped(&self, refusal: Refusal) -> Ended {
+        let at = self.start;
+        Ended::Stopped { at, refusal }
+    }
+}
+
+/// Rows for the frames that are whole in a piece, as many as there is room for. Why the piece goes no
+/// further, if it doesn't. It alone calls `stretch`, so that the compiler inlines that here.
+fn take(piece: &[u8], start: u64, rows: &mut Vec<Row>) -> Option<Refusal> {
+    for frame in stretch(piece) {
+        match frame {
+            Ok(frame) => rows.push(Row::of(start, &frame)),
+            Err(Stop { refusal, .. }) => return Some(refusal),
+        }
+        if rows.len() == ROWS {
+            break;
+        }
+    }
+    None
+}
+
+/// The next length to be tried.
+fn more(wanted: usize) -> usize {
+    match wanted < FIELDS {
+        true => (2 * wanted).min(FIELDS),
+        false => wanted.saturating_mul(2),
+    }
+}
+
+/// A frame by its first bytes, at least a header. If these are too few it is refused as short; any
+/// other answer is that of the whole frame, since its fields are read in their order.
+fn front(bytes: &[u8], size: usize) -> Listed<'_> {
+    let (ty, tag) = (bytes[4], Tag(u16::from_le_bytes([bytes[5], bytes[6]])));
+    let (body, used) = match ty % 2 {
+        0 => match Tframe::decode(bytes) {
+            Ok(read) => (Body::Request(read.frame.msg), read.used),
+            Err(refusal) => (Body::Request(Err(refusal)), size),
+        },
+        _ => match Rframe::decode(bytes) {
+            Ok(read) => (Body::Reply(Ok(read.frame.msg)), read.used),
+            Err(refusal) => (Body::Reply(Err(refusal)), size),
+        },
+    };
+    let tail = match refusal(&body) {
+        Some(_) => 0,
+        None => size - used,
+    };
+    let (at, next) = (0, size);
+    Listed {
+        at,
+        size,
+        ty,
+        tag,
+        body,
+        tail,
+        next,
+    }
+}
+
+/// Why a frame's body can't be read.
+#[inline(always)]
+fn refusal(body: &Body) -> Option<Refusal> {
+    match body {
+        Body::Request(body) => body.as_ref().err().copied(),
+        Body::Reply(body) => body.as_ref().err().copied(),
+    }
+}

@@ -1,0 +1,321 @@
+//! Recordings in pieces of any length beside the same bytes as one stretch.
+
+use std::io::{self, ErrorKind, Read};
+
+use sheafsledge::{stretch, Refusal};
+
+use super::*;
+
+const SESSION: &[u8] = include_bytes!("../../../../examples/diod-session.bin");
+
+/// The paper's 57 frames, each alone and with a tail, as `R` and `T` and their bytes in hex.
+const FRAMES: [&str; 2] = [
+    include_str!("../../../../crates/cases/stdin"),
+    include_str!("../../../../crates/reply_cases/stdin"),
+];
+
+/// Bytes that come so many at a time, and may fail at a place.
+struct Slow<'a> {
+    bytes: &'a [u8],
+    step: usize,
+    /// How many bytes come before it fails.
+    fails: Option<usize>,
+    interrupted: bool,
+}
+
+impl<'a> Slow<'a> {
+    fn new(bytes: &'a [u8], step: usize) -> Self {
+        let (fails, interrupted) = (None, false);
+        Self {
+            bytes,
+            step,
+            fails,
+            interrupted,
+        }
+    }
+}
+
+impl Read for Slow<'_> {
+    fn read(&mut self, room: &mut [u8]) -> io::Result<usize> {
+        self.interrupted = !self.interrupted;
+        if self.interrupted {
+            return Err(ErrorKind::Interrupted.into());
+        }
+        let most = self.step.min(self.fails.unwrap_or(usize::MAX));
+        if most == 0 {
+            return Err(ErrorKind::PermissionDenied.into());
+        }
+        let most = most.min(room.len());
+        let read = self.bytes.read(&mut room[..most])?;
+        self.fails = self.fails.map(|left| left - read);
+        Ok(read)
+    }
+}
+
+impl Source for Slow<'_> {
+    fn pass(&mut self, count: u64) -> io::Result<bool> {
+        let count = count as usize;
+        if self.fails.is_some_and(|left| left < count) {
+            return Err(ErrorKind::PermissionDenied.into());
+        }
+        let there = self.bytes.len() >= count;
+        self.bytes = &self.bytes[count.min(self.bytes.len())..];
+        Ok(there)
+    }
+}
+
+fn all(source: impl Source, piece: usize) -> io::Result<(Vec<Row>, Ended)> {
+    let (mut recording, mut rows) = (Recording::new(source, piece), Vec::new());
+    loop {
+        let ended = recording.go_on()?;
+        assert_eq!(ended.is_some(), recording.rows().is_empty());
+        rows.extend(recording.rows());
+        if let Some(ended) = ended {
+            return Ok((rows, ended));
+        }
+    }
+}
+
+/// What the crate's iterator says of all the bytes at once.
+fn owed(bytes: &[u8]) -> (Vec<Row>, Ended) {
+    let mut rows = Vec::new();
+    for frame in stretch(bytes) {
+        match frame {
+            Ok(frame) => rows.push(Row::of(0, &frame)),
+            Err(Stop { at, refusal }) => {
+                let at = at as u64;
+                return (rows, Ended::Stopped { at, refusal });
+            }
+        }
+    }
+    (rows, Ended::Whole(bytes.len() as u64))
+}
+
+#[track_caller]
+fn is_as_one_stretch(bytes: &[u8], piece: usize, step: usize) {
+    let told = all(Slow::new(bytes, step), piece).expect("it can be read");
+    assert_eq!(told, owed(bytes), "pieces of {piece}, steps of {step}");
+}
+
+/// Xorshift.
+struct Draws(u64);
+
+impl Draws {
+    fn below(&mut self, bound: usize) -> usize {
+        self.0 ^= self.0 << 13;
+        self.0 ^= self.0 >> 7;
+        self.0 ^= self.0 << 17;
+        (self.0 >> 16) as usize % bound
+    }
+}
+
+/// The frames of the paper, of both directions.
+fn frames() -> Vec<Vec<u8>> {
+    let lines = FRAMES.iter().flat_map(|text| text.lines());
+    let hex = lines.filter_map(|line| line.strip_prefix("R ").or(line.strip_prefix("T ")));
+    let byte = |pair: &[u8]| u8::from_str_radix(std::str::from_utf8(pair).ok()?, 16).ok();
+    let bytes = |hex: &str| hex.as_bytes().chunks(2).map(byte).collect::<Option<_>>();
+    let frames: Vec<Vec<u8>> = hex.filter_map(bytes).collect();
+    let whole = |frame: &Vec<u8>| frame.len() > 6 && owed(frame).0.len() == 1;
+    frames.into_iter().filter(whole).collect()
+}
+
+/// Frames back to back: as they are, with a tail, cut short, of any type, with any byte flipped, or
+/// under any size.
+fn drawn(frames: &[Vec<u8>], draws: &mut Draws) -> Vec<u8> {
+    let mut bytes = Vec::new();
+    for _ in 0..draws.below(40) {
+        let mut frame = frames[draws.below(frames.len())].clone();
+        match draws.below(12) {
+            0 => frame.extend(vec![0xaa; draws.below(300)]),
+            1 => frame.truncate(7 + draws.below(frame.len() - 6)),
+            2 => frame[4] = draws.below(256) as u8,
+            3 => {
+                let at = 4 + draws.below(frame.len() - 4);
+                frame[at] ^= 1 << draws.below(8);
+            }
+            _ => {}
+        }
+        let size = match draws.below(60) {
+            0 => draws.below(2 * frame.len()) as u32,
+            _ => frame.len() as u32,
+        };
+        frame[..4].copy_from_slice(&size.to_le_bytes());
+        bytes.extend(frame);
+    }
+    bytes.truncate(bytes.len() - draws.below(8).min(bytes.len()));
+    bytes
+}
+
+#[test]
+fn a_session_cut_anywhere_is_listed_as_one_stretch() {
+    let cuts = (0..200).chain((200..SESSION.len()).step_by(97));
+    for cut in cuts.chain([SESSION.len()]) {
+        for (piece, step) in [(7, 3), (64, 1 << 20), (1000, 999), (1 << 20, 1 << 20)] {
+            is_as_one_stretch(&SESSION[..cut], piece, step);
+        }
+    }
+}
+
+#[test]
+fn pieces_end_at_every_byte() {
+    let start = &SESSION[..1500];
+    for piece in 0..300 {
+        is_as_one_stretch(start, piece, 1 << 20);
+    }
+    for step in [1, 2, 3, 5, 8] {
+        is_as_one_stretch(SESSION, 8, step);
+        is_as_one_stretch(SESSION, 64, step);
+    }
+}
+
+#[test]
+fn drawn_stretches_are_listed_as_one() {
+    let (frames, draws) = (frames(), &mut Draws(1));
+    assert!(frames.len() >= 114, "{} frames", frames.len());
+    for _ in 0..200 {
+        let bytes = drawn(&frames, draws);
+        for piece in [7, 8, 11, 23, 64, 500, 1 << 20] {
+            is_as_one_stretch(&bytes, piece, 1 + draws.below(400));
+        }
+    }
+}
+
+/// More frames than one call tells of.
+#[test]
+fn many_frames_of_one_piece_are_told_of_in_their_order() {
+    let bytes = b"\x07\0\0\0\x6d\x01\0".repeat(3 * ROWS + 1);
+    is_as_one_stretch(&bytes, 1 << 20, 1 << 20);
+    is_as_one_stretch(&bytes[..7 * ROWS], 7 * ROWS, 1 << 20);
+}
+
+/// What a long frame is judged by: its first bytes answer as all of it does, unless they are too
+/// few.
+#[test]
+fn an_answer_other_than_short_stands() {
+    let (frames, draws) = (frames(), &mut Draws(2));
+    for _ in 0..100 {
+        for row in owed(&drawn(&frames, draws)).0 {
+            assert!(row.tail <= row.size);
+        }
+        let bytes = drawn(&frames, draws);
+        for frame in stretch(&bytes).flatten() {
+            let bytes = &bytes[frame.at..frame.next];
+            for end in 7..=bytes.len() {
+                let seen = front(&bytes[..end], bytes.len());
+                let short = refusal(&seen.body) == Some(Refusal::Short);
+                if !short || end == bytes.len() {
+                    assert_eq!(Row::of(frame.at as u64, &seen), Row::of(0, &frame));
+                }
+            }
+        }
+    }
+}
+
+#[test]
+fn a_source_that_fails_is_told_of_at_any_byte() {
+    for fails in 0..150 {
+        for piece in [7, 64, 1 << 20] {
+            let mut source = Slow::new(SESSION, 31);
+            source.fails = Some(fails);
+            let error = all(source, piece).expect_err("it fails");
+            assert_eq!(error.kind(), ErrorKind::PermissionDenied);
+        }
+    }
+}
+
+/// A front, and zeros after it up to a length. What is read of it is counted.
+struct Sparse<'a> {
+    front: &'a [u8],
+    zeros: u64,
+    read: &'a mut u64,
+}
+
+impl Read for Sparse<'_> {
+    fn read(&mut self, room: &mut [u8]) -> io::Result<usize> {
+        let zeros = room.len().min(self.zeros as usize);
+        let read = match self.front.is_empty() {
+            false => self.front.read(room)?,
+            true => {
+                room[..zeros].fill(0);
+                self.zeros -= zeros as u64;
+                zeros
+            }
+        };
+        *self.read += read as u64;
+        Ok(read)
+    }
+}
+
+impl Source for Sparse<'_> {
+    fn pass(&mut self, count: u64) -> io::Result<bool> {
+        let there = self.zeros >= count;
+        self.zeros -= count.min(self.zeros);
+        Ok(there)
+    }
+}
+
+/// The answer and the tail of one frame of that size, type and start of its body, or the stop; and how
+/// much of it was read.
+fn sparse(size: u32, ty: u8, body: &[u8], missing: u64) -> (String, u64) {
+    let front = [&size.to_le_bytes()[..], &[ty, 1, 0], body].concat();
+    let zeros = u64::from(size) - front.len() as u64 - missing;
+    let mut read = 0;
+    let source = Sparse {
+        front: &front,
+        zeros,
+        read: &mut read,
+    };
+    let (rows, ended) = all(source, PIECE).expect("it can be read");
+    let told = match (rows.as_slice(), ended) {
+        ([row], Ended::Whole(_)) => format!("{} {} {}", row.size, row.answer(), row.tail),
+        ([], Ended::Stopped { at, refusal }) => format!("stop {at} {}", refusal.number()),
+        other => format!("{other:?}"),
+    };
+    (told, read)
+}
+
+#[test]
+fn of_a_long_frame_only_its_fields_are_read() {
+    let write = |count: u32| [&[0; 12][..], &count.to_le_bytes()].concat();
+    let most = 33_554_432;
+    let piece = PIECE as u64;
+    for (size, ty, body, told, read) in [
+        (
+            3_000_000_000,
+            118,
+            write(5),
+            "3000000000 0 2999999972",
+            piece,
+        ),
+        (
+            u32::MAX,
+            118,
+            write(most),
+            "4294967295 0 4261412840",
+            FIELDS as u64,
+        ),
+        (100_000_000, 118, write(most + 1), "100000000 4 0", piece),
+        (u32::MAX, 106, vec![], "4294967295 3 0", piece),
+        (u32::MAX, 109, vec![], "4294967295 0 4294967288", piece),
+        (most + 23, 118, write(most), "33554455 0 0", FIELDS as u64),
+        (
+            most + 22,
+            118,
+            write(most),
+            "33554454 1 0",
+            FIELDS as u64 - 1,
+        ),
+        (
+            5_000_000,
+            117,
+            most.to_le_bytes().to_vec(),
+            "5000000 1 0",
+            5_000_000,
+        ),
+    ] {
+        assert_eq!(sparse(size, ty, &body, 0), (told.into(), read));
+        let (told, _) = sparse(size, ty, &body, 1);
+        assert_eq!(told, "stop 0 12", "the last byte is missing");
+    }
+}

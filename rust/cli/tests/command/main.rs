@@ -1,0 +1,8 @@
+//! The command as users run it.
+
+mod manners;
+mod memory;
+mod outputs;
+mod running;
+mod terminals;
+mod texts;
