@@ -164,6 +164,10 @@ impl Listing {
     }
 
     fn end(self) -> Result<Status, Failure> {
+        // Each file has its line already, and there is nothing to sum up.
+        if !self.begun {
+            return Ok(Status::Failed);
+        }
         let pending = self.output.pending().map(String::from);
         match pending.filter(|_| self.failed) {
             // A listing without one of its files is not whole.

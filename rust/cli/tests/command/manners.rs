@@ -144,26 +144,27 @@ fn bad_usage_is_one_line() {
 #[test]
 fn a_file_that_cannot_be_read_is_named() {
     let folder = Folder::new();
-    let name = folder.path().display().to_string();
-    let nothing = "0 frames, 0 bytes, 0 tails, 0 refusals, 0 stops\n";
     for (file, why) in [
         (folder.no_file("no.bin"), "No such file or directory"),
-        (name, "Is a directory"),
+        (folder.path().display().to_string(), "Is a directory"),
         (folder.file("f", b"") + "/g", "Not a directory"),
+        // It opens, and its first byte can't be read.
+        ("/proc/self/mem".into(), "Input/output error"),
     ] {
-        let owed = ran(2, "", &format!("sheafsledge: {file}: {why}\n{nothing}"));
+        let owed = ran(2, "", &format!("sheafsledge: {file}: {why}\n"));
         assert_eq!(run(&["list", &file]), owed);
+        assert_eq!(
+            run(&["list", "--json", &file, "-o", &folder.no_file("out")]),
+            owed
+        );
     }
-    // It opens, and its first byte can't be read.
-    let told = run(&["list", "/proc/self/mem"]);
-    let line = "sheafsledge: /proc/self/mem: Input/output error\n";
-    assert_eq!(told, ran(2, "", &format!("{line}{nothing}")));
+    assert_eq!(folder.names(), ["f"]);
     // A folder as standard input.
     let here = File::open(folder.path()).expect("a folder");
     let output = command().args(["list", "-"]).stdin(here).output();
     let told = Ran::of(output.expect("it starts"));
     let line = "sheafsledge: standard input: Is a directory\n";
-    assert_eq!(told, ran(2, "", &format!("{line}{nothing}")));
+    assert_eq!(told, ran(2, "", line));
 }
 
 #[test]
