@@ -224,6 +224,20 @@ fn a_source_that_fails_is_told_of_at_any_byte() {
     }
 }
 
+/// Nothing more is asked of a source, which may be a pipe that gives nothing for a long time.
+#[test]
+fn a_size_of_no_frame_stops_it_at_once() {
+    let mut bytes = SESSION[..42].to_vec();
+    bytes.extend([6, 0, 0, 0]);
+    for piece in [7, 64, 1 << 20] {
+        let mut source = Slow::new(&bytes, 5);
+        source.fails = Some(bytes.len());
+        let (rows, ended) = all(source, piece).expect("it is not read on");
+        let (at, refusal) = (42, Refusal::StretchSize);
+        assert_eq!((rows.len(), ended), (2, Ended::Stopped { at, refusal }));
+    }
+}
+
 /// A front, and zeros after it up to a length. What is read of it is counted.
 struct Sparse<'a> {
     front: &'a [u8],
