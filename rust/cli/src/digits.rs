@@ -62,9 +62,19 @@ fn put_any(line: &mut [u8; LINE], place: usize, n: u64) -> usize {
 }
 
 /// A number at the end of some text.
+#[inline]
 pub fn push(text: &mut Vec<u8>, n: u64) {
-    let (digits, start) = digits(n);
-    text.extend_from_slice(&digits[start..]);
+    match FEW.get(n as usize) {
+        // All four, and then without those that are none: a copy of a fixed length is cheap.
+        Some(few) => {
+            text.extend_from_slice(few);
+            text.truncate(text.len() - 4 + few[3] as usize);
+        }
+        None => {
+            let (digits, start) = digits(n);
+            text.extend_from_slice(&digits[start..]);
+        }
+    }
 }
 
 /// Numbers that go up little by little, as positions do: all their digits but the last three are kept

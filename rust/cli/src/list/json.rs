@@ -22,6 +22,7 @@ impl Json {
         Self { front }
     }
 
+    /// What an object begins with, and its first numbers.
     fn open(&self, text: &mut Vec<u8>, numbers: &[(&str, u64)]) {
         text.extend_from_slice(&self.front);
         numbers.iter().for_each(|(key, n)| number(text, key, *n));
@@ -32,55 +33,54 @@ impl Form for Json {
     fn begin(&mut self, _: Option<&str>, _: &mut Vec<u8>) {}
 
     fn row(&mut self, row: &Row, text: &mut Vec<u8>) {
-        self.open(
-            text,
-            &[
-                ("at", row.at),
-                ("size", row.size as u64),
-                ("type", row.ty as u64),
-                ("tag", row.tag as u64),
-                ("answer", row.answer() as u64),
-            ],
-        );
+        let numbers = [
+            (",\"at\":", row.at),
+            (",\"size\":", row.size as u64),
+            (",\"type\":", row.ty as u64),
+            (",\"tag\":", row.tag as u64),
+            (",\"answer\":", row.answer() as u64),
+        ];
+        self.open(text, &numbers);
         match row.refusal {
             Some(_) => text.extend_from_slice(b",\"tail\":null"),
-            None => number(text, "tail", row.tail as u64),
+            None => number(text, ",\"tail\":", row.tail as u64),
         }
         match message_name(row.ty) {
-            Some(name) => string(text, "name", name),
+            Some(name) => string(text, ",\"name\":", name),
             None => text.extend_from_slice(b",\"name\":null"),
         }
         if let Some(refusal) = row.refusal {
-            string(text, "sentence", refusal.sentence());
+            string(text, ",\"sentence\":", refusal.sentence());
         }
         text.extend_from_slice(b"}\n");
     }
 
     fn end(&mut self, ended: &Ended, frames: u64, text: &mut Vec<u8>) {
         match *ended {
-            Ended::Whole(bytes) => self.open(text, &[("end", bytes)]),
+            Ended::Whole(bytes) => self.open(text, &[(",\"end\":", bytes)]),
             Ended::Stopped { at, refusal } => {
-                self.open(text, &[("stop", at), ("answer", refusal.number() as u64)]);
-                string(text, "sentence", refusal.sentence());
+                let answer = refusal.number() as u64;
+                self.open(text, &[(",\"stop\":", at), (",\"answer\":", answer)]);
+                string(text, ",\"sentence\":", refusal.sentence());
             }
         }
-        number(text, "frames", frames);
+        number(text, ",\"frames\":", frames);
         text.extend_from_slice(b"}\n");
     }
 }
 
+/// The key has its quotes, and the marks around them.
+#[inline]
 fn number(text: &mut Vec<u8>, key: &str, n: u64) {
-    text.extend_from_slice(b",\"");
     text.extend_from_slice(key.as_bytes());
-    text.extend_from_slice(b"\":");
     push(text, n);
 }
 
 /// Of a text that needs no escapes: the crate's names and sentences have none.
+#[inline]
 fn string(text: &mut Vec<u8>, key: &str, value: &str) {
-    text.extend_from_slice(b",\"");
     text.extend_from_slice(key.as_bytes());
-    text.extend_from_slice(b"\":\"");
+    text.push(b'"');
     text.extend_from_slice(value.as_bytes());
     text.push(b'"');
 }
