@@ -291,44 +291,22 @@ fn sparse(size: u32, ty: u8, body: &[u8], missing: u64) -> (String, u64) {
 
 #[test]
 fn of_a_long_frame_only_its_fields_are_read() {
+    const MOST: u32 = 33_554_432;
+    let (piece, fields) = (PIECE as u64, FIELDS as u64);
     let write = |count: u32| [&[0; 12][..], &count.to_le_bytes()].concat();
-    let most = 33_554_432;
-    let piece = PIECE as u64;
-    for (size, ty, body, told, read) in [
-        (
-            3_000_000_000,
-            118,
-            write(5),
-            "3000000000 0 2999999972",
-            piece,
-        ),
-        (
-            u32::MAX,
-            118,
-            write(most),
-            "4294967295 0 4261412840",
-            FIELDS as u64,
-        ),
-        (100_000_000, 118, write(most + 1), "100000000 4 0", piece),
-        (u32::MAX, 106, vec![], "4294967295 3 0", piece),
-        (u32::MAX, 109, vec![], "4294967295 0 4294967288", piece),
-        (most + 23, 118, write(most), "33554455 0 0", FIELDS as u64),
-        (
-            most + 22,
-            118,
-            write(most),
-            "33554454 1 0",
-            FIELDS as u64 - 1,
-        ),
-        (
-            5_000_000,
-            117,
-            most.to_le_bytes().to_vec(),
-            "5000000 1 0",
-            5_000_000,
-        ),
+    let read = MOST.to_le_bytes().to_vec();
+    for (size, ty, body, told, held) in [
+        (3_000_000_000, 118, write(5), "0 2999999972", piece),
+        (u32::MAX, 118, write(MOST), "0 4261412840", fields),
+        (100_000_000, 118, write(MOST + 1), "4 0", piece),
+        (u32::MAX, 106, vec![], "3 0", piece),
+        (u32::MAX, 109, vec![], "0 4294967288", piece),
+        (MOST + 23, 118, write(MOST), "0 0", fields),
+        (MOST + 22, 118, write(MOST), "1 0", fields - 1),
+        (5_000_000, 117, read, "1 0", 5_000_000),
     ] {
-        assert_eq!(sparse(size, ty, &body, 0), (told.into(), read));
+        let owed = (format!("{size} {told}"), held);
+        assert_eq!(sparse(size, ty, &body, 0), owed);
         let (told, _) = sparse(size, ty, &body, 1);
         assert_eq!(told, "stop 0 12", "the last byte is missing");
     }
