@@ -12,8 +12,10 @@ use std::ops::Range;
 
 use sheafsledge::{stretch, Body, Listed, Refusal, Rframe, Stop, Tag, Tframe};
 
-/// How much is read at once.
-pub const PIECE: usize = 1 << 20;
+/// How much is read at once. Frames of data often hold a power of two of it and a header, so there is
+/// a little more room than such a power: else a piece would end shortly before a frame does, and most
+/// of it would be moved.
+pub const PIECE: usize = (1 << 20) + (1 << 16);
 
 /// How many frames are told of at once, so that their rows stay in a fast cache.
 const ROWS: usize = 512;
