@@ -1,66 +1,53 @@
 -- Which row of the RFC the bytes fit: octet by octet, and the row that a first octet begins.
 use Prim.Native.Nat.{ℕ, zero, suc, _+_, _≤_, _<_}
 use native.Mathlib.Omega.{arith}
-use native.Mathlib.Decide.{decLe}
-use native.Mathlib.Nat.{lt-of-not-le}
 use native.Mathlib.Numerals.{add-one}
 use mathlib.Core.Path.{_≡_, refl, sym, ap, _∙_}
 use mathlib.Core.Bool.{Bool, true, false, cond, _&&_}
 use mathlib.Core.List.{List, [], _∷_, _++_}
-use lib.ListN.{length, take, drop, getD, drop-of-length-le, take-append-drop}
-use lib.Seq.{drop-cons, drop-drop}
-use lib.Dec.{leb, ltb, lit<}
-use borrow.Author.Tests.{le-leb, lt-leb, leb-true, ltb-true, ne-eqb}
-use Rattle.utf8.specs.Utf8.{Range, _to_, inRange, tail, rows, fits, charIn, char, CharAt}
-use Rattle.utf8.specs.Utf8Laws.{FitsAt, Rest, leastSecond, greatestSecond}
+use lib.ListN.{length, take, drop, getD, length-drop, drop-of-length-le, take-append-drop}
+use lib.Seq.{drop-cons}
+use lib.Dec.{leb, ltb}
+use borrow.Author.Tests.{le-leb, lt-leb, leb-true, ltb-true}
+use Rattle.utf8.specs.Utf8.{Range, _to_, inRange, rows, fits, charIn, char, CharAt}
+use Rattle.utf8.specs.Utf8Laws.{Rest, fits-length}
 
 never : (t : Bool) → (t && false) ≡ false
 never true = refl
 never false = refl
 
-always : (t : Bool) → (t && true) ≡ t
-always true = refl
-always false = refl
+-- ---- the octets after the first
 
--- ---- one octet
+-- whether the bytes of s from `at` on begin with an octet of each range
+pub record FitsAt (rs : List Range) (s : List ℕ) (at : ℕ) (r : Bool) : Type 0 where
+  pub is : r ≡ fits rs (drop at s)
 
-pub past-end : {r : Range} {rs : List Range} {s : List ℕ} {at : ℕ} → length s ≤ at → FitsAt (r ∷ rs) s at false
-past-end {s = s} {at = at} h = record { is = rw (drop-of-length-le s h) }
+pub no-more : {s : List ℕ} {at : ℕ} → FitsAt [] s at true
+no-more = record { is = refl }
 
-pub too-low : {lo hi : ℕ} {s : List ℕ} {at : ℕ} → at < length s → getD s at 0 < lo → FitsAt (lo to hi ∷ []) s at false
-too-low {lo} {hi} {s} {at} h k = record { is = rw (drop-cons s at 0 h, lt-leb lo (getD s at 0) k) }
+module _ {r : Range} {rs : List Range} {s : List ℕ} {at : ℕ} {t : Bool} (h : at < length s) (e : t ≡ inRange r (getD s at 0)) where
+  pub goes-on : {next : ℕ} {u : Bool} → t ≡ true → at + 1 ≡ next → FitsAt rs s next u → FitsAt (r ∷ rs) s at u
+  goes-on k f b = record {
+    is = b .is ∙ ap (λ n. fits rs (drop n s)) (sym f ∙ add-one at) ∙ rw (drop-cons s at 0 h, sym e ∙ k);
+  }
 
-pub high-enough : {lo hi : ℕ} {s : List ℕ} {at : ℕ} → at < length s → lo ≤ getD s at 0 → FitsAt (lo to hi ∷ []) s at (leb (getD s at 0) hi)
-high-enough {lo} {hi} {s} {at} h k =
-    record { is = rw (drop-cons s at 0 h, le-leb lo (getD s at 0) k) (sym (always (leb (getD s at 0) hi))) }
+  pub breaks : t ≡ false → FitsAt (r ∷ rs) s at false
+  breaks k = record { is = rw (drop-cons s at 0 h, sym e ∙ k) }
 
--- ---- octet by octet
+module _ {rs : List Range} {s : List ℕ} {i : ℕ} where
+  pub hit : FitsAt rs s (i + 1) true → Rest rs s i (suc (length rs))
+  hit a = record { is = rw (sym (a .is)) }
 
-and-then : (t u : Bool) {v : Bool} → (t && true) ≡ v → v ≡ true → u ≡ (t && u)
-and-then true u e h = refl
-and-then false u e h = absurd (let y : _≡_ {A = ℕ} 0 1 = cc in omega arith)
+  pub miss : FitsAt rs s (i + 1) false → Rest rs s i 0
+  miss a = record { is = rw (sym (a .is)) }
 
-more-fits : (r : Range) (rs : List Range) (xs : List ℕ) {t : Bool} → t ≡ fits (r ∷ []) xs → t ≡ true → fits rs (drop 1 xs) ≡ fits (r ∷ rs) xs
-more-fits r rs [] e h = absurd (let y : _≡_ {A = ℕ} 0 1 = cc in omega arith)
-more-fits r rs (x ∷ xs) e h = and-then (inRange r x) (fits rs xs) (sym e) h
-
-no-fit : (r : Range) (rs : List Range) (xs : List ℕ) {t : Bool} → t ≡ fits (r ∷ []) xs → t ≡ false → false ≡ fits (r ∷ rs) xs
-no-fit r rs [] e h = refl
-no-fit r rs (x ∷ xs) e h = let f : (inRange r x && true) ≡ false = sym e ∙ h in rw (sym (always (inRange r x)) ∙ f)
-
-module _ {r : Range} {rs : List Range} {s : List ℕ} {at : ℕ} {t : Bool} where
-  pub goes-on : {next : ℕ} {u : Bool} → FitsAt (r ∷ []) s at t → t ≡ true → at + 1 ≡ next → FitsAt rs s next u → FitsAt (r ∷ rs) s at u
-  goes-on a h e b = record { is = b .is ∙ ap (fits rs) (ap (λ n. drop n s) (sym e) ∙ sym (drop-drop 1 at s)) ∙ more-fits r rs (drop at s) (a .is) h }
-
-  pub breaks : FitsAt (r ∷ []) s at t → t ≡ false → FitsAt (r ∷ rs) s at false
-  breaks a h = record { is = no-fit r rs (drop at s) (a .is) h }
-
-module _ {rs : List Range} {s : List ℕ} {i : ℕ} {t : Bool} where
-  pub hit : FitsAt rs s (i + 1) t → t ≡ true → Rest rs s i (suc (length rs))
-  hit a h = record { is = rw (sym (a .is) ∙ h) }
-
-  pub miss : FitsAt rs s (i + 1) t → t ≡ false → Rest rs s i 0
-  miss a h = record { is = rw (sym (a .is) ∙ h) }
+  -- the text ends before the row does
+  pub cut-off : i < length s → length s < i + suc (length rs) → Rest rs s i 0
+  cut-off g h = record { is = go (fits rs (drop (i + 1) s)) refl }
+    where
+      go : (t : Bool) → fits rs (drop (i + 1) s) ≡ t → 0 ≡ cond t (suc (length rs)) 0
+      go true e = absurd (let l = fits-length rs (drop (i + 1) s) e in let d = length-drop (i + 1) s in omega arith)
+      go false e = refl
 
 -- ---- the row that an octet begins: the first ranges rise, so that no other row has it
 
@@ -152,26 +139,3 @@ module _ {s : List ℕ} {i : ℕ} where
   -- a row of one octet
   pub alone : Rest [] s i 1
   alone = record { is = refl }
-
--- the three rows of four octets, told by the second one's range
-pub in-fours : (s : List ℕ) (i lo hi : ℕ) {k : ℕ} → i < length s → 240 ≤ getD s i 0 → getD s i 0 ≤ 244 → lo ≡ leastSecond (getD s i 0) → hi ≡ greatestSecond (getD s i 0)
-    → Rest (lo to hi ∷ tail ∷ tail ∷ []) s i k → CharAt s i k
-in-fours s i lo hi {k} h p q e f r =
-    elim (decLe b 240) [
-      | yes l ↦ let z : b ≡ 240 = omega arith in in-row 6 h (lit< tt) (omega arith) (omega arith) (rw (e ∙ ap leastSecond z, f ∙ ap greatestSecond z) at r)
-      | no l ↦ above (lt-of-not-le l)
-    ]
-  where
-    b : ℕ
-    b = getD s i 0
-
-    above : 240 < b → CharAt s i k
-    above l =
-        elim (decLe b 243) [
-          | yes m ↦ in-row 7 h (lit< tt) (omega arith) (omega arith) (rw (e, f, ne-eqb b 240 (λ z. omega arith), ne-eqb b 244 (λ z. omega arith)) at r)
-          | no m ↦ let n = lt-of-not-le m in let z : b ≡ 244 = omega arith in in-row 8 h (lit< tt) (omega arith) (omega arith) (rw (e ∙ ap leastSecond z, f ∙ ap greatestSecond z) at r)
-        ]
-
--- at least k, and another number
-pub other : (b k : ℕ) → (b ≡ k → ⊥) → k ≤ b → k < b
-other b k f h = elim (decLe b k) [ yes m ↦ absurd (f (omega arith)) | no m ↦ lt-of-not-le m ]

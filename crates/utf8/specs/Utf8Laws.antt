@@ -8,27 +8,16 @@ use mathlib.Core.Bool.{Bool, true, false, cond, _&&_}
 use mathlib.Core.List.{List, [], _∷_}
 use lib.ListN.{length, drop, getD, length-drop, drop-of-length-le}
 use lib.Seq.{drop-cons, drop-drop, drop-length}
-use lib.Dec.{leb, eqb, leb·zero}
+use lib.Dec.{leb, leb·zero}
 use borrow.Author.Tests.{le-leb, lt-leb, leb-true, ne-eqb, eq-eqb}
 use native.Mathlib.Numerals.{add-one}
 use Rattle.utf8.specs.Utf8.{Range, _to_, inRange, rows, fits, charIn, char, CharAt, chars, utf8, noZero}
 
 -- ---- what the code's helpers say
 
--- whether the bytes of s from `at` on begin with an octet of each range
-pub record FitsAt (rs : List Range) (s : List ℕ) (at : ℕ) (r : Bool) : Type 0 where
-  pub is : r ≡ fits rs (drop at s)
-
 -- the length of a character whose first octet stands at i, and whose row goes on with the ranges rs; 0 where the bytes do not
 pub record Rest (rs : List Range) (s : List ℕ) (i k : ℕ) : Type 0 where
   pub is : k ≡ cond (fits rs (drop (i + 1) s)) (suc (length rs)) 0
-
--- the second octets that the rows of four allow after their first one
-abbrev pub leastSecond : ℕ → ℕ
-leastSecond b = cond (eqb b 240) 144 128
-
-abbrev pub greatestSecond : ℕ → ℕ
-greatestSecond b = cond (eqb b 244) 143 191
 
 -- the least and the greatest of some bytes
 unfoldable pub leastOf : List ℕ → ℕ
@@ -49,7 +38,7 @@ both-first : (a b : Bool) → (a && b) ≡ true → a ≡ true
 both-first true b e = refl
 both-first false b e = absurd (let y : _≡_ {A = ℕ} 0 1 = cc in omega arith)
 
-fits-length : (rs : List Range) (bs : List ℕ) → fits rs bs ≡ true → length rs ≤ length bs
+pub fits-length : (rs : List Range) (bs : List ℕ) → fits rs bs ≡ true → length rs ≤ length bs
 fits-length [] bs e = omega arith
 fits-length (r ∷ rs) [] e = absurd (let y : _≡_ {A = ℕ} 0 1 = cc in omega arith)
 fits-length (r ∷ rs) (b ∷ bs) e = let h = fits-length rs bs (both-true (inRange r b) (fits rs bs) e) in omega arith
@@ -121,6 +110,12 @@ ascii-char : (b : ℕ) (bs : List ℕ) → b < 128 → char (b ∷ bs) ≡ 1
 unfolding char
 ascii-char b bs h = rw (leb·zero b, le-leb b 127 (omega arith))
 
+-- a byte below 128 is passed over
+pub ascii-turn : (s : List ℕ) (i : ℕ) {x : Bool} → i < length s → getD s i 0 < 128 → utf8 (drop i s) ≡ x → utf8 (drop (i + 1) s) ≡ x
+ascii-turn s i l h =
+    let c : 1 ≡ char (drop i s) = sym (ap char (drop-cons s i 0 l) ∙ ascii-char (getD s i 0) (drop (suc i) s) h) in
+    char-turn {s = s} {i = i} (record { is = c }) (λ z. omega arith)
+
 pub ascii-text : (bs : List ℕ) → greatestOf bs < 128 → utf8 bs ≡ true
 unfolding utf8 chars greatestOf
 ascii-text [] h = refl
@@ -149,10 +144,7 @@ plain-high b e h = leb-true b 127 (both-true (leb 1 b) (leb b 127) (sym e ∙ h)
 
 module _ (s : List ℕ) (i : ℕ) {t x : Bool} (l : i < length s) (e : t ≡ inRange (1 to 127) (getD s i 0)) (h : t ≡ true) where
   pub plain-turn : utf8 (drop i s) ≡ x → utf8 (drop (i + 1) s) ≡ x
-  plain-turn =
-      let c : 1 ≡ char (drop i s)
-      = sym (ap char (drop-cons s i 0 l) ∙ ascii-char (getD s i 0) (drop (suc i) s) (let k = plain-high (getD s i 0) e h in omega arith)) in
-      char-turn {s = s} {i = i} (record { is = c }) (λ z. omega arith)
+  plain-turn = ascii-turn s i l (let k = plain-high (getD s i 0) e h in omega arith)
 
   pub plain-full : noZero (drop i s) ≡ x → noZero (drop (i + 1) s) ≡ x
   unfolding noZero

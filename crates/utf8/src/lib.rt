@@ -4,81 +4,18 @@ ghost use mathlib.Core.Path.{_≡_};
 ghost use mathlib.Core.List.{[], _∷_};
 ghost use Prim.Native.Nat.{_<_, min, max};
 ghost use lib.ListN.{length};
-ghost use Rattle.utf8.specs.Utf8.{_to_, inRange, tail, CharAt, utf8};
-ghost use Rattle.utf8.specs.Utf8Laws.{FitsAt, Rest, leastSecond, greatestSecond, leastOf, greatestOf};
+ghost use Rattle.utf8.specs.Utf8.{_to_, inRange, CharAt, utf8};
+ghost use Rattle.utf8.specs.Utf8Laws.{Rest, leastOf, greatestOf};
 
-// Whether the byte at `at` is one from `low` to `high`.
-fn octet(s: &[u8], at: usize, low: u8, high: u8) -> bool
-    ensures { λ r. ⌜ FitsAt (low to high ∷ []) (now (s .entry)) at r ⌝ }
-{
-    if s.len() <= at {
-        return false;
-    }
-    let b = s[at];
-    if b < low {
-        return false;
-    }
-    b <= high
-}
+// ---- The rows of RFC 3629, section 4, in their order (F2.1): an arm a row, with the range of each of its octets
 
-// The rest of a row of two, three and four octets, after its first at `i`: the row's length if the bytes fit it, else 0.
-fn two(s: &[u8], i: usize) -> usize
-    requires { ⌜ i < length (now s) ⌝ }
-    ensures { λ r. ⌜ Rest (tail ∷ []) (now (s .entry)) i r ⌝ }
-{
-    if octet(s, i + 1, 0x80, 0xbf) {
-        return 2;
-    }
-    0
-}
+// The octets from the first to the second, as the RFC's %x00-7F.
+struct Octets(u8, u8);
 
-fn three(s: &[u8], i: usize, low: u8, high: u8) -> usize
-    requires { ⌜ i < length (now s) ⌝ }
-    ensures { λ r. ⌜ Rest (low to high ∷ tail ∷ []) (now (s .entry)) i r ⌝ }
-{
-    if octet(s, i + 1, low, high) {
-        if octet(s, i + 2, 0x80, 0xbf) {
-            return 3;
-        }
-    }
-    0
-}
+// UTF8-tail = %x80-BF
+const TAIL: Octets = Octets(0x80, 0xbf);
 
-fn four(s: &[u8], i: usize, low: u8, high: u8) -> usize
-    requires { ⌜ i < length (now s) ⌝ }
-    ensures { λ r. ⌜ Rest (low to high ∷ tail ∷ tail ∷ []) (now (s .entry)) i r ⌝ }
-{
-    if octet(s, i + 1, low, high) {
-        if octet(s, i + 2, 0x80, 0xbf) {
-            if octet(s, i + 3, 0x80, 0xbf) {
-                return 4;
-            }
-        }
-    }
-    0
-}
-
-// The least and the greatest second octet after a first one of the rows of four octets.
-fn least_second(b: u8) -> u8
-    ensures { λ r. ⌜ r ≡ leastSecond b ⌝ }
-{
-    match b {
-        0xf0 => 0x90,
-        _ => 0x80,
-    }
-}
-
-fn greatest_second(b: u8) -> u8
-    ensures { λ r. ⌜ r ≡ greatestSecond b ⌝ }
-{
-    match b {
-        0xf4 => 0x8f,
-        _ => 0xbf,
-    }
-}
-
-// The length of the character at `i`, by the rows of the RFC in their order; 0 where no row has these bytes. The rows of one and two
-// octets are told first, and the last three share their call: so the compiler keeps everything in registers.
+// UTF8-char = UTF8-1 / UTF8-2 / UTF8-3 / UTF8-4: the length of the character at `i`, 0 where the bytes fit no row (F2.2).
 pub fn char_at(s: &[u8], i: usize) -> usize
     ensures { λ r. ⌜ CharAt (now (s .entry)) i r ⌝ }
 {
@@ -86,41 +23,99 @@ pub fn char_at(s: &[u8], i: usize) -> usize
         return 0;
     }
     let b = s[i];
-    if b < 0x80 {
-        return 1;
-    }
-    if b < 0xe0 {
-        if b < 0xc2 {
-            return 0;
-        }
-        return two(s, i);
-    }
     match b {
-        0xe0 => three(s, i, 0xa0, 0xbf),
-        0xe1..=0xec => three(s, i, 0x80, 0xbf),
-        0xed => three(s, i, 0x80, 0x9f),
-        0xee..=0xef => three(s, i, 0x80, 0xbf),
-        0xf0..=0xf4 => four(s, i, least_second(b), greatest_second(b)),
+        0x00..=0x7f => 1, // UTF8-1 = %x00-7F
+        0xc2..=0xdf => two(s, i, TAIL), // UTF8-2 = %xC2-DF UTF8-tail
+        0xe0..=0xef => match b {
+            0xe0 => three(s, i, Octets(0xa0, 0xbf), TAIL), // UTF8-3 = %xE0 %xA0-BF UTF8-tail /
+            0xe1..=0xec => three(s, i, TAIL, TAIL), // %xE1-EC 2( UTF8-tail ) /
+            0xed => three(s, i, Octets(0x80, 0x9f), TAIL), // %xED %x80-9F UTF8-tail /
+            0xee..=0xef => three(s, i, TAIL, TAIL), // %xEE-EF 2( UTF8-tail )
+            _ => 0,
+        },
+        0xf0..=0xf4 => match b {
+            0xf0 => four(s, i, Octets(0x90, 0xbf), TAIL, TAIL), // UTF8-4 = %xF0 %x90-BF 2( UTF8-tail ) /
+            0xf1..=0xf3 => four(s, i, TAIL, TAIL, TAIL), // %xF1-F3 3( UTF8-tail ) /
+            0xf4 => four(s, i, Octets(0x80, 0x8f), TAIL, TAIL), // %xF4 %x80-8F 2( UTF8-tail )
+            _ => 0,
+        },
         _ => 0,
     }
 }
 
-// The plain form: character by character to the end.
+fn octet(b: u8, r: Octets) -> bool
+    ensures { λ t. ⌜ t ≡ inRange (r .0 to r .1) b ⌝ }
+{
+    if b < r.0 {
+        return false;
+    }
+    b <= r.1
+}
+
+// A row of two, three and four octets whose first stands at `i`: its length if the bytes after that are there and in their ranges, else 0.
+fn two(s: &[u8], i: usize, q: Octets) -> usize
+    requires { ⌜ i < length (now s) ⌝ }
+    ensures { λ k. ⌜ Rest (q .0 to q .1 ∷ []) (now (s .entry)) i k ⌝ }
+{
+    if s.len() < i + 2 {
+        return 0;
+    }
+    if octet(s[i + 1], q) {
+        return 2;
+    }
+    0
+}
+
+fn three(s: &[u8], i: usize, q: Octets, r: Octets) -> usize
+    requires { ⌜ i < length (now s) ⌝ }
+    ensures { λ k. ⌜ Rest (q .0 to q .1 ∷ r .0 to r .1 ∷ []) (now (s .entry)) i k ⌝ }
+{
+    if s.len() < i + 3 {
+        return 0;
+    }
+    if octet(s[i + 1], q) && octet(s[i + 2], r) {
+        return 3;
+    }
+    0
+}
+
+fn four(s: &[u8], i: usize, q: Octets, r: Octets, t: Octets) -> usize
+    requires { ⌜ i < length (now s) ⌝ }
+    ensures { λ k. ⌜ Rest (q .0 to q .1 ∷ r .0 to r .1 ∷ t .0 to t .1 ∷ []) (now (s .entry)) i k ⌝ }
+{
+    if s.len() < i + 4 {
+        return 0;
+    }
+    if octet(s[i + 1], q) && octet(s[i + 2], r) && octet(s[i + 3], t) {
+        return 4;
+    }
+    0
+}
+
+// ---- A text as a whole, with short cuts, since most text is plain: each says why it answers as the rows do
+
+// UTF8-octets = *( UTF8-char ): whether the bytes are characters to their end. Short cut: a byte below 128 is passed over, and no row is
+// asked for. It is UTF8-1, for which `char_at` answers 1.
 pub fn all_characters(s: &[u8]) -> bool
     ensures { λ r. ⌜ r ≡ utf8 (now (s .entry)) ⌝ }
 {
     let mut i = 0;
     while i < s.len() {
-        let k = char_at(s, i);
-        if k == 0 {
-            return false;
+        let b = s[i];
+        if b < 0x80 {
+            i += 1;
+        } else {
+            let k = char_at(s, i);
+            if k == 0 {
+                return false;
+            }
+            i += k;
         }
-        i += k;
     }
     true
 }
 
-// Whether the bytes are characters to their end; none has to be looked for where every byte is below 128.
+// As `all_characters`. Short cut: where the greatest byte is below 128, each byte is UTF8-1, and no character is looked for.
 pub fn is_utf8(s: &[u8]) -> bool
     ensures { λ r. ⌜ r ≡ utf8 (now (s .entry)) ⌝ }
 {
@@ -131,14 +126,12 @@ pub fn is_utf8(s: &[u8]) -> bool
     all_characters(s)
 }
 
-// Whether a byte is a character of its own, and not zero.
+// Whether a byte is a character by itself, and not zero. Short cut, for who sees many bytes at once: where all are plain, each is UTF8-1,
+// and none is the zero byte (F2.4).
 pub fn is_plain(b: u8) -> bool
     ensures { λ r. ⌜ r ≡ inRange (1 to 127) b ⌝ }
 {
-    if b < 1 {
-        return false;
-    }
-    b <= 127
+    octet(b, Octets(1, 127))
 }
 
 fn least(a: u8, b: u8) -> u8
@@ -165,7 +158,8 @@ pub struct Extremes {
     pub high: u8,
 }
 
-// One pass with no early exit, so that the compiler makes it of vectors: most text is plain, and is then done with.
+// Short cut: one pass with no early exit, which the compiler makes of vectors. If the greatest is below 128, so is each byte; if the least
+// is not zero, none is.
 pub fn extremes_of(s: &[u8]) -> Extremes
     ensures { λ r. ⌜ (r .low ≡ leastOf (now (s .entry))) × (r .high ≡ greatestOf (now (s .entry))) ⌝ }
 {

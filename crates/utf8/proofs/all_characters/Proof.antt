@@ -2,9 +2,10 @@
 use Prim.Native.Nat.{_≤_, _-_}
 use mathlib.Core.Path.{_≡_, refl}
 use native.Mathlib.Omega.{arith}
+use borrow.Author.Needs.{needs}
 use lib.ListN.{length, drop}
 use Rattle.utf8.specs.Utf8.{utf8}
-use Rattle.utf8.specs.Utf8Laws.{char-in, char-turn, char-lost, chars-over}
+use Rattle.utf8.specs.Utf8Laws.{char-in, char-turn, char-lost, chars-over, ascii-turn}
 use Rattle.utf8.proofs.all_characters.Statement.{statement}
 use Rattle.utf8.proofs.all_characters.Tie as tie
 
@@ -17,23 +18,30 @@ abbrev μ-loop : tie.MeasureT-loop
 loop-holds : tie.Need-loop-holds Inv-loop μ-loop
 loop-holds c = (omega arith, refl)
 
-returns : tie.Need-returns Inv-loop μ-loop
-returns c =
-    let l = c .before .before .before .loop in
-    char-lost (c .before .char-at .ensures) (omega arith) (c .if1 .taken) (l .inv .1)
-
-add-i : tie.Need-add-i Inv-loop μ-loop
-add-i c =
-    omega (arith, char-in (c .before .char-at .ensures) (c .before .before .before .loop .inv .0))
-
 loop-less : tie.Need-loop-less Inv-loop μ-loop
-loop-less c =
-    omega (arith, char-in (c .before .char-at .ensures) (c .before .before .before .loop .inv .0))
+loop-less c = omega arith
 
 loop-again : tie.Need-loop-again Inv-loop μ-loop
 loop-again c =
     let l = c .before .before .before .loop in
-    (char-in (c .before .char-at .ensures) (l .inv .0), char-turn (c .before .char-at .ensures) (c .if1 .left) (l .inv .1))
+    (omega arith, ascii-turn _ (l .i) (omega arith) (c .if1 .taken) (l .inv .1))
+
+returns : tie.Need-returns Inv-loop μ-loop
+returns c =
+    char-lost (c .before .char-at .ensures) (omega arith) (c .if2 .taken) (c .before .before .before .before .before .loop .inv .1)
+
+add-i-2 : tie.Need-add-i-2 Inv-loop μ-loop
+add-i-2 c =
+    omega (arith, char-in (c .before .char-at .ensures) (c .before .before .before .before .before .loop .inv .0))
+
+loop-less-2 : tie.Need-loop-less-2 Inv-loop μ-loop
+loop-less-2 c =
+    omega (arith, char-in (c .before .char-at .ensures) (c .before .before .before .before .before .loop .inv .0))
+
+loop-again-2 : tie.Need-loop-again-2 Inv-loop μ-loop
+loop-again-2 c =
+    let l = c .before .before .before .before .before .loop in
+    (char-in (c .before .char-at .ensures) (l .inv .0), char-turn (c .before .char-at .ensures) (c .if2 .left) (l .inv .1))
 
 returns-2 : tie.Need-returns-2 Inv-loop μ-loop
 returns-2 c =
@@ -42,4 +50,18 @@ returns-2 c =
 
 pub all-characters-spec : {M : Type 1} → statement M
 all-characters-spec =
-    tie.close (tie.spec Inv-loop μ-loop loop-holds (λ _ _. tt) returns add-i loop-less loop-again returns-2)
+    tie.close
+    (tie.spec
+    Inv-loop
+    μ-loop
+    loop-holds
+    (λ c. search needs)
+    (λ c. search needs)
+    loop-less
+    loop-again
+    (λ _ _. tt)
+    returns
+    add-i-2
+    loop-less-2
+    loop-again-2
+    returns-2)
