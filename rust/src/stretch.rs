@@ -165,14 +165,14 @@ pub struct Mark {
 }
 
 /// Whether a reply answers a request: the tags are equal, the request's type is known, and the
-/// reply's is that number plus one. An Rlerror answers none by this rule.
+/// reply's is that number plus one, or 7, an Rlerror. Bodies are not looked at.
 ///
 /// ```
 /// use sheafsledge::{answers, Mark, Tag};
 /// let tflush = Mark { ty: 108, tag: Tag(1) };
 /// assert!(answers(tflush, Mark { ty: 109, tag: Tag(1) }));
+/// assert!(answers(tflush, Mark { ty: 7, tag: Tag(1) }));
 /// assert!(!answers(tflush, Mark { ty: 109, tag: Tag(2) }));
-/// assert!(!answers(tflush, Mark { ty: 7, tag: Tag(1) }));
 /// ```
 pub fn answers(request: Mark, reply: Mark) -> bool {
     ffi::answers(request, reply)

@@ -95,18 +95,19 @@ fn a_reply_answers_the_request_before_it() {
     let marks: Vec<_> = stretch(SESSION)
         .map(|frame| frame.unwrap().mark())
         .collect();
+    let failed = marks.iter().filter(|mark| mark.ty == 7).count();
+    assert!(failed > 0, "an Rlerror is among them");
     for pair in marks.chunks(2) {
-        let failed = pair[1].ty == 7;
-        assert_eq!(answers(pair[0], pair[1]), !failed, "{pair:?}");
+        assert!(answers(pair[0], pair[1]), "{pair:?}");
     }
 }
 
 #[test]
-fn only_the_next_number_with_the_same_tag_answers() {
+fn the_next_number_and_7_with_the_same_tag_answer() {
     for request in 0..=255 {
         for reply in 0..=255 {
             let mark = |ty, tag| Mark { ty, tag: Tag(tag) };
-            let pair = REQUESTS.contains(&request) && reply == request + 1;
+            let pair = REQUESTS.contains(&request) && [request + 1, 7].contains(&reply);
             assert_eq!(answers(mark(request, 9), mark(reply, 9)), pair);
             assert!(!answers(mark(request, 9), mark(reply, 265)));
         }

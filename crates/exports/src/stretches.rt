@@ -9,7 +9,7 @@ use pairs::Mark;
 ghost use mathlib.Core.Path.{_≡_};
 ghost use Rattle.layouts.specs.Tables.{tableT, tableR};
 ghost use Rattle.framing.specs.Stretch.{frameAt};
-ghost use Rattle.pairs.specs.Pairs.{pairs};
+ghost use Rattle.pairs.specs.Pairs.{rlerror, pairs};
 ghost use Rattle.exports.specs.Steps.{stopped, stepOutcome};
 
 // The frame is the bytes from the position to the place; at the end, where there is none, the place is the position. What is in it, the
@@ -48,7 +48,7 @@ pub extern "C" fn sheafsledge_answers(
     reply_ty: u8,
     reply_tag: Tag,
 ) -> bool
-    ensures { λ r. ⌜ r ≡ pairs tableT «request_ty» («request_tag» .0) «reply_ty» («reply_tag» .0) ⌝ }
+    ensures { λ r. ⌜ r ≡ pairs tableT rlerror «request_ty» («request_tag» .0) «reply_ty» («reply_tag» .0) ⌝ }
 {
     let request = Mark {
         ty: request_ty,

@@ -2,8 +2,16 @@
 use mathlib.Core.Path.{_≡_, refl}
 use mathlib.Core.Bool.{true, false}
 use Rattle.layouts.specs.Tables.{tableT}
-use Rattle.pairs.specs.Pairs.{pairs}
+use Rattle.pairs.specs.Pairs.{rlerror, pairs}
 
--- B answered by C: yes; by D: no
-pub b-by-c-and-d : (pairs tableT 108 1 109 1 ≡ true) × (pairs tableT 108 1 7 1 ≡ false)
+-- B answered by C: yes; by D, an Rlerror of its tag: yes
+pub b-by-c-and-d : (pairs tableT rlerror 108 1 109 1 ≡ true) × (pairs tableT rlerror 108 1 7 1 ≡ true)
 b-by-c-and-d = (refl, refl)
+
+-- by neither under another tag, and by no other number: 107 is the error of another dialect
+pub b-by-no-other : (pairs tableT rlerror 108 1 7 2 ≡ false) × ((pairs tableT rlerror 108 1 107 1 ≡ false) × (pairs tableT rlerror 108 1 111 1 ≡ false))
+b-by-no-other = (refl, (refl, refl))
+
+-- a request of no known type is answered by nothing: 106 neither by 107 nor by an Rlerror
+pub j-by-nothing : (pairs tableT rlerror 106 5 107 5 ≡ false) × (pairs tableT rlerror 106 5 7 5 ≡ false)
+j-by-nothing = (refl, refl)

@@ -38,12 +38,15 @@ unknown (row k l ∷ row j m ∷ rs) ty h = rw (ne-eqb k ty (λ e. h (inl (sym e
 
 -- ---- the ways of the rule
 
-module _ (rs : List Row) (ty tag ty' tag' : ℕ) where
-  pub other-tag : (tag ≡ tag' → ⊥) → false ≡ pairs rs ty tag ty' tag'
+module _ (rs : List Row) (error ty tag ty' tag' : ℕ) where
+  pub other-tag : (tag ≡ tag' → ⊥) → false ≡ pairs rs error ty tag ty' tag'
   other-tag h = rw (ne-eqb tag tag' h)
 
-  pub same-tag : tag ≡ tag' → true ≡ knows rs ty → eqb ty' (ty + 1) ≡ pairs rs ty tag ty' tag'
-  same-tag e k = rw (eq-eqb tag tag' e, ← k)
+  pub an-error : tag ≡ tag' → true ≡ knows rs ty → ty' ≡ error → true ≡ pairs rs error ty tag ty' tag'
+  an-error e k h = rw (eq-eqb tag tag' e, ← k, eq-eqb ty' error h)
 
-  pub no-request : tag ≡ tag' → false ≡ knows rs ty → false ≡ pairs rs ty tag ty' tag'
+  pub by-number : tag ≡ tag' → true ≡ knows rs ty → (ty' ≡ error → ⊥) → eqb ty' (ty + 1) ≡ pairs rs error ty tag ty' tag'
+  by-number e k h = rw (eq-eqb tag tag' e, ← k, ne-eqb ty' error h)
+
+  pub no-request : tag ≡ tag' → false ≡ knows rs ty → false ≡ pairs rs error ty tag ty' tag'
   no-request e k = rw (eq-eqb tag tag' e, ← k)

@@ -1,4 +1,4 @@
--- Which reply answers which request (F7.1): equal tags, a known request, and a reply of the next number.
+-- Which reply answers which request (F7.1): equal tags, a known request, and a reply of the next number or the dialect's error.
 use Prim.Native.Nat.{ℕ, _+_}
 use mathlib.Core.Bool.{Bool, true, false, cond}
 use mathlib.Core.List.{List}
@@ -15,5 +15,9 @@ has (some l) = true
 abbrev pub knows : List Row → ℕ → Bool
 knows rows ty = has (lookup rows ty)
 
-abbrev pub pairs : List Row → ℕ → ℕ → ℕ → ℕ → Bool
-pairs rows ty tag ty' tag' = cond (eqb tag tag') (cond (knows rows ty) (eqb ty' (ty + 1)) false) false
+-- Rlerror, the error of 9P2000.L
+abbrev pub rlerror : ℕ
+rlerror = 7
+
+abbrev pub pairs : List Row → ℕ → ℕ → ℕ → ℕ → ℕ → Bool
+pairs rows error ty tag ty' tag' = cond (eqb tag tag') (cond (knows rows ty) (cond (eqb ty' error) true (eqb ty' (ty + 1))) false) false

@@ -5,7 +5,7 @@ mod known;
 use layouts::ids::Tag;
 ghost use mathlib.Core.Path.{_≡_};
 ghost use Rattle.layouts.specs.Tables.{tableT};
-ghost use Rattle.pairs.specs.Pairs.{pairs};
+ghost use Rattle.pairs.specs.Pairs.{rlerror, pairs};
 
 // What a pair is told by.
 pub struct Mark {
@@ -13,9 +13,12 @@ pub struct Mark {
     pub tag: Tag,
 }
 
+// The type of an Rlerror, which answers any request.
+const RLERROR: u8 = 7;
+
 // Whether a reply answers a request.
 pub fn answers(request: Mark, reply: Mark) -> bool
-    ensures { λ r. ⌜ r ≡ pairs tableT (request .ty) (request .tag .0) (reply .ty) (reply .tag .0) ⌝ }
+    ensures { λ r. ⌜ r ≡ pairs tableT rlerror (request .ty) (request .tag .0) (reply .ty) (reply .tag .0) ⌝ }
 {
     let asked = request.tag;
     let given = reply.tag;
@@ -23,6 +26,9 @@ pub fn answers(request: Mark, reply: Mark) -> bool
         return false;
     }
     if known::known_request(request.ty) {
+        if reply.ty == RLERROR {
+            return true;
+        }
         return (reply.ty as u16) == (request.ty as u16) + 1;
     }
     false

@@ -9,6 +9,7 @@ mod help;
 mod input;
 mod list;
 mod output;
+mod pairs;
 mod recording;
 mod status;
 mod terminal;
@@ -22,7 +23,7 @@ use command::Command;
 use status::{Failure, Status};
 use words::Words;
 
-const COMMANDS: &[Command] = &[list::COMMAND];
+const COMMANDS: &[Command] = &[list::COMMAND, pairs::COMMAND];
 
 fn main() -> ExitCode {
     let words: Vec<OsString> = env::args_os().skip(1).collect();

@@ -197,13 +197,13 @@ extern "C" {
     ) -> Outcome;
     /// The frame at a position of a stretch, by its size.
     pub fn sheafsledge_frame_at(bytes: *const u8, count: usize, position: usize) -> Outcome;
-    /// Answers 1, the number of the boundary.
-    pub fn sheafsledge_boundary_1() -> u32;
+    /// Answers 2, the number of the boundary.
+    pub fn sheafsledge_boundary_2() -> u32;
 }
 
 /// Nothing links without it, whether or not it is called: a library of another boundary has it not.
 #[used]
-static BOUNDARY_IS_LINKED: unsafe extern "C" fn() -> u32 = sheafsledge_boundary_1;
+static BOUNDARY_IS_LINKED: unsafe extern "C" fn() -> u32 = sheafsledge_boundary_2;
 
 /// Holds a struct to its size, its alignment and the offset of each field, in bytes.
 macro_rules! laid_out {

@@ -48,6 +48,9 @@ fn beside(bytes: &[u8], position: usize, theirs: &Step) -> Option<Outcome> {
     (ours != *theirs).then(|| differs(format!("{ours:?}"), format!("{theirs:?}")))
 }
 
+/// The type of an Rlerror, which answers any request.
+pub const RLERROR: u8 = 7;
+
 fn way(ty: u8) -> Direction {
     match ty % 2 {
         0 => Direction::T,
@@ -55,13 +58,19 @@ fn way(ty: u8) -> Direction {
     }
 }
 
-/// Whether the next number, another one and another tag answer it, by F7.1.
+/// Whether the next number, 7, another one and another tag answer it, by F7.1.
 fn pairs(ty: u8, tag: u16) -> Option<Outcome> {
     let known = !unknown(Direction::T).contains(&ty);
     let replies = [
         (ty.wrapping_add(1), tag, known),
-        (ty.wrapping_add(2), tag, false),
+        (RLERROR, tag, known),
+        (
+            ty.wrapping_add(2),
+            tag,
+            known && ty.wrapping_add(2) == RLERROR,
+        ),
         (ty.wrapping_add(1), !tag, false),
+        (RLERROR, !tag, false),
     ];
     let mut wrong = replies.iter().filter(|(reply, tag_of_it, theirs)| {
         ours::answers((ty, tag), (*reply, *tag_of_it)) != *theirs

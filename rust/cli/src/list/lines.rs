@@ -24,7 +24,7 @@ impl<const NAMED: bool> Lines<NAMED> {
 
     /// A line of the lister's six columns, put where it is to stand.
     #[inline(always)]
-    fn line(&mut self, row: &Row, text: &mut Vec<u8>) {
+    pub fn line(&mut self, row: &Row, text: &mut Vec<u8>) {
         let start = text.len();
         text.extend_from_slice(&[0; LINE]);
         let Some(line) = text[start..].first_chunk_mut() else {

@@ -5,7 +5,7 @@ mod json;
 mod lines;
 mod summary;
 
-use std::ffi::OsStr;
+use std::ffi::{OsStr, OsString};
 use std::io::{self, Write};
 
 use crate::command::Command;
@@ -17,10 +17,11 @@ use crate::status::{say, Failure, Status};
 use crate::terminal::{error_is_terminal, is_watched, Paint};
 use crate::words::{Opt, Words};
 
-use form::Form;
 use json::Json;
-use lines::Lines;
-use summary::Summary;
+
+pub use form::Form;
+pub use lines::Lines;
+pub use summary::Summary;
 
 const NAMES: Opt = Opt {
     long: "names",
@@ -38,7 +39,7 @@ const JSON: Opt = Opt {
            and why a frame is refused",
 };
 
-const OUTPUT: Opt = Opt {
+pub const OUTPUT: Opt = Opt {
     long: "output",
     short: Some('o'),
     value: Some("FILE"),
@@ -66,6 +67,19 @@ that no frame has (13). A summary goes to standard error.
 };
 
 fn run(words: &Words) -> Result<Status, Failure> {
+    let forms = (words.has(JSON.long), words.has(NAMES.long));
+    listed(words, |paint, listing, files| match forms {
+        (true, _) => listing.of(files, Json::of),
+        (false, true) => listing.of(files, |_| Lines::<true>::new(paint)),
+        (false, false) => listing.of(files, |_| Lines::<false>::new(paint)),
+    })
+}
+
+/// The files that are named, by a command whose lines are a frame's each.
+pub fn listed(
+    words: &Words,
+    form: impl FnOnce(Paint, Listing, &[OsString]) -> Result<Status, Failure>,
+) -> Result<Status, Failure> {
     let files = words.files();
     if files.is_empty() {
         return Err(words.wrong("name a file, or '-' for standard input".into()));
@@ -84,14 +98,10 @@ fn run(words: &Words) -> Result<Status, Failure> {
         summary: Summary::new(),
         failed: false,
     };
-    match (words.has(JSON.long), words.has(NAMES.long)) {
-        (true, _) => listing.of(files, Json::of),
-        (false, true) => listing.of(files, |_| Lines::<true>::new(paint)),
-        (false, false) => listing.of(files, |_| Lines::<false>::new(paint)),
-    }
+    form(paint, listing, files)
 }
 
-struct Listing {
+pub struct Listing {
     output: Output,
     watched: bool,
     several: bool,
@@ -104,7 +114,7 @@ struct Listing {
 
 impl Listing {
     /// Each file in its form, and the summary.
-    fn of<F: Form>(
+    pub fn of<F: Form>(
         mut self,
         files: &[impl AsRef<OsStr>],
         form: impl Fn(&OsStr) -> F,
@@ -153,6 +163,7 @@ impl Listing {
         };
         self.summary.ended(&ended);
         form.end(&ended, frames, self.output.text());
+        form.summed(&mut self.summary);
         Ok(Ok(()))
     }
 

@@ -15,6 +15,8 @@ pub struct Summary {
     /// By the refusal's number.
     refused: [Count; 256],
     stopped: [Count; 256],
+    /// Strays and open requests, where they are looked for.
+    pairs: Option<(u64, u64)>,
 }
 
 impl Summary {
@@ -25,6 +27,7 @@ impl Summary {
             tails: 0,
             refused: [(0, None); 256],
             stopped: [(0, None); 256],
+            pairs: None,
         }
     }
 
@@ -44,20 +47,30 @@ impl Summary {
         }
     }
 
+    pub fn pairs(&mut self, strays: u64, open: u64) {
+        let (all_strays, all_open) = self.pairs.unwrap_or_default();
+        self.pairs = Some((all_strays + strays, all_open + open));
+    }
+
     pub fn is_sound(&self) -> bool {
-        self.tails + sum(&self.refused) + sum(&self.stopped) == 0
+        let (strays, open) = self.pairs.unwrap_or_default();
+        self.tails + sum(&self.refused) + sum(&self.stopped) + strays + open == 0
     }
 
     /// A line, and one more for each kind of refusal and of stop.
     pub fn text(&self, paint: Paint) -> String {
         let (refusals, stops) = (sum(&self.refused), sum(&self.stopped));
-        let line = [
+        let mut line = vec![
             numbered(self.frames, "frame"),
             numbered(self.bytes, "byte"),
             shaded(paint, self.tails, "tail", Shade::Tail),
             shaded(paint, refusals, "refusal", Shade::Refused),
             shaded(paint, stops, "stop", Shade::Refused),
         ];
+        if let Some((strays, open)) = self.pairs {
+            line.push(shaded(paint, strays, "stray", Shade::Refused));
+            line.push(shaded(paint, open, "open request", Shade::Refused));
+        }
         let mut text = line.join(", ") + "\n";
         for (what, counts) in [("refused", &self.refused), ("stopped", &self.stopped)] {
             for (times, refusal) in counts {

@@ -3,6 +3,7 @@
 mod manners;
 mod memory;
 mod outputs;
+mod pairs;
 mod running;
 mod terminals;
 mod texts;

@@ -225,7 +225,7 @@ fn a_full_output_is_named() {
 
 #[test]
 fn versions_and_help_go_to_standard_output() {
-    let version = "sheafsledge 0.1.0\nlibrary of boundary 1\n";
+    let version = "sheafsledge 0.1.0\nlibrary of boundary 2\n";
     assert_eq!(run(&["--version"]), ran(0, version, ""));
     assert_eq!(run(&["-V"]), ran(0, version, ""));
     for words in [
@@ -233,11 +233,12 @@ fn versions_and_help_go_to_standard_output() {
         &["-h"],
         &["list", "--help"],
         &["list", "x", "-h"],
+        &["pairs", "--help"],
     ] {
         let told = run(words);
         assert_eq!((told.status, told.err.as_str()), (Some(0), ""));
         assert!(told.out.starts_with("Usage: sheafsledge "), "{}", told.out);
-        assert!(told.out.contains("\nExample:\n  sheafsledge list "));
+        assert!(told.out.contains("\nExample:\n  sheafsledge "));
         let longest = told.out.lines().map(|line| line.chars().count()).max();
         assert!(longest <= Some(80), "{}", told.out);
     }

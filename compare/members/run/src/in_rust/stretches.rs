@@ -8,6 +8,7 @@ use sheafsledge::{answers, Body, Listed, Mark, Tag};
 
 use super::fields::Beside;
 use super::{unequal, Found};
+use crate::stretches::RLERROR;
 
 /// To its end, or to where it breaks off; nothing is given after that.
 pub fn stretch(bytes: &[u8]) -> Found {
@@ -63,11 +64,12 @@ fn body(ours: &Listed, frame: &[u8]) -> Found {
     found.or_else(|| unequal(&ours.tail, &tail))
 }
 
-/// Whether the next number answers it, by F7.1, with its tag and with another.
+/// Whether the next number and 7 answer it, by F7.1, with its tag and with another.
 fn pairs(ours: Mark, Mark { ty, tag }: Mark) -> Found {
-    let ty_after = ty.wrapping_add(1);
-    let tags = [tag, Tag(!tag.0)];
-    let replies = tags.map(|tag| answers(ours, Mark { ty: ty_after, tag }));
     let known = !unknown(Direction::T).contains(&ty);
-    unequal(&replies, &[known, false])
+    [ty.wrapping_add(1), RLERROR].into_iter().find_map(|ty| {
+        let tags = [tag, Tag(!tag.0)];
+        let replies = tags.map(|tag| answers(ours, Mark { ty, tag }));
+        unequal(&replies, &[known, false])
+    })
 }

@@ -1,0 +1,36 @@
+//! `sheafsledge pairs`: the lister's columns, and which reply answers which request.
+
+mod paired;
+
+use crate::command::Command;
+use crate::help;
+use crate::list;
+use crate::status::{Failure, Status};
+use crate::words::Words;
+
+use paired::Paired;
+
+pub const COMMAND: Command = Command {
+    name: "pairs",
+    says: "lists frames, and which reply answers which request",
+    usage: "[OPTION].. FILE..",
+    about: "\
+Lists the frames of each recording as 'sheafsledge list' does, with one column
+more. For a reply it is the position of the request that it answers: the latest
+before it with the same tag that it can answer and that no reply has answered
+yet; 'stray' if there is none. For a request it is the position of its answer,
+or 'open' if there is none.
+
+A reply can answer a known request of the same tag if its type is the next
+number, or 7, an Rlerror. Bodies are not looked at.
+",
+    options: &[list::OUTPUT, help::HELP],
+    examples: &["pairs examples/diod-session.bin"],
+    run,
+};
+
+fn run(words: &Words) -> Result<Status, Failure> {
+    list::listed(words, |paint, listing, files| {
+        listing.of(files, |_| Paired::new(paint))
+    })
+}
