@@ -42,7 +42,7 @@ impl<'a> Names<'a> {
         Self(Held::Part(count, part))
     }
 
-    /// The caller's names: refused with 8, 7 or 6. They are put into the frame from where they are.
+    /// The caller's names: refused with 8, 7 or 6. They stay where they are until the frame is written.
     pub fn of(names: &'a [&'a str]) -> Result<Self, Refusal> {
         counted(names.len())?;
         for name in names {
