@@ -6,6 +6,7 @@ use std::io::{self, Write};
 use crate::boundary::{Outcome, R_VALUES, T_VALUES};
 use crate::ffi::Told;
 use crate::fields::Taken;
+use crate::records::Onward;
 use crate::{ffi, tables, Refusal, Rmessage, Tag, Tmessage, WalkHead};
 
 /// How many bytes stand before a frame's first field: its size, its type and its tag.
@@ -39,6 +40,82 @@ pub struct Decoded<F> {
     pub used: usize,
 }
 
+/// What a caller makes of a frame that is read: types of its own, mostly.
+///
+/// [`Tframe::decode_into`] answers what `make` answers for [`Tframe::decode`]'s answer. But it is
+/// made in each place where a message is read and its type is known, so that no message is held in
+/// between, if `make` is `#[inline(always)]`:
+///
+/// ```
+/// use sheafsledge::{Decoded, Make, Refusal, Tframe, Tmessage};
+/// struct Flush { tag: u16, oldtag: u16 }
+/// struct Flushes;
+///
+/// impl<'a> Make<Tframe<'a>> for Flushes {
+///     type Made = Option<Flush>;
+///
+///     #[inline(always)]
+///     fn make(self, read: Result<Decoded<Tframe<'a>>, Refusal>) -> Option<Flush> {
+///         let Tframe { tag, msg } = read.ok()?.frame;
+///         let Ok(Tmessage::Flush(flush)) = msg else { return None };
+///         Some(Flush { tag: tag.0, oldtag: flush.oldtag.0 })
+///     }
+/// }
+///
+/// let flush = Tframe::decode_into(b"\x09\0\0\0\x6c\x01\0\x02\0", Flushes).unwrap();
+/// assert_eq!((flush.tag, flush.oldtag), (1, 2));
+/// ```
+pub trait Make<F> {
+    /// What it is made into.
+    type Made;
+    /// Makes it.
+    fn make(self, read: Result<Decoded<F>, Refusal>) -> Self::Made;
+}
+
+/// What [`Tframe::decode`] makes of it.
+struct AsItIs;
+
+impl<F> Make<F> for AsItIs {
+    type Made = Result<Decoded<F>, Refusal>;
+
+    #[inline(always)]
+    fn make(self, read: Result<Decoded<F>, Refusal>) -> Self::Made {
+        read
+    }
+}
+
+/// What stands beside a message.
+struct Framed<M> {
+    tag: Tag,
+    used: usize,
+    make: M,
+}
+
+impl<'a, M: Make<Tframe<'a>>> Onward<Tmessage<'a>> for Framed<M> {
+    type Answer = M::Made;
+
+    #[inline(always)]
+    fn on(self, msg: Result<Tmessage<'a>, Refusal>) -> M::Made {
+        let Self { tag, used, make } = self;
+        let frame = Tframe { tag, msg };
+        make.make(Ok(Decoded { frame, used }))
+    }
+}
+
+/// A refusal has no tag.
+impl<'a, M: Make<Rframe<'a>>> Onward<Rmessage<'a>> for Framed<M> {
+    type Answer = M::Made;
+
+    #[inline(always)]
+    fn on(self, msg: Result<Rmessage<'a>, Refusal>) -> M::Made {
+        let Self { tag, used, make } = self;
+        make.make(msg.map(|msg| Decoded {
+            frame: Rframe { tag, msg },
+            used,
+        }))
+    }
+}
+
 impl<'a> Tframe<'a> {
     /// Reads the request at the front of some bytes; no byte after its declared size is looked
     /// at. Refused where the header can't be read; where the body can't, the tag is told, the
@@ -53,29 +130,22 @@ impl<'a> Tframe<'a> {
     /// ```
     #[inline]
     pub fn decode(bytes: &'a [u8]) -> Result<Decoded<Self>, Refusal> {
-        Self::read(bytes, Err, |tag, msg, used| {
-            let frame = Self { tag, msg };
-            Ok(Decoded { frame, used })
-        })
+        Self::decode_into(bytes, AsItIs)
     }
 
-    /// What is made of a header that can't be read; else of the tag, the message and the bytes
-    /// used, in the arm that takes the message.
+    /// Reads as [`Tframe::decode`] does, and answers what is made of that, see [`Make`].
     #[inline(always)]
-    pub(crate) fn read<A>(
-        bytes: &'a [u8],
-        headless: impl FnOnce(Refusal) -> A,
-        made: impl Fn(Tag, Result<Tmessage<'a>, Refusal>, usize) -> A,
-    ) -> A {
+    pub fn decode_into<M: Make<Self>>(bytes: &'a [u8], make: M) -> M::Made {
         let mut values = [0; T_VALUES];
         let read = ffi::read_t(bytes, &mut values);
-        let made = |msg| made(Tag(read.tag), msg, read.place);
+        let (tag, used) = (Tag(read.tag), read.place);
+        let framed = Framed { tag, used, make };
         match Refusal::of(read.refusal) {
-            Some(refusal) if !read.held => headless(refusal),
-            Some(refusal) => made(Err(refusal)),
+            Some(refusal) if !read.held => framed.make.make(Err(refusal)),
+            Some(refusal) => framed.on(Err(refusal)),
             None => {
                 let (values, frame) = (values.iter(), bytes);
-                Tmessage::take(read.ty, &mut Taken { values, frame }, made)
+                Tmessage::take(read.ty, &mut Taken { values, frame }, framed)
             }
         }
     }
@@ -122,35 +192,33 @@ impl<'a> Rframe<'a> {
     /// Reads the reply at the front of some bytes; no byte after its declared size is looked at.
     #[inline]
     pub fn decode(bytes: &'a [u8]) -> Result<Decoded<Self>, Refusal> {
-        Self::read(bytes, |tag, msg, used| {
-            let frame = Self { tag, msg: msg? };
-            Ok(Decoded { frame, used })
-        })
+        Self::decode_into(bytes, AsItIs)
     }
 
-    /// What is made of the tag, the message and the bytes used, in the arm that takes the message;
-    /// a refusal has no tag.
+    /// Reads as [`Rframe::decode`] does, and answers what is made of that, see [`Make`].
     #[inline(always)]
-    pub(crate) fn read<A>(
-        bytes: &'a [u8],
-        made: impl Fn(Tag, Result<Rmessage<'a>, Refusal>, usize) -> A,
-    ) -> A {
+    pub fn decode_into<M: Make<Self>>(bytes: &'a [u8], make: M) -> M::Made {
         let mut values = [0; R_VALUES];
         let read = ffi::read_r(bytes, &mut values);
-        let made = |msg| made(Tag(read.tag), msg, read.place);
+        let (tag, used) = (Tag(read.tag), read.place);
+        let framed = Framed { tag, used, make };
         match Refusal::of(read.refusal) {
-            Some(refusal) => made(Err(refusal)),
+            Some(refusal) => framed.on(Err(refusal)),
             None => {
                 let (values, frame) = (values.iter(), bytes);
-                Rmessage::take(read.ty, &mut Taken { values, frame }, made)
+                Rmessage::take(read.ty, &mut Taken { values, frame }, framed)
             }
         }
     }
 
     /// Writes the reply at the front of the output, and answers its length. Refused, the output is
     /// as it was.
-    #[inline]
+    #[inline(always)]
     pub fn encode(&self, out: &mut [u8]) -> Result<usize, Refusal> {
+        // Many requests are answered by one of these, and they have no values to be laid out.
+        if let Some(ty) = self.msg.empty() {
+            return ffi::write_r(out, &[], (ty, self.tag), &[0; R_VALUES]).told();
+        }
         if let Rmessage::Walk(walk) = &self.msg {
             if let Some(qids) = walk.wqids.lent() {
                 return ffi::write_rwalk(out, self.tag, qids);

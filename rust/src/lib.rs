@@ -66,7 +66,7 @@ use sheafsledge_sys as boundary;
 pub use boundary::Qid;
 pub use data::Data;
 pub use dirents::{Dirent, Dirents};
-pub use frames::{Decoded, Rframe, Tframe};
+pub use frames::{Decoded, Make, Rframe, Tframe};
 pub use ids::{Fid, Gid, Tag};
 pub use records::*;
 pub use refusal::Refusal;

@@ -35,6 +35,13 @@ macro_rules! record {
     };
 }
 
+/// What becomes of a message in the arm that makes it. There are too many arms for a closure to be
+/// inlined in each.
+pub(crate) trait Onward<M> {
+    type Answer;
+    fn on(self, msg: Result<M, Refusal>) -> Self::Answer;
+}
+
 /// An enum of records by type number; some replies hold none.
 macro_rules! message {
     (
@@ -61,15 +68,15 @@ macro_rules! message {
             /// The message of a type, handed on in the arm that makes it: carried from answer to
             /// answer it would be copied each time.
             #[inline(always)]
-            pub(crate) fn take<A>(
+            pub(crate) fn take<O: Onward<Self>>(
                 ty: u8,
                 taken: &mut Taken<'a, '_>,
-                made: impl Fn(Result<Self, Refusal>) -> A,
-            ) -> A {
+                onward: O,
+            ) -> O::Answer {
                 match ty {
-                    $($ty => made(Ok(Self::$case(Field::take(taken)))),)*
-                    $($number => made(Ok(Self::$empty)),)*
-                    _ => made(Err(Refusal::UnknownType)),
+                    $($ty => onward.on(Ok(Self::$case(Field::take(taken)))),)*
+                    $($number => onward.on(Ok(Self::$empty)),)*
+                    _ => onward.on(Err(Refusal::UnknownType)),
                 }
             }
 
@@ -81,6 +88,16 @@ macro_rules! message {
                 match self {
                     $(Self::$case(record) => ($ty, fill(values, record)),)*
                     $(Self::$empty => ($number, fill(values, &())),)*
+                }
+            }
+
+            /// Its type, if it holds no record, as no request does.
+            #[inline(always)]
+            #[allow(dead_code)]
+            pub(crate) fn empty(&self) -> Option<u8> {
+                match self {
+                    $(Self::$empty => Some($number),)*
+                    _ => None,
                 }
             }
 

@@ -4,7 +4,7 @@
 use core::fmt;
 use core::iter::FusedIterator;
 
-use crate::{ffi, Refusal, Rframe, Rmessage, Tag, Tframe, Tmessage};
+use crate::{ffi, Decoded, Make, Refusal, Rframe, Rmessage, Tag, Tframe, Tmessage};
 
 /// What a frame holds: a request if its type is even, else a reply.
 #[derive(Clone, Copy, Debug, PartialEq, Eq)]
@@ -113,27 +113,59 @@ impl<'a> Iterator for Stretch<'a> {
         let frame = &self.bytes[at..next];
         let size = frame.len();
         let (ty, tag) = (step.ty, Tag(step.tag));
-        let listed = |body, tail| {
-            Some(Ok(Listed {
-                at,
-                size,
-                ty,
-                tag,
-                body,
-                tail,
-                next,
-            }))
-        };
-        // A refused body has no tail.
-        match ty % 2 {
-            0 => Tframe::read(
-                frame,
-                |refusal| listed(Body::Request(Err(refusal)), 0),
-                |_, msg, used| listed(Body::Request(msg), msg.map_or(0, |_| size - used)),
-            ),
-            _ => Rframe::read(frame, |_, msg, used| {
-                listed(Body::Reply(msg), msg.map_or(0, |_| size - used))
-            }),
+        let bodiless = Bodiless(Listed {
+            at,
+            size,
+            ty,
+            tag,
+            body: Body::Reply(Err(Refusal::UnknownType)),
+            tail: 0,
+            next,
+        });
+        Some(Ok(match ty % 2 {
+            0 => Tframe::decode_into(frame, bodiless),
+            _ => Rframe::decode_into(frame, bodiless),
+        }))
+    }
+}
+
+/// A frame whose body is still to be read; some refusal stands for it.
+struct Bodiless(Listed<'static>);
+
+impl<'a> Make<Tframe<'a>> for Bodiless {
+    type Made = Listed<'a>;
+
+    #[inline(always)]
+    fn make(self, read: Result<Decoded<Tframe<'a>>, Refusal>) -> Listed<'a> {
+        match read {
+            Ok(Decoded { frame, used }) => {
+                let tail = frame.msg.map_or(0, |_| self.0.size - used);
+                let body = Body::Request(frame.msg);
+                Listed {
+                    body,
+                    tail,
+                    ..self.0
+                }
+            }
+            Err(refusal) => {
+                let body = Body::Request(Err(refusal));
+                Listed { body, ..self.0 }
+            }
+        }
+    }
+}
+
+impl<'a> Make<Rframe<'a>> for Bodiless {
+    type Made = Listed<'a>;
+
+    #[inline(always)]
+    fn make(self, read: Result<Decoded<Rframe<'a>>, Refusal>) -> Listed<'a> {
+        let tail = read.map_or(0, |read| self.0.size - read.used);
+        let body = Body::Reply(read.map(|read| read.frame.msg));
+        Listed {
+            body,
+            tail,
+            ..self.0
         }
     }
 }

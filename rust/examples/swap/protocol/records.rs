@@ -134,19 +134,22 @@ macro_rules! message {
                     _ => None,
                 }
             }
-        }
 
-        impl<'a> Field<'a, sheafsledge::$message<'a>> for $message {
+            /// What is made of the message, in the arm that has it: what is built of it afterwards
+            /// would be a copy of all its bytes.
             #[inline(always)]
-            fn owned(ours: sheafsledge::$message<'a>) -> Self {
+            pub fn owned<A>(ours: sheafsledge::$message, made: impl Fn(Self) -> A) -> A {
                 match ours {
-                    $(sheafsledge::$message::$case(ours) => Self::$case(Field::owned(ours)),)*
-                    $(sheafsledge::$message::$empty => Self::$empty,)*
+                    $(sheafsledge::$message::$case(ours) => made(Self::$case(Field::owned(ours))),)*
+                    $(sheafsledge::$message::$empty => made(Self::$empty),)*
                 }
             }
 
             #[inline(always)]
-            fn lent(&'a self, room: &'a Room<'a>) -> io::Result<sheafsledge::$message<'a>> {
+            pub fn lent<'a>(
+                &'a self,
+                room: &'a Room<'a>,
+            ) -> io::Result<sheafsledge::$message<'a>> {
                 Ok(match self {
                     $(Self::$case(mine) => sheafsledge::$message::$case(mine.lent(room)?),)*
                     $(Self::$empty => sheafsledge::$message::$empty,)*

@@ -3,7 +3,7 @@
 use std::cell::RefCell;
 use std::io::{self, Read, Write};
 
-use sheafsledge::{Decoded, Refusal, Tag};
+use sheafsledge::{Decoded, Make, Refusal, Tag};
 
 use super::records::{Dirent, Field, Rframe, Rmessage, Room, Tframe, Tmessage, Twrite};
 use super::strings::Data;
@@ -36,6 +36,9 @@ thread_local! {
     static WRITTEN: RefCell<Vec<u8>> = RefCell::new(vec![0; SHORT]);
 }
 
+// What a server calls for each request is inlined there: a frame that goes over a call is stored and
+// loaded again in other pieces, which takes longer than to read it.
+
 impl WireFormat for Tframe {
     fn byte_size(&self) -> u32 {
         measured(lent_t(self, &Room::default()).and_then(|frame| Ok(frame.byte_size()?)))
@@ -47,6 +50,7 @@ impl WireFormat for Tframe {
         put(writer, |out| frame.encode(out), || frame.byte_size())
     }
 
+    #[inline(always)]
     fn decode<R: Read>(reader: &mut R) -> io::Result<Self> {
         framed(reader, read_t, read_long_t)
     }
@@ -57,6 +61,7 @@ impl WireFormat for Rframe {
         measured(lent_r(self, &Room::default()).and_then(|frame| Ok(frame.byte_size()?)))
     }
 
+    #[inline(always)]
     fn encode<W: Write>(&self, writer: &mut W) -> io::Result<()> {
         if let Some(msg) = self.msg.without_fields() {
             let frame = sheafsledge::Rframe {
@@ -67,9 +72,7 @@ impl WireFormat for Rframe {
             let len = frame.encode(&mut out)?;
             return writer.write_all(&out[..len]);
         }
-        let room = Room::default();
-        let frame = lent_r(self, &room)?;
-        put(writer, |out| frame.encode(out), || frame.byte_size())
+        put_r(writer, self)
     }
 
     fn decode<R: Read>(reader: &mut R) -> io::Result<Self> {
@@ -136,9 +139,34 @@ fn lent_r<'a>(frame: &'a Rframe, room: &'a Room<'a>) -> io::Result<sheafsledge::
 
 #[inline(always)]
 fn read_t(frame: &[u8]) -> io::Result<Tframe> {
-    let sheafsledge::Tframe { tag, msg } = sheafsledge::Tframe::decode(frame)?.frame;
-    let msg = msg.map(Tmessage::owned).map_err(io::Error::from);
-    Ok(Tframe { tag: tag.0, msg })
+    sheafsledge::Tframe::decode_into(frame, Owned)
+}
+
+/// Makes p9's frames of the crate's.
+struct Owned;
+
+impl<'a> Make<sheafsledge::Tframe<'a>> for Owned {
+    type Made = io::Result<Tframe>;
+
+    #[inline(always)]
+    fn make(self, read: Result<Decoded<sheafsledge::Tframe<'a>>, Refusal>) -> Self::Made {
+        let sheafsledge::Tframe { tag, msg } = read?.frame;
+        let framed = |msg| Ok(Tframe { tag: tag.0, msg });
+        match msg {
+            Ok(msg) => Tmessage::owned(msg, |msg| framed(Ok(msg))),
+            Err(refusal) => framed(Err(refusal.into())),
+        }
+    }
+}
+
+impl<'a> Make<sheafsledge::Rframe<'a>> for Owned {
+    type Made = io::Result<Rframe>;
+
+    #[inline(always)]
+    fn make(self, read: Result<Decoded<sheafsledge::Rframe<'a>>, Refusal>) -> Self::Made {
+        let sheafsledge::Rframe { tag, msg } = read?.frame;
+        Rmessage::owned(msg, |msg| Ok(Rframe { tag: tag.0, msg }))
+    }
 }
 
 /// The data of a long Twrite stays where it is.
@@ -157,11 +185,7 @@ fn read_long_t(bytes: Vec<u8>) -> io::Result<Tframe> {
 
 #[inline(always)]
 fn read_r(frame: &[u8]) -> io::Result<Rframe> {
-    let sheafsledge::Rframe { tag, msg } = sheafsledge::Rframe::decode(frame)?.frame;
-    Ok(Rframe {
-        tag: tag.0,
-        msg: Rmessage::owned(msg),
-    })
+    sheafsledge::Rframe::decode_into(frame, Owned)
 }
 
 /// As much of a frame as the stream has, by its declared size.
@@ -203,6 +227,14 @@ fn filled<'b>(reader: &mut impl Read, buffer: &'b mut [u8], len: usize) -> io::R
         }
     }
     Ok(&buffer[..end])
+}
+
+/// A function of its own, so that a reply without fields does not pay for its room on the stack.
+#[inline(never)]
+fn put_r(writer: &mut impl Write, frame: &Rframe) -> io::Result<()> {
+    let room = Room::default();
+    let frame = lent_r(frame, &room)?;
+    put(writer, |out| frame.encode(out), || frame.byte_size())
 }
 
 /// In one piece.
