@@ -14,11 +14,30 @@ enum Held<'a, E> {
     Lent(&'a [E]),
 }
 
-impl<E> Held<'_, E> {
+impl<'a, E> Held<'a, E> {
     fn len(&self) -> usize {
         match self {
             Self::Part(count, _) => usize::from(*count),
             Self::Lent(elements) => elements.len(),
+        }
+    }
+
+    /// The caller's elements, which have no part on the wire yet.
+    #[inline(always)]
+    fn lent(&self) -> Option<&'a [E]> {
+        match *self {
+            Self::Part(..) => None,
+            Self::Lent(elements) => Some(elements),
+        }
+    }
+
+    /// The count, and the elements on the wire. Lent ones have none: who writes them asks for these
+    /// first, and else they are refused, with 14.
+    #[inline(always)]
+    fn part(&self) -> (u16, &'a [u8]) {
+        match *self {
+            Self::Part(count, part) => (count, part),
+            Self::Lent(_) => (u16::MAX, &[]),
         }
     }
 }
@@ -37,11 +56,6 @@ impl<E> Held<'_, E> {
 pub struct Names<'a>(Held<'a, &'a str>);
 
 impl<'a> Names<'a> {
-    #[inline(always)]
-    pub(crate) fn accepted(count: u16, part: &'a [u8]) -> Self {
-        Self(Held::Part(count, part))
-    }
-
     /// The caller's names: refused with 8, 7 or 6. They stay where they are until the frame is written.
     pub fn of(names: &'a [&'a str]) -> Result<Self, Refusal> {
         counted(names.len())?;
@@ -78,31 +92,6 @@ impl<'a> Names<'a> {
             rest = after;
         }
         Ok(Self::accepted(count, part))
-    }
-
-    /// How many there are.
-    pub fn len(&self) -> usize {
-        self.0.len()
-    }
-
-    /// Whether there is none: the walk of a fid to itself.
-    pub fn is_empty(&self) -> bool {
-        self.len() == 0
-    }
-
-    /// The caller's names, which have no part on the wire yet.
-    #[inline(always)]
-    pub(crate) fn lent(&self) -> Option<&'a [&'a str]> {
-        match self.0 {
-            Held::Part(..) => None,
-            Held::Lent(names) => Some(names),
-        }
-    }
-
-    /// The count, and the elements on the wire.
-    #[inline(always)]
-    pub(crate) fn part(&self) -> (u16, &'a [u8]) {
-        on_the_wire(&self.0)
     }
 
     /// How many bytes the elements are on the wire.
@@ -189,11 +178,6 @@ pub struct Qids<'a>(Held<'a, Qid>);
 const QID: usize = 13;
 
 impl<'a> Qids<'a> {
-    #[inline(always)]
-    pub(crate) fn accepted(count: u16, part: &'a [u8]) -> Self {
-        Self(Held::Part(count, part))
-    }
-
     /// Puts qids into a lent buffer, as an Rwalk holds them, so that they need not be kept: refused
     /// with 8 or 11, and then the buffer is as it was.
     pub fn gather(qids: &[Qid], buffer: &'a mut [u8]) -> Result<Self, Refusal> {
@@ -205,31 +189,6 @@ impl<'a> Qids<'a> {
             place[5..].copy_from_slice(&qid.path.to_le_bytes());
         }
         Ok(Self::accepted(count, part))
-    }
-
-    /// How many there are.
-    pub fn len(&self) -> usize {
-        self.0.len()
-    }
-
-    /// Whether there is none, as in the answer to a walk without names.
-    pub fn is_empty(&self) -> bool {
-        self.len() == 0
-    }
-
-    /// The caller's qids, which have no part on the wire yet.
-    #[inline(always)]
-    pub(crate) fn lent(&self) -> Option<&'a [Qid]> {
-        match self.0 {
-            Held::Part(..) => None,
-            Held::Lent(qids) => Some(qids),
-        }
-    }
-
-    /// The count, and the elements on the wire.
-    #[inline(always)]
-    pub(crate) fn part(&self) -> (u16, &'a [u8]) {
-        on_the_wire(&self.0)
     }
 
     /// How many bytes the elements are on the wire.
@@ -302,18 +261,36 @@ fn counted(len: usize) -> Result<u16, Refusal> {
     u16::try_from(len).map_err(|_| Refusal::TableTooLong)
 }
 
-/// Lent elements have none: who writes them asks for these first, and else they are refused, with 14.
-#[inline(always)]
-fn on_the_wire<'a, E>(held: &Held<'a, E>) -> (u16, &'a [u8]) {
-    match *held {
-        Held::Part(count, part) => (count, part),
-        Held::Lent(_) => (u16::MAX, &[]),
-    }
-}
-
 macro_rules! elements {
-    ($($elements:ident $iter:ident $element:ty;)*) => {
+    ($($elements:ident $iter:ident $element:ty, $lent:ty;)*) => {
         $(
+            impl<'a> $elements<'a> {
+                #[inline(always)]
+                pub(crate) fn accepted(count: u16, part: &'a [u8]) -> Self {
+                    Self(Held::Part(count, part))
+                }
+
+                /// How many there are.
+                pub fn len(&self) -> usize {
+                    self.0.len()
+                }
+
+                /// Whether there is none, as where a fid walks to itself.
+                pub fn is_empty(&self) -> bool {
+                    self.len() == 0
+                }
+
+                #[inline(always)]
+                pub(crate) fn lent(&self) -> Option<&'a [$lent]> {
+                    self.0.lent()
+                }
+
+                #[inline(always)]
+                pub(crate) fn part(&self) -> (u16, &'a [u8]) {
+                    self.0.part()
+                }
+            }
+
             impl ExactSizeIterator for $iter<'_> {}
 
             impl FusedIterator for $iter<'_> {}
@@ -367,6 +344,6 @@ macro_rules! elements {
 }
 
 elements! {
-    Names NamesIter Text<'a>;
-    Qids QidsIter Qid;
+    Names NamesIter Text<'a>, &'a str;
+    Qids QidsIter Qid, Qid;
 }
