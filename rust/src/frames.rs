@@ -5,12 +5,14 @@ use std::io::{self, Write};
 
 use crate::boundary::{Outcome, R_VALUES, T_VALUES};
 use crate::ffi::Told;
-use crate::fields::Taken;
+use crate::fields::{fill, Field, Taken};
 use crate::records::Onward;
 use crate::{ffi, tables, Refusal, Rmessage, Tag, Tmessage, WalkHead};
 
 /// How many bytes stand before a frame's first field: its size, its type and its tag.
 const HEADER: usize = 7;
+
+const TWALK: u8 = 110;
 
 /// A request: its tag beside a message or a refusal.
 #[derive(Clone, Copy, Debug, PartialEq, Eq)]
@@ -158,10 +160,14 @@ impl<'a> Tframe<'a> {
             return Err(Refusal::HoldsRefusal);
         };
         if let Tmessage::Walk(walk) = msg {
-            if let Some(names) = walk.wnames.lent() {
-                let (tag, fid, newfid) = (self.tag, walk.fid, walk.newfid);
-                return tables::write_names(out, WalkHead { tag, fid, newfid }, names);
-            }
+            return match walk.wnames.lent() {
+                Some(names) => {
+                    let (tag, fid, newfid) = (self.tag, walk.fid, walk.newfid);
+                    tables::write_names(out, WalkHead { tag, fid, newfid }, names)
+                }
+                // Every path is walked, and this is faster than to find its arm among all.
+                None => laid_t((TWALK, self.tag), walk, out).told(),
+            };
         }
         written_t(self.tag, msg, out).told()
     }
@@ -256,6 +262,14 @@ impl<'a> Rframe<'a> {
     pub fn encode_to(&self, stream: &mut impl Write, buffer: &mut [u8]) -> io::Result<usize> {
         send(self.encode(buffer), stream, buffer)
     }
+}
+
+/// A request whose type is known, and which has not two strings.
+#[inline(always)]
+fn laid_t<'a>(head: (u8, Tag), record: &impl Field<'a>, out: &mut [u8]) -> Outcome {
+    let mut values = [0; T_VALUES];
+    let [only, _] = fill(&mut values, record);
+    ffi::write_t(out, only, head, &values)
 }
 
 /// Answered in registers, as the library does; a `Result` would go through memory.
