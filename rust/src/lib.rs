@@ -2,7 +2,7 @@
 //!
 //! The types bear the names of p9 0.3.2's protocol module. What is read borrows from the bytes, and
 //! a refusal has its number. Nothing is allocated, but for a Twalk of the caller's own names that
-//! are more than 16 or longer than 512 bytes together ([`Names::of`]). Where a frame ends is what its size says:
+//! are longer than 512 bytes together ([`Names::of`]). Where a frame ends is what its size says:
 //! bytes after the last field are a tail, and never another request; [`stream::Frames`] cuts a
 //! stream into frames by that, in a buffer that it allocates once, and [`stretch()`] bytes that
 //! hold several. The entries of a directory are given by [`Rreaddir::entries`]. The example

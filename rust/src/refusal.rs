@@ -75,6 +75,7 @@ refusals! {
     14 PartMalformed InvalidInput "the elements of a vector do not fill it"
     15 NoSuchElement InvalidInput "a vector has no element of that number"
     16 HoldsRefusal InvalidData "the frame holds a refusal, and no message to write"
+    17 TooManyElements InvalidInput "a walk has more than sixteen elements"
     255 Foreign Other "the library is another than this crate is for: it answers a number that is not known here"
 }
 
@@ -111,7 +112,7 @@ mod tests {
             let told = Refusal::of(number).map(Refusal::number);
             let owed = match number {
                 0 => None,
-                1..=16 => Some(number),
+                1..=17 => Some(number),
                 _ => Some(255),
             };
             assert_eq!(told, owed);

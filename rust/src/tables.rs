@@ -2,6 +2,7 @@
 
 use alloc::vec;
 
+use crate::walks::MOST;
 use crate::{ffi, Fid, Qid, Refusal, Tag};
 
 /// What a Twalk has beside its names.
@@ -50,28 +51,29 @@ pub fn write_rwalk(out: &mut [u8], tag: Tag, qids: &[Qid]) -> Result<usize, Refu
     ffi::write_rwalk(out, tag, qids)
 }
 
-/// What names are put together in on the stack: as many and as long as those of a path mostly are.
-const FEW: usize = 16;
+/// What names are put together in on the stack: those of a path are mostly no longer.
 const SHORT: usize = 512;
 
-/// Names that stand each for itself. The library takes one text that the rows point into, so they are
-/// put together first: on the stack, or for a long walk on the heap.
+/// Names that stand each for itself, no more than a walk has. The library takes one text that the rows
+/// point into, so they are put together first: on the stack, or long ones on the heap.
 #[inline(never)]
 pub(crate) fn write_names(
     out: &mut [u8],
     head: WalkHead,
     names: &[&str],
 ) -> Result<usize, Refusal> {
+    let mut rows = [[0; 2]; MOST];
+    let rows = rows.get_mut(..names.len());
+    let rows = rows.ok_or(Refusal::TooManyElements)?;
     let len: usize = names.iter().map(|name| name.len()).sum();
-    if names.len() <= FEW && len <= SHORT {
-        let (mut text, mut rows) = ([0; SHORT], [[0; 2]; FEW]);
-        let (text, rows) = (&mut text[..len], &mut rows[..names.len()]);
+    if len <= SHORT {
+        let text = &mut [0; SHORT][..len];
         join(names, text, rows);
         return ffi::write_twalk(out, text, head, rows);
     }
-    let (mut text, mut rows) = (vec![0; len], vec![[0; 2]; names.len()]);
-    join(names, &mut text, &mut rows);
-    ffi::write_twalk(out, &text, head, &rows)
+    let mut text = vec![0; len];
+    join(names, &mut text, rows);
+    ffi::write_twalk(out, &text, head, rows)
 }
 
 /// Into as many rows as there are names, and as many bytes as they have.

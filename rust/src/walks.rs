@@ -6,6 +6,9 @@ use core::iter::FusedIterator;
 use crate::fields::{text, Field, Taken};
 use crate::{ffi, Qid, Refusal, Text};
 
+/// How many elements a walk has at the most.
+pub(crate) const MOST: usize = 16;
+
 /// Where elements are held.
 #[derive(Clone, Copy)]
 enum Held<'a, E> {
@@ -32,7 +35,7 @@ impl<'a, E> Held<'a, E> {
     }
 
     /// The count, and the elements on the wire. Lent ones have none: who writes them asks for these
-    /// first, and else they are refused, with 14.
+    /// first, and else they are refused, with 17.
     #[inline(always)]
     fn part(&self) -> (u16, &'a [u8]) {
         match *self {
@@ -56,7 +59,7 @@ impl<'a, E> Held<'a, E> {
 pub struct Names<'a>(Held<'a, &'a str>);
 
 impl<'a> Names<'a> {
-    /// The caller's names: refused with 8, 7 or 6. They stay where they are until the frame is written.
+    /// The caller's names: refused with 17, 7 or 6. They stay where they are until the frame is written.
     pub fn of(names: &'a [&'a str]) -> Result<Self, Refusal> {
         counted(names.len())?;
         for name in names {
@@ -66,7 +69,7 @@ impl<'a> Names<'a> {
     }
 
     /// Puts names into a lent buffer, as a Twalk holds them, so that they need not be kept: refused
-    /// with 8, 7, 6 or 11, and then the buffer is as it was.
+    /// with 17, 7, 6 or 11, and then the buffer is as it was.
     ///
     /// ```
     /// use sheafsledge::Names;
@@ -179,7 +182,7 @@ const QID: usize = 13;
 
 impl<'a> Qids<'a> {
     /// Puts qids into a lent buffer, as an Rwalk holds them, so that they need not be kept: refused
-    /// with 8 or 11, and then the buffer is as it was.
+    /// with 17 or 11, and then the buffer is as it was.
     pub fn gather(qids: &[Qid], buffer: &'a mut [u8]) -> Result<Self, Refusal> {
         let count = counted(qids.len())?;
         let part = buffer.get_mut(..QID * qids.len()).ok_or(Refusal::NoRoom)?;
@@ -217,7 +220,7 @@ impl<'a> Qids<'a> {
     }
 }
 
-/// One that is longer than a walk can be is refused, with 8, when it is written.
+/// More than a walk can have are refused, with 17, when they are written.
 impl<'a> From<&'a [Qid]> for Qids<'a> {
     fn from(qids: &'a [Qid]) -> Self {
         Self(Held::Lent(qids))
@@ -256,9 +259,12 @@ impl Iterator for QidsIter<'_> {
     }
 }
 
-/// A vector's count: refused with 8 where it has more elements than that can say.
+/// A walk's count: refused with 17 where it is above sixteen.
 fn counted(len: usize) -> Result<u16, Refusal> {
-    u16::try_from(len).map_err(|_| Refusal::TableTooLong)
+    match len {
+        0..=MOST => Ok(len as u16),
+        _ => Err(Refusal::TooManyElements),
+    }
 }
 
 macro_rules! elements {

@@ -32,7 +32,7 @@ fn names_are_the_same_in_order_and_by_number() {
         &[][..],
         &[[0, 0]],
         &[[0, 1], [2, 2], [4, 0], [6, 5], [12, 4], [0, 16]],
-        &[[6, 5]; 300],
+        &[[6, 5]; 16],
     ] {
         let mut out = vec![0; 8192];
         let len = write_twalk(&mut out, text, HEAD, rows).expect("room");
@@ -56,7 +56,7 @@ fn qids_are_the_same_in_order_and_by_number() {
         version: !(i as u32),
         path: i.wrapping_mul(0x0102_0304_0506_0708),
     };
-    for count in [0, 1, 2, 300] {
+    for count in [0, 1, 2, 16] {
         let qids: Vec<Qid> = (0..count).map(qid).collect();
         let mut out = vec![0; 8192];
         let len = write_rwalk(&mut out, Tag(3), &qids).expect("room");
@@ -110,14 +110,19 @@ fn refused_tables_leave_the_output_as_it_was() {
     assert_eq!(refused(&[[0, 4]], 64), Refusal::NotUtf8);
     assert_eq!(refused(&[[0, 3]], 64), Refusal::ZeroByte);
     assert_eq!(refused(&[[0, 2]], 20), Refusal::NoRoom);
-    assert_eq!(refused(&[[0, 4]; 65_536], 64), Refusal::TableTooLong);
-    assert_eq!(refused(&[[4, 65_535]; 65_535], 64), Refusal::FrameTooLong);
+    // The rows are not looked at.
+    for count in [17, 40, 65_535, 65_536] {
+        for room in [0, 64] {
+            let rows = vec![[usize::MAX, 2]; count];
+            assert_eq!(refused(&rows, room), Refusal::TooManyElements);
+        }
+    }
     let mut out = [0xee; 64];
     let qids = vec![Qid::default(); 65_536];
-    assert_eq!(
-        write_rwalk(&mut out, Tag(3), &qids),
-        Err(Refusal::TableTooLong)
-    );
+    for count in [17, 40, 65_535, 65_536] {
+        let wrote = write_rwalk(&mut out, Tag(3), &qids[..count]);
+        assert_eq!(wrote, Err(Refusal::TooManyElements));
+    }
     assert_eq!(
         write_rwalk(&mut out, Tag(3), &qids[..5]),
         Err(Refusal::NoRoom)
@@ -137,11 +142,11 @@ fn what_is_gathered_is_what_the_frame_holds() {
 #[test]
 fn a_refused_gathering_leaves_the_buffer_as_it_was() {
     let long = "a".repeat(65_536);
-    let many = vec![""; 65_536];
+    let many = ["\0"; 17];
     let refused = [
         (&["a", "bc", &long][..], Refusal::StringTooLong),
         (&["a", "bc"], Refusal::NoRoom),
-        (&many, Refusal::TableTooLong),
+        (&many, Refusal::TooManyElements),
     ];
     for (names, refusal) in refused {
         let mut buffer = [0xee; 6];
@@ -159,16 +164,16 @@ fn a_refused_gathering_leaves_the_buffer_as_it_was() {
 fn lent_elements_are_written_as_gathered_ones() {
     let long = "ü".repeat(300);
     let sixteen = ["a"; 16];
-    let many = ["dcim"; 300];
+    let most = [&long[..]; 16];
     for names in [
         &[][..],
         &[""],
         &["a", "höhe", ""],
         &[&long],
         &sixteen,
-        &many,
+        &most,
     ] {
-        let mut buffer = vec![0; 8192];
+        let mut buffer = vec![0; 16_384];
         let gathered = Names::gather(names, &mut buffer).expect("room");
         let lent = Names::of(names).expect("names");
         assert_eq!(lent, gathered);
@@ -182,7 +187,7 @@ fn lent_elements_are_written_as_gathered_ones() {
                 wnames,
             }));
             let frame = Tframe { tag, msg };
-            let mut out = vec![0xee; 4096];
+            let mut out = vec![0xee; 16_384];
             let len = frame.encode(&mut out).expect("room");
             assert_eq!(frame.byte_size(), Ok(len));
             assert_eq!(frame.encode(&mut out[..len - 1]), Err(Refusal::NoRoom));
@@ -201,7 +206,7 @@ fn lent_qids_are_written_as_gathered_ones() {
         version: 7,
         path,
     };
-    for count in [0, 1, 16, 300] {
+    for count in [0, 1, 15, 16] {
         let qids: Vec<Qid> = (0..count).map(qid).collect();
         let mut buffer = vec![0; 8192];
         let gathered = Qids::gather(&qids, &mut buffer).expect("room");
@@ -221,13 +226,13 @@ fn lent_qids_are_written_as_gathered_ones() {
         assert_eq!(framed[0], framed[1]);
         assert!(qids_of(&framed[1]).iter().eq(qids));
     }
-    let many = vec![Qid::default(); 65_536];
+    let many = [Qid::default(); 17];
     let msg = Rmessage::Walk(Rwalk {
         wqids: Qids::from(&many[..]),
     });
     let frame = Rframe { tag: Tag(3), msg };
-    assert_eq!(frame.byte_size(), Err(Refusal::TableTooLong));
-    assert_eq!(frame.encode(&mut [0; 64]), Err(Refusal::TableTooLong));
+    assert_eq!(frame.byte_size(), Err(Refusal::TooManyElements));
+    assert_eq!(frame.encode(&mut [0; 64]), Err(Refusal::TooManyElements));
 }
 
 #[test]
@@ -235,5 +240,34 @@ fn names_that_no_frame_holds_are_refused_at_once() {
     let long = "a".repeat(65_536);
     assert_eq!(Names::of(&["a", &long]), Err(Refusal::StringTooLong));
     assert_eq!(Names::of(&["a\0", &long]), Err(Refusal::ZeroByte));
-    assert_eq!(Names::of(&vec!["\0"; 65_536]), Err(Refusal::TableTooLong));
+    assert_eq!(Names::of(&["\0"; 17]), Err(Refusal::TooManyElements));
+}
+
+/// A path of forty directories, as a guest sent it: refused as a whole, with its tag; in two walks of
+/// twenty, too; in three of at most sixteen it goes through.
+#[test]
+fn forty_names_take_three_walks() {
+    let names: Vec<String> = (0..40).map(|i| format!("d{i:02}")).collect();
+    let names: Vec<&str> = names.iter().map(String::as_str).collect();
+    let frame = |names: &[&str]| {
+        let mut frame = vec![0, 0, 0, 0, 110, 3, 0, 1, 0, 0, 0, 2, 0, 0, 0];
+        frame.extend((names.len() as u16).to_le_bytes());
+        for name in names {
+            frame.extend((name.len() as u16).to_le_bytes());
+            frame.extend(name.as_bytes());
+        }
+        frame[0] = u8::try_from(frame.len()).expect("a short frame");
+        frame
+    };
+    let read = |names: &[&str]| {
+        let frame = frame(names);
+        let read = Tframe::decode(&frame).expect("a header").frame;
+        assert_eq!(read.tag, Tag(3));
+        read.msg.map(|msg| msg.ty())
+    };
+    assert_eq!(read(&names), Err(Refusal::TooManyElements));
+    assert_eq!(read(&names[..20]), Err(Refusal::TooManyElements));
+    for part in names.chunks(16) {
+        assert_eq!(read(part), Ok(110));
+    }
 }

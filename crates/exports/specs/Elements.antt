@@ -14,12 +14,11 @@ use Rattle.numbers.specs.declared.Refusal.the-variants as R
 use Rattle.numbers.specs.declared.Place.{Place}
 use Rattle.numbers.specs.declared.Place.the-variants.{At, Refused}
 use Rattle.strings.specs.Strings.{stringBytes}
-use Rattle.strings.specs.Spans.{showSpan}
 use Rattle.strings.specs.SpanLaws.{span-inv}
 use Rattle.fields.specs.Layouts.{Field, strs, quids, Item, strings, qids, readMany, manyBytes}
 use Rattle.fields.specs.LayoutLaws.{took-many}
-use Rattle.fields.specs.Values.{Value, startOf, lenOf, countOf, part, wholePart, show}
-use Rattle.laying.specs.LayingLaws.{span-shown, whole-inv}
+use Rattle.fields.specs.Values.{Value, startOf, lenOf, countOf, part, showPart, wholePart, show}
+use Rattle.laying.specs.LayingLaws.{span-shown, part-inv, whole-inv}
 use Rattle.strings.specs.declared.Span.{Span}
 use Rattle.laying.specs.Elements.{elementIn, askedFor, elementAt, viewElement}
 use Rattle.laying.specs.ElementLaws.{asked-inv}
@@ -80,10 +79,11 @@ module _ (lent : List ℕ) (c x y i : ℕ) (b : Bytes lent) (m : length lent < 2
   unfolding show
   name-within e =
       found strs lent (part c x y) i e
-      (λ it s h e1 e2. after-inv (showSpan lent x y) _ e1
-      (λ bs t e3 e4. after-inv (wholePart (readMany c bs)) _ e4
+      (λ it s h e1 e2. after-inv (showPart lent c x y) _ e1
+      (λ bs t e0 e4. after-inv (wholePart (readMany c bs)) _ e4
       (λ l u e5 e6. whole-inv (readMany c bs) e5
       (λ e7.
+      let e3 = part-inv lent c x y e0 .1 in
       let k = span-shown lent x y e3 in
       let f : it ≡ strings l = cc e6 in
       let g = took-many c bs (rw (k .2) (bytes-take y (drop x lent) (bytes-drop x lent b))) e7 in
@@ -98,8 +98,9 @@ module _ (lent : List ℕ) (c x y i : ℕ) (b : Bytes lent) (m : length lent < 2
   unfolding show
   qid-within e =
       found quids lent (part c x y) i e
-      (λ it s h e1 e2. after-inv (showSpan lent x y) _ e1
-      (λ bs t e3 e4.
+      (λ it s h e1 e2. after-inv (showPart lent c x y) _ e1
+      (λ bs t e0 e4.
+      let e3 = part-inv lent c x y e0 .1 in
       let u = cond-inv (eqb y (13 * c)) _ R.PartMalformed e4 in
       let f : it ≡ qids c bs = (let g = u .1 in cc g) in
       let n = eqb-true y (13 * c) (u .0) in

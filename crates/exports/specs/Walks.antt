@@ -5,21 +5,21 @@ use mathlib.Core.List.{List, [], _∷_}
 use lib.ListN.{length}
 use Rattle.numbers.specs.Reading.{Result, ok}
 use Rattle.numbers.specs.declared.Place.{Place}
-use Rattle.fields.specs.Layouts.{Item, number}
+use Rattle.fields.specs.Layouts.{Item, number, counted}
 use Rattle.fields.specs.Values.{shows}
 use Rattle.layouts.specs.declared.qids.Qid.{Qid}
 use Rattle.framing.specs.Writing.{frameOut, framePast}
-use Rattle.tables.specs.Tables.{TableWritten, fromTable, walkFields, walkValues, qidItems}
+use Rattle.tables.specs.Tables.{TableWritten, walkFields, walkValues, qidItems}
 use Rattle.exports.specs.Answers.{ended, Answered, wrote}
 use Rattle.exports.specs.declared.Outcome.{Outcome}
 
 -- Twalk: "4 4, vector of s"
 abbrev pub twalkOf : ℕ → ℕ → List ℕ → List (List ℕ) → Result (List Item)
-twalkOf fid newfid lent t = fromTable (length t) (shows (walkFields t) lent (walkValues fid newfid (length t) t))
+twalkOf fid newfid lent t = counted (length t) (shows (walkFields t) lent (walkValues fid newfid (length t) t))
 
 -- an Rwalk is a vector of qids (F3.2)
 abbrev pub rwalkOf : List Qid → Result (List Item)
-rwalkOf t = fromTable (length t) (ok (number 2 (length t) ∷ qidItems t) [])
+rwalkOf t = counted (length t) (ok (number 2 (length t) ∷ qidItems t) [])
 
 -- refused, the output is as it was; else the frame stands at its front
 abbrev pub TableWrote : ℕ → ℕ → Result (List Item) → List ℕ → List ℕ → Outcome → Type 0

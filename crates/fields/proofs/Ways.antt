@@ -11,17 +11,18 @@ use borrow.Author.Tests.{le-leb, lt-leb}
 use Rattle.numbers.specs.Numbers.{Bytes, bytes-drop}
 use Rattle.numbers.specs.Reading.{Result, ok, bad, after, raw, readNum}
 use Rattle.numbers.specs.ReadingLaws.{or-else, Took, raw-short}
-use Rattle.numbers.specs.Places.{Within, readAt, restAt, NumRead}
+use Rattle.numbers.specs.Places.{Within, readAt, restAt, numberIn, numAt, pastNum, NumRead}
 use Rattle.numbers.specs.PlaceLaws.{inside, outside, Held, num-holds, num-refused}
 use Rattle.numbers.specs.declared.Refusal.{Refusal}
 use Rattle.numbers.specs.declared.Refusal.the-variants as R
 use Rattle.numbers.specs.declared.Place.{Place}
 use Rattle.numbers.specs.declared.Place.the-variants.{At, Refused}
-use Rattle.fields.specs.Layouts.{Field, dat, strs, quids, Item, bytes, strings, qids, most, readMany, readField, manyBytes}
+use Rattle.strings.specs.Spans.{checkAt}
+use Rattle.fields.specs.Layouts.{Field, dat, strs, quids, Item, bytes, strings, qids, most, counted, okCount, readMany, readField, manyBytes}
 use Rattle.fields.specs.LayoutLaws.{took-many}
-use Rattle.fields.specs.FieldLaws.{count-fits}
+use Rattle.fields.specs.FieldLaws.{few, many, count-passed}
 use Rattle.fields.specs.Values.{Value, span, part, place}
-use Rattle.fields.specs.Fields.{CountCheck, nothing, placedIn, valueAt, pastField, FieldRead, ManyRead, Nowhere}
+use Rattle.fields.specs.Fields.{CountCheck, CountRead, nothing, placedIn, valueAt, pastField, FieldRead, ManyRead, Nowhere}
 
 -- ---- a field, refused or read
 
@@ -67,10 +68,6 @@ held-length n e s h = length-take-le n (drop e s) (simp length-drop (omega arith
 held-next : (n e : ℕ) (s : List ℕ) → e + n ≤ length s → At (e + n) ≡ At (length s - length (drop (e + n) s))
 held-next n e s h = ap At (let d = length-drop (e + n) s in omega arith)
 
--- the count of a vector, of two bytes, is never over the limit
-pub count-read : {s : List ℕ} {p a q : Place} {n : ℕ} → NumRead 2 s p n a → n ≤ 65535 → CountCheck n a q → NumRead 2 s p n q
-count-read r h c = let e = count-fits h c in record { value = r .value; next = e ∙ r .next }
-
 -- ---- data
 
 counted-dat : Counted dat 4 (λ n r. cond (leb n most) (after (raw n r) (λ bs s. ok (bytes bs) s)) (bad R.DataTooLong))
@@ -99,41 +96,77 @@ module _ {s : List ℕ} {p a : Place} {n e : ℕ} where
       = counted-held counted-dat k ∙ rw (le-leb n most h, raw-held n e s m) in
       rw (held-length n e s m, ← (k .ends)) at (read-field (k .place) u (held-next n e s m))
 
+-- ---- a vector: its count is checked before its elements
+
+pub count-read : {s : List ℕ} {p a q : Place} {n : ℕ} → NumRead 2 s p n a → CountCheck n a q → CountRead s p n q
+count-read {n = n} r c = record { value = r .value; next = c .is ∙ ap (checkAt (okCount n)) (r .next) }
+
+record Few (s : List ℕ) (p : Place) (n e : ℕ) : Type 0 where
+  pub small : n ≤ 16
+  pub held : Held 2 s p n e
+
+count-holds : {s : List ℕ} {p q : Place} {n e : ℕ} → CountRead s p n q → q ≡ At e → Few s p n e
+count-holds {s} {p} {q} {n} {e} r f =
+    let a : NumRead 2 s p n (pastNum 2 s p) = record { value = r .value; next = refl } in
+    let b : CountCheck n (pastNum 2 s p) q = record { is = r .next } in
+    let c = count-passed b f in
+    record { small = c .0; held = num-holds (omega arith) a (c .1) }
+
+record Vector (f : Field) (g : ℕ → List ℕ → Result Item) : Type 0 where
+  pub is : Counted f 2 (λ n r. counted n (g n r))
+
+module _ {f : Field} {g : ℕ → List ℕ → Result Item} where
+  vector-refused : {s : List ℕ} {p q : Place} {n : ℕ} {k : Refusal} → Vector f g → CountRead s p n q → q ≡ Refused k
+      → FieldRead f s p (nothing f) q
+  unfolding numAt pastNum
+  vector-refused {s} {p} {q} {n} {k} c r e = refused-field (counted-at (c .is) s p ∙ go (readAt (readNum 2) s p) (r .value) (sym (r .next) ∙ e)) e
+    where
+      go : (m : Result ℕ) → n ≡ numberIn m → checkAt (okCount n) (restAt (length s) m) ≡ Refused k → after m (λ x t. counted x (g x t)) ≡ bad k
+      go (bad j) v h = let i : j ≡ k = cc h in ap bad i
+      go (ok x t) v h =
+          or-else x 16
+          (λ l. absurd (let i = rw (v, few (ok x []) l) at h in let z : _≡_ {A = ℕ} 0 1 = cc i in omega arith))
+          (λ l. let i = rw (v, many (ok x []) l) at h in let j : R.TooManyElements ≡ k = cc i in many (g x t) l ∙ ap bad j)
+
+  vector-held : {s : List ℕ} {p q : Place} {n e : ℕ} → Vector f g → CountRead s p n q → q ≡ At e
+      → readAt (readField f) s p ≡ g n (drop e s)
+  vector-held {s} {p} {q} {n} {e} c r h = let k = count-holds r h in counted-held (c .is) (k .held) ∙ few (g n (drop e s)) (k .small)
+
 -- ---- qids
 
-counted-quids : Counted quids 2 (λ n r. after (raw (13 * n) r) (λ bs s. ok (qids n bs) s))
+vector-quids : Vector quids (λ n r. after (raw (13 * n) r) (λ bs s. ok (qids n bs) s))
 unfolding readField
-counted-quids = record { is = λ xs. refl }
+vector-quids = record { is = record { is = λ xs. refl } }
 
 -- a part that was refused, made by another function
 nowhere : {f : Field} {s : List ℕ} {p e k : Place} {v : Value} → nothing f ≡ part 0 0 0 → Nowhere v e k → FieldRead f s p (nothing f) k → FieldRead f s p v e
 nowhere h n r = record { value = n .value ∙ sym h ∙ r .value; next = n .next ∙ r .next }
 
 module _ {s : List ℕ} {p a q : Place} {n : ℕ} {v : Value} where
-  pub quids-cut : {k : Refusal} → NumRead 2 s p n a → a ≡ Refused k → Nowhere v q a → FieldRead quids s p v q
-  quids-cut r f w = nowhere refl w (counted-refused counted-quids r f)
+  pub quids-cut : {k : Refusal} → CountRead s p n a → a ≡ Refused k → Nowhere v q a → FieldRead quids s p v q
+  quids-cut r f w = nowhere refl w (vector-refused vector-quids r f)
 
-  pub quids-short : {e : ℕ} {t : Bool} → NumRead 2 s p n a → a ≡ At e → Within e (13 * n) (length s) t → t ≡ false → Nowhere v q (Refused R.Short) → FieldRead quids s p v q
+  pub quids-short : {e : ℕ} {t : Bool} → CountRead s p n a → a ≡ At e → Within e (13 * n) (length s) t → t ≡ false → Nowhere v q (Refused R.Short) → FieldRead quids s p v q
   quids-short {e} r f i l w =
-      let k = num-holds (omega arith) r f in
+      let k = count-holds r f .held in
       let x = k .fits in
       let y = k .ends in
-      nowhere refl w (refused-field (counted-held counted-quids k ∙ rw (raw-cut (13 * n) e s (outside i l) (omega arith))) refl)
+      nowhere refl w (refused-field (vector-held vector-quids r f ∙ rw (raw-cut (13 * n) e s (outside i l) (omega arith))) refl)
 
-pub quids-good : {s : List ℕ} {p a : Place} {n e : ℕ} {t : Bool} → NumRead 2 s p n a → a ≡ At e → Within e (13 * n) (length s) t → t ≡ true
+pub quids-good : {s : List ℕ} {p a : Place} {n e : ℕ} {t : Bool} → CountRead s p n a → a ≡ At e → Within e (13 * n) (length s) t → t ≡ true
     → FieldRead quids s p (part n e (13 * n)) (At (e + 13 * n))
 quids-good {s} {p} {a} {n} {e} r f i l =
-    let k = num-holds (omega arith) r f in
+    let k = count-holds r f .held in
     let m = inside i l in
     let u : readAt (readField quids) s p ≡ ok (qids n (take (13 * n) (drop e s))) (drop (e + 13 * n) s)
-    = counted-held counted-quids k ∙ rw (raw-held (13 * n) e s m) in
+    = vector-held vector-quids r f ∙ rw (raw-held (13 * n) e s m) in
     rw (held-length (13 * n) e s m, ← (k .ends)) at (read-field (k .place) u (held-next (13 * n) e s m))
 
 -- ---- strings
 
-counted-strs : Counted strs 2 (λ n r. after (readMany n r) (λ l s. ok (strings l) s))
+vector-strs : Vector strs (λ n r. after (readMany n r) (λ l s. ok (strings l) s))
 unfolding readField
-counted-strs = record { is = λ xs. refl }
+vector-strs = record { is = record { is = λ xs. refl } }
 
 rest-bad : {A : Type 0} (m : Result A) (n : ℕ) {k : Refusal} → restAt n m ≡ Refused k → m ≡ bad k
 rest-bad (ok a r) n e = absurd (let z : _≡_ {A = ℕ} 0 1 = cc e in omega arith)
@@ -143,17 +176,17 @@ rest-ok : {A X : Type 0} (m : Result A) (n : ℕ) {g : ℕ} → restAt n m ≡ A
 rest-ok (ok a r) n e f = f a r refl (cc e)
 rest-ok (bad j) n e f = absurd (let z : _≡_ {A = ℕ} 0 1 = cc e in omega arith)
 
-pub count-lies : {s : List ℕ} {p a : Place} {n e : ℕ} → NumRead 2 s p n a → a ≡ At e → e ≤ length s
-count-lies r f = let k = num-holds (omega arith) r f in let x = k .fits in let y = k .ends in omega arith
+pub count-lies : {s : List ℕ} {p a : Place} {n e : ℕ} → CountRead s p n a → a ≡ At e → e ≤ length s
+count-lies r f = let k = count-holds r f .held in let x = k .fits in let y = k .ends in omega arith
 
 module _ {s : List ℕ} {p a q : Place} {n : ℕ} {v : Value} where
-  pub strs-cut : {k : Refusal} → NumRead 2 s p n a → a ≡ Refused k → Nowhere v q a → FieldRead strs s p v q
-  strs-cut r f w = nowhere refl w (counted-refused counted-strs r f)
+  pub strs-cut : {k : Refusal} → CountRead s p n a → a ≡ Refused k → Nowhere v q a → FieldRead strs s p v q
+  strs-cut r f w = nowhere refl w (vector-refused vector-strs r f)
 
-  pub strs-bad : {e : ℕ} {m : Place} {k : Refusal} → NumRead 2 s p n a → a ≡ At e → ManyRead n s e m → m ≡ Refused k → Nowhere v q m → FieldRead strs s p v q
+  pub strs-bad : {e : ℕ} {m : Place} {k : Refusal} → CountRead s p n a → a ≡ At e → ManyRead n s e m → m ≡ Refused k → Nowhere v q m → FieldRead strs s p v q
   strs-bad {e} r f c h w =
       nowhere refl w
-      (refused-field (counted-held counted-strs (num-holds (omega arith) r f) ∙ rw (rest-bad (readMany n (drop e s)) (length s) (sym (c .next) ∙ h))) h)
+      (refused-field (vector-held vector-strs r f ∙ rw (rest-bad (readMany n (drop e s)) (length s) (sym (c .next) ∙ h))) h)
 
 -- past the end there are as many strings as at the end
 pub many-from : {s : List ℕ} {n a m : ℕ} {e : Place} → m ≡ min a (length s) → ManyRead n s m e → ManyRead n s a e
@@ -170,8 +203,8 @@ record Many (n : ℕ) (s : List ℕ) (e g : ℕ) : Type 0 where
   pub size : e + length (manyBytes names) ≡ g
   pub ends : length s - length left ≡ g
 
-many : {n e g : ℕ} {s : List ℕ} {m : Place} → Bytes s → e ≤ length s → ManyRead n s e m → m ≡ At g → Many n s e g
-many {n} {e} {g} {s} b l c h =
+run : {n e g : ℕ} {s : List ℕ} {m : Place} → Bytes s → e ≤ length s → ManyRead n s e m → m ≡ At g → Many n s e g
+run {n} {e} {g} {s} b l c h =
     rest-ok (readMany n (drop e s)) (length s) (sym (c .next) ∙ h)
     (λ names left f i.
     let t = took-many n (drop e s) (bytes-drop e s b) f in
@@ -179,13 +212,13 @@ many {n} {e} {g} {s} b l c h =
     record { names = names; left = left; reads = f; count = t .good .0; size = omega arith; ends = i })
 
 module _ {s : List ℕ} {p a m : Place} {n e g : ℕ} where
-  pub strs-on : Bytes s → NumRead 2 s p n a → a ≡ At e → ManyRead n s e m → m ≡ At g → e ≤ g
-  strs-on b r f c h = let z = many b (count-lies r f) c h .size in omega arith
+  pub strs-on : Bytes s → CountRead s p n a → a ≡ At e → ManyRead n s e m → m ≡ At g → e ≤ g
+  strs-on b r f c h = let z = run b (count-lies r f) c h .size in omega arith
 
-  pub strs-good : Bytes s → NumRead 2 s p n a → a ≡ At e → ManyRead n s e m → m ≡ At g → FieldRead strs s p (part n e (g - e)) (At g)
+  pub strs-good : Bytes s → CountRead s p n a → a ≡ At e → ManyRead n s e m → m ≡ At g → FieldRead strs s p (part n e (g - e)) (At g)
   strs-good b r f c h =
-      let z = many b (count-lies r f) c h in
-      let k = num-holds (omega arith) r f in
-      let u : readAt (readField strs) s p ≡ ok (strings (z .names)) (z .left) = counted-held counted-strs k ∙ rw (z .reads) in
+      let z = run b (count-lies r f) c h in
+      let k = count-holds r f .held in
+      let u : readAt (readField strs) s p ≡ ok (strings (z .names)) (z .left) = vector-held vector-strs r f ∙ rw (z .reads) in
       let i : length (manyBytes (z .names)) ≡ g - e = (let y = z .size in omega arith) in
       rw (z .count, i, ← (k .ends)) at (read-field (k .place) u (ap At (sym (z .ends))))

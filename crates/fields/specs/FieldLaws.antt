@@ -6,7 +6,7 @@ use mathlib.Core.Bool.{cond}
 use mathlib.Core.List.{List, [], _∷_, _++_}
 use lib.ListN.{length, drop, length-append, length-drop}
 use lib.Seq.{drop-drop, drop-append-seam}
-use borrow.Author.Tests.{lt-ltb, le-ltb}
+use borrow.Author.Tests.{le-leb, lt-leb}
 use Rattle.numbers.specs.Numbers.{Bytes, bytes-drop}
 use Rattle.numbers.specs.Reading.{Result, ok, bad, after, readNum}
 use Rattle.numbers.specs.ReadingLaws.{or-else, Took, after-inv}
@@ -19,7 +19,7 @@ use Rattle.numbers.specs.declared.Place.the-variants.{At, Refused}
 use Rattle.strings.specs.Strings.{readString}
 use Rattle.strings.specs.Spans.{bytesIn, checkAt, startIn, strStart, strLen, pastStr, StrRead}
 use Rattle.strings.specs.SpanLaws.{passing}
-use Rattle.fields.specs.Layouts.{Field, num, str, Layout, q, okCount, Item, number, string, readField, readFields, itemBytes, itemsBytes}
+use Rattle.fields.specs.Layouts.{Field, num, str, Layout, q, counted, okCount, Item, number, string, readField, readFields, itemBytes, itemsBytes}
 use Rattle.fields.specs.LayoutLaws.{took-field}
 use Rattle.fields.specs.Values.{Value, val, span, place, places}
 use Rattle.fields.specs.Fields.{CountCheck, placedIn, valueAt, pastField, FieldRead, valuesAt, pastFields, Fields}
@@ -56,28 +56,35 @@ string-field {x} {y} {s} {p = Refused k} b = record { value = ap₂ span (b .sta
 
 -- ---- the count of a vector
 
-pub count-over : {n a : ℕ} {p : Place} → p ≡ At a → 65535 < n → CountCheck n p (Refused R.TableTooLong)
-count-over {n} e h = record { is = rw (e, lt-ltb 65535 n h) }
+-- what has a count that passes, and what has one that does not
+pub few : {A : Type 0} {n : ℕ} (m : Result A) → n ≤ 16 → counted n m ≡ m
+few {n = n} m h = rw (le-leb n 16 h)
 
-pub count-held : {n : ℕ} {p : Place} → n ≤ 65535 → CountCheck n p p
-count-held {n} {p} h = record { is = sym (ap (λ b. checkAt (cond b (bad R.TableTooLong) (ok n [])) p) (le-ltb 65535 n h) ∙ passing n [] p) }
+pub many : {A : Type 0} {n : ℕ} (m : Result A) → 16 < n → counted n m ≡ bad R.TooManyElements
+many {n = n} m h = rw (lt-leb n 16 h)
+
+pub count-over : {n a : ℕ} {p : Place} → p ≡ At a → 16 < n → CountCheck n p (Refused R.TooManyElements)
+count-over {n} e h = record { is = rw (e, lt-leb n 16 h) }
+
+pub count-held : {n : ℕ} {p : Place} → n ≤ 16 → CountCheck n p p
+count-held {n} {p} h = record { is = sym (ap (λ m. checkAt m p) (few (ok n []) h) ∙ passing n [] p) }
 
 -- what a count that was tested is
-pub count-passed : {n a b : ℕ} {q : Place} → CountCheck n (At a) q → q ≡ At b → (n ≤ 65535) × (a ≡ b)
-count-passed {n} c e =
-    or-else n 65535
-    (λ h. let f = rw (le-ltb 65535 n h) at (sym (c .is) ∙ e) in (h, cc f))
-    (λ h. absurd (let f = rw (lt-ltb 65535 n h) at (sym (c .is) ∙ e) in let z : _≡_ {A = ℕ} 0 1 = cc f in omega arith))
+pub count-passed : {n b : ℕ} {p q : Place} → CountCheck n p q → q ≡ At b → (n ≤ 16) × (p ≡ At b)
+count-passed {n} {b} {p} c e =
+    or-else n 16
+    (λ h. (h, one-answer (count-held h .is) (c .is) ∙ e))
+    (λ h. absurd (over p (ap (λ m. checkAt m p) (sym (many (ok n []) h)) ∙ sym (c .is) ∙ e)))
+  where
+    over : (x : Place) → checkAt {A = ℕ} (bad R.TooManyElements) x ≡ At b → ⊥
+    over (At a) f = let z : _≡_ {A = ℕ} 0 1 = cc f in omega arith
+    over (Refused k) f = let z : _≡_ {A = ℕ} 0 1 = cc f in omega arith
 
-pub count-refused : {n a : ℕ} {q : Place} {k : Refusal} → CountCheck n (At a) q → q ≡ Refused k → 65535 < n
+pub count-refused : {n a : ℕ} {q : Place} {k : Refusal} → CountCheck n (At a) q → q ≡ Refused k → 16 < n
 count-refused {n} c e =
-    or-else n 65535
-    (λ h. absurd (let f = rw (le-ltb 65535 n h) at (sym (c .is) ∙ e) in let z : _≡_ {A = ℕ} 0 1 = cc f in omega arith))
+    or-else n 16
+    (λ h. absurd (let f = rw (le-leb n 16 h) at (sym (c .is) ∙ e) in let z : _≡_ {A = ℕ} 0 1 = cc f in omega arith))
     (λ h. h)
-
--- a count of two bytes is never over
-pub count-fits : {n : ℕ} {p q : Place} → n ≤ 65535 → CountCheck n p q → q ≡ p
-count-fits h c = one-answer (c .is) (count-held h .is)
 
 -- ---- one field more
 

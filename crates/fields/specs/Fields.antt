@@ -6,7 +6,7 @@ use mathlib.Core.Bool.{cond}
 use lib.ListN.{length, drop}
 use lib.Dec.{ltb}
 use Rattle.numbers.specs.Reading.{Result, ok, bad}
-use Rattle.numbers.specs.Places.{readAt, restAt}
+use Rattle.numbers.specs.Places.{readAt, restAt, numAt, pastNum}
 use Rattle.numbers.specs.declared.Place.{Place}
 use Rattle.numbers.specs.declared.Place.the-variants.{At, Refused}
 use Rattle.strings.specs.Spans.{checkAt}
@@ -41,6 +41,11 @@ pub record FieldRead (f : Field) (s : List ℕ) (p : Place) (v : Value) (e : Pla
 -- what the check of a vector's count answers at p
 pub record CountCheck (n : ℕ) (p q : Place) : Type 0 where
   pub is : q ≡ checkAt (okCount n) p
+
+-- what the reader of a vector's count answers at p of s: the count, and the place after it, checked
+pub record CountRead (s : List ℕ) (p : Place) (n : ℕ) (e : Place) : Type 0 where
+  pub value : n ≡ numAt 2 s p
+  pub next : e ≡ checkAt (okCount n) (pastNum 2 s p)
 
 -- so many strings from a position on: the place after them
 pub record ManyRead (n : ℕ) (s : List ℕ) (a : ℕ) (e : Place) : Type 0 where

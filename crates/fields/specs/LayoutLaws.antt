@@ -1,5 +1,5 @@
 -- Over any layout: reading what was written gives the items back, whatever stands after; fields cut anywhere are short; writing what was read gives those bytes.
-use Prim.Native.Nat.{ℕ, zero, suc, _+_, _*_, _^_, _<_}
+use Prim.Native.Nat.{ℕ, zero, suc, _+_, _*_, _^_, _≤_, _<_}
 use native.Mathlib.Omega.{arith}
 use mathlib.Core.Path.{_≡_, refl, ap, ap₂, _∙_}
 use mathlib.Core.Bool.{true, cond}
@@ -13,7 +13,7 @@ use Rattle.numbers.specs.ReadingLaws.{after-inv, cond-inv, Reads, reads-raw, re
 use Rattle.numbers.specs.declared.Refusal.the-variants as R
 use Rattle.strings.specs.Strings.{readString, stringBytes, GoodText}
 use Rattle.strings.specs.StringLaws.{reads-string, took-string}
-use Rattle.fields.specs.Layouts.{Field, num, str, dat, strs, quids, Layout, Item, number, string, bytes, strings, qids, kind, most, readMany, readField, readFields, manyBytes, itemBytes, itemsBytes, AllGood, Good, Goods}
+use Rattle.fields.specs.Layouts.{Field, num, str, dat, strs, quids, Layout, Item, number, string, bytes, strings, qids, kind, most, counted, readMany, readField, readFields, manyBytes, itemBytes, itemsBytes, AllGood, Good, Goods}
 
 -- ---- read after write, and a cut
 
@@ -22,6 +22,10 @@ unfolding readMany manyBytes
 reads-many [] g = reads-nil _ _ (λ r. refl)
 reads-many (b ∷ bs) (g, gs) = reads-after _ (reads-string b g) (reads-map (λ r. b ∷ r) (reads-many bs gs))
 
+-- the elements after a count that passes
+reads-few : {A : Type 0} {d : List ℕ → Result A} {x : List ℕ} {a : A} (n : ℕ) → n ≤ 16 → Reads d x a → Reads (λ r. counted n (d r)) x a
+reads-few n h e = reads-cond (bad R.TooManyElements) (le-leb n 16 h) e
+
 pub reads-field : (i : Item) → Good i → Reads (readField (kind i)) (itemBytes i) i
 unfolding readField itemBytes
 reads-field (number w n) g = reads-map (number w) (reads-num w n g)
@@ -29,8 +33,8 @@ reads-field (string bs) g = reads-map string (reads-string bs g)
 reads-field (bytes bs) g =
     reads-after _ (reads-num 4 (length bs) (omega arith))
     (reads-cond (bad R.DataTooLong) (le-leb (length bs) most (omega arith)) (reads-map bytes (reads-raw (length bs) bs refl)))
-reads-field (strings l) g = reads-after _ (reads-num 2 (length l) (g .0)) (reads-map strings (reads-many l (g .1)))
-reads-field (qids n bs) g = reads-after _ (reads-num 2 n (g .0)) (reads-map (qids n) (reads-raw (13 * n) bs (g .1)))
+reads-field (strings l) g = reads-after _ (reads-num 2 (length l) (let h = g .0 in omega arith)) (reads-few (length l) (g .0) (reads-map strings (reads-many l (g .1))))
+reads-field (qids n bs) g = reads-after _ (reads-num 2 n (let h = g .0 in omega arith)) (reads-few n (g .0) (reads-map (qids n) (reads-raw (13 * n) bs (g .1))))
 
 pub reads-fields : (is : List Item) → Goods is → Reads (readFields (map kind is)) (itemsBytes is) is
 unfolding readFields itemsBytes
@@ -83,22 +87,27 @@ took-field dat xs {i} {r} h e =
     rw (← ei, ← er, q .good .0) (took-then p q (λ a b. (refl, (let k = b .0 in omega arith))))))
 took-field strs xs {i} {r} h e =
     after-inv (readNum 2 xs) _ e
-    (λ n s e1 e2. after-inv (readMany n s) _ e2
+    (λ n s e1 e2.
+    let u = cond-inv (leb n 16) _ R.TooManyElements e2 in
+    after-inv (readMany n s) _ (u .1)
     (λ l t e3 e4.
     let ei : strings l ≡ i = cc in
     let er : t ≡ r = cc in
     let p = took-num 2 xs h e1 in
     let q = took-many n s (p .rest) e3 in
-    rw (← ei, ← er, q .good .0) (took-then p q (λ a b. (refl, (a, b .1))))))
+    let few = leb-true n 16 (u .0) in
+    rw (← ei, ← er, q .good .0) (took-then p q (λ a b. (refl, (few, b .1))))))
 took-field quids xs {i} {r} h e =
     after-inv (readNum 2 xs) _ e
-    (λ n s e1 e2. after-inv (raw (13 * n) s) _ e2
+    (λ n s e1 e2.
+    let u = cond-inv (leb n 16) _ R.TooManyElements e2 in
+    after-inv (raw (13 * n) s) _ (u .1)
     (λ bs t e3 e4.
     let ei : qids n bs ≡ i = cc in
     let er : t ≡ r = cc in
     let p = took-num 2 xs h e1 in
     let q = took-raw (13 * n) s (p .rest) e3 in
-    rw (← ei, ← er) (took-then p q (λ a b. (refl, (a, b .0))))))
+    rw (← ei, ← er) (took-then p q (λ a b. (refl, (leb-true n 16 (u .0), b .0))))))
 
 pub took-fields : (fs : Layout) (xs : List ℕ) {is : List Item} {r : List ℕ} → Bytes xs → readFields fs xs ≡ ok is r
     → Took xs (itemsBytes is) r ((map kind is ≡ fs) × Goods is)

@@ -1,10 +1,10 @@
 -- The format as data: fields, layouts, items; how a layout is read, and how items are written.
-use Prim.Native.Nat.{ℕ, zero, suc, _+_, _*_, _^_, _<_}
+use Prim.Native.Nat.{ℕ, zero, suc, _+_, _*_, _^_, _≤_, _<_}
 use mathlib.Core.Path.{_≡_}
 use mathlib.Core.Bool.{cond}
 use mathlib.Core.List.{List, [], _∷_, _++_}
 use lib.ListN.{length}
-use lib.Dec.{leb, ltb}
+use lib.Dec.{leb}
 use Rattle.numbers.specs.Numbers.{toLE}
 use Rattle.numbers.specs.Reading.{Result, ok, bad, after, raw, readNum}
 use Rattle.numbers.specs.declared.Refusal.the-variants as R
@@ -42,9 +42,12 @@ kind (qids n bs) = quids
 
 -- ---- reading
 
--- a vector has at most as many elements as two bytes can count (F1.9)
+-- a walk has at most sixteen elements (F1.9); the count is checked before any of them (F4.11, F4.12)
+abbrev pub counted : {A : Type 0} → ℕ → Result A → Result A
+counted n m = cond (leb n 16) m (bad R.TooManyElements)
+
 abbrev pub okCount : ℕ → Result ℕ
-okCount n = cond (ltb 65535 n) (bad R.TableTooLong) (ok n [])
+okCount n = counted n (ok n [])
 
 -- how many bytes data may have that is read (F1.9)
 abbrev pub most : ℕ
@@ -55,13 +58,13 @@ unfoldable pub readMany : ℕ → List ℕ → Result (List (List ℕ))
 readMany zero xs = ok [] xs
 readMany (suc n) xs = after (readString xs) (λ b r. after (readMany n r) (λ bs s. ok (b ∷ bs) s))
 
--- a field by its kind (F4.8 to F4.12); data: count, limit, bytes
+-- a field by its kind (F4.8 to F4.12); data: count, limit, bytes; a vector: count, limit, elements
 unfoldable pub readField : Field → List ℕ → Result Item
 readField (num w) xs = after (readNum w xs) (λ n r. ok (number w n) r)
 readField str xs = after (readString xs) (λ bs r. ok (string bs) r)
 readField dat xs = after (readNum 4 xs) (λ n r. cond (leb n most) (after (raw n r) (λ bs s. ok (bytes bs) s)) (bad R.DataTooLong))
-readField strs xs = after (readNum 2 xs) (λ n r. after (readMany n r) (λ l s. ok (strings l) s))
-readField quids xs = after (readNum 2 xs) (λ n r. after (raw (13 * n) r) (λ bs s. ok (qids n bs) s))
+readField strs xs = after (readNum 2 xs) (λ n r. counted n (after (readMany n r) (λ l s. ok (strings l) s)))
+readField quids xs = after (readNum 2 xs) (λ n r. counted n (after (raw (13 * n) r) (λ bs s. ok (qids n bs) s)))
 
 -- fields in order; the first that fails answers (F4.2)
 unfoldable pub readFields : Layout → List ℕ → Result (List Item)
@@ -95,8 +98,8 @@ abbrev pub Good : Item → Type 0
 Good (number w n) = n < 256 ^ w
 Good (string bs) = GoodText bs
 Good (bytes bs) = length bs < suc most
-Good (strings l) = (length l < 65536) × AllGood l
-Good (qids n bs) = (n < 65536) × (length bs ≡ 13 * n)
+Good (strings l) = (length l ≤ 16) × AllGood l
+Good (qids n bs) = (n ≤ 16) × (length bs ≡ 13 * n)
 
 abbrev pub Goods : List Item → Type 0
 Goods [] = Unit {0}

@@ -9,7 +9,7 @@ use Rattle.numbers.specs.Refusals.{numberOf}
 use Rattle.numbers.specs.declared.Refusal.{Refusal}
 use Rattle.numbers.specs.declared.Refusal.the-variants as R
 use Rattle.strings.specs.Spans.{showSpan, showString}
-use Rattle.fields.specs.Layouts.{Field, num, str, dat, strs, quids, Layout, Item, number, string, bytes, strings, qids, readMany, manyBytes, itemBytes}
+use Rattle.fields.specs.Layouts.{Field, num, str, dat, strs, quids, Layout, Item, number, string, bytes, strings, qids, counted, readMany, manyBytes, itemBytes}
 
 -- a number; a span of the bytes, its start and length; a part of them with the count of its elements
 pub data Value : Type 0 where
@@ -53,6 +53,10 @@ places a (i ∷ is) = place a i ∷ places (a + length (itemBytes i)) is
 
 -- ---- what a value shows of the lent bytes, with the writer's refusals. The rest of an `ok` is not used, and is []
 
+-- the bytes of a vector's elements: the count first, then the span (F5.7)
+abbrev pub showPart : List ℕ → ℕ → ℕ → ℕ → Result (List ℕ)
+showPart lent n x y = counted n (showSpan lent x y)
+
 -- an element that the part cuts off is 14 (F5.7)
 abbrev pub cutOff : Refusal → Refusal
 cutOff k = cond (eqb (numberOf k) 1) R.PartMalformed k
@@ -69,9 +73,10 @@ show (num w) lent v = ok (number w (numOf v)) []
 show str lent v = after (showString lent (startOf v) (lenOf v)) (λ bs r. ok (string bs) r)
 show dat lent v = after (showSpan lent (startOf v) (lenOf v)) (λ bs r. ok (bytes bs) r)
 show strs lent v =
-    after (showSpan lent (startOf v) (lenOf v)) (λ bs r. after (wholePart (readMany (countOf v) bs)) (λ l s. ok (strings l) s))
+    after (showPart lent (countOf v) (startOf v) (lenOf v)) (λ bs r. after (wholePart (readMany (countOf v) bs)) (λ l s. ok (strings l) s))
 show quids lent v =
-    after (showSpan lent (startOf v) (lenOf v)) (λ bs r. cond (eqb (lenOf v) (13 * countOf v)) (ok (qids (countOf v) bs) r) (bad R.PartMalformed))
+    after (showPart lent (countOf v) (startOf v) (lenOf v))
+    (λ bs r. cond (eqb (lenOf v) (13 * countOf v)) (ok (qids (countOf v) bs) r) (bad R.PartMalformed))
 
 -- the first of the values, and the others
 abbrev pub firstOf : List Value → Value

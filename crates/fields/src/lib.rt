@@ -10,10 +10,9 @@ ghost use Prim.Native.Nat.{_+_, _≤_, _<_};
 ghost use mathlib.Core.Path.{_≡_};
 ghost use mathlib.Core.Bool.{true};
 ghost use lib.ListN.{length};
-ghost use Rattle.numbers.specs.Places.{NumRead};
 ghost use Rattle.fields.specs.Layouts.{dat, strs, quids};
 ghost use Rattle.fields.specs.Values.{span, part};
-ghost use Rattle.fields.specs.Fields.{FieldRead, CountCheck, ManyRead, Nowhere};
+ghost use Rattle.fields.specs.Fields.{FieldRead, CountCheck, CountRead, ManyRead, Nowhere};
 ghost use Rattle.fields.specs.Runs.{Plains, Run};
 
 // The elements of a vector: how many they are, and the part of the bytes that holds them.
@@ -102,22 +101,22 @@ fn plain_from(s: &[u8], i: usize) -> usize
     0
 }
 
-// The count of a vector, in bytes that are read or lent, in a table, or of one that an element is asked of: the place itself; or 8.
+// The count of a vector, in bytes that are read or lent, in a table, or of one that an element is asked of: the place itself; or 17.
 pub fn check_count(count: usize, p: Place) -> Place
     ensures { λ r. ⌜ CountCheck count p r ⌝ }
 {
     let Place::At(_) = p else {
         return p;
     };
-    if 65535 < count {
-        return Place::Refused(Refusal::TableTooLong);
+    if 16 < count {
+        return Place::Refused(Refusal::TooManyElements);
     }
     p
 }
 
-// A vector's count at a place. One of two bytes is never over the limit; the test is here for a limit that is lower.
+// A vector's count at a place: 1, then 17.
 fn read_count(s: &[u8], p: Place) -> Read16
-    ensures { λ r. ⌜ NumRead 2 (now (s .entry)) p (r .value) (r .next) ⌝ }
+    ensures { λ r. ⌜ CountRead (now (s .entry)) p (r .value) (r .next) ⌝ }
 {
     let count = numbers::read_u16(s, p);
     let after = count.next;

@@ -22,8 +22,8 @@ use Rattle.strings.specs.Spans.{showSpan, showString}
 use Rattle.strings.specs.SpanLaws.{span-inv, shown-length}
 use Rattle.fields.specs.Layouts.{Field, num, str, dat, strs, quids, Layout, Item, number, string, bytes, strings, qids, kind, most, readMany, itemsBytes, Good, Goods}
 use Rattle.fields.specs.LayoutLaws.{took-many}
-use Rattle.laying.specs.LayingLaws.{span-shown, whole-inv}
-use Rattle.fields.specs.Values.{Value, numOf, startOf, lenOf, countOf, wholePart, places, show, firstOf, othersOf, shows}
+use Rattle.laying.specs.LayingLaws.{span-shown, part-inv, whole-inv}
+use Rattle.fields.specs.Values.{Value, numOf, startOf, lenOf, countOf, showPart, wholePart, places, show, firstOf, othersOf, shows}
 use Rattle.fields.specs.ValueLaws.{shows-items}
 use Rattle.laying.specs.Laying.{limit}
 use Rattle.layouts.specs.Tables.{Row, lookup}
@@ -33,13 +33,13 @@ use Rattle.framing.specs.Writing.{headBytes, frameBytes, frameOut, frame
 use Rattle.framing.specs.WritingLaws.{head-length, put-fits, put-full, past-fits, frame-length}
 use Rattle.framing.specs.Accepted.{Stands, reads-frame}
 
--- what a typed record's values are: numbers that fit their fields, counts of two bytes; and, for reading back, data within the reading limit
+-- what a typed record's values are: numbers that fit their fields; and, for reading back, data within the reading limit
 abbrev pub FitsField : Field → Value → Type 0
 FitsField (num w) v = numOf v < 256 ^ w
 FitsField str v = Unit {0}
 FitsField dat v = lenOf v < suc most
-FitsField strs v = countOf v < 65536
-FitsField quids v = countOf v < 65536
+FitsField strs v = Unit {0}
+FitsField quids v = Unit {0}
 
 abbrev pub Readable : Layout → List Value → Type 0
 Readable [] vs = Unit {0}
@@ -74,22 +74,24 @@ shown-good dat lent v {i} b g e =
     after-inv (showSpan lent (startOf v) (lenOf v)) _ e
     (λ bs s e1 e2. let f : bytes bs ≡ i = cc e2 in let k = span-shown lent (startOf v) (lenOf v) e1 .1 in rw (← f) (refl, omega arith))
 shown-good strs lent v {i} b g e =
-    after-inv (showSpan lent (startOf v) (lenOf v)) _ e
+    after-inv (showPart lent (countOf v) (startOf v) (lenOf v)) _ e
     (λ bs s e1 e2. after-inv (wholePart (readMany (countOf v) bs)) _ e2
     (λ l t e3 e4. whole-inv (readMany (countOf v) bs) e3
     (λ e5.
-    let k = span-shown lent (startOf v) (lenOf v) e1 in
+    let c = part-inv lent (countOf v) (startOf v) (lenOf v) e1 in
+    let k = span-shown lent (startOf v) (lenOf v) (c .1) in
     let f : strings l ≡ i = cc e4 in
     let h = took-many (countOf v) bs (rw (k .2) (bytes-take (lenOf v) (drop (startOf v) lent) (bytes-drop (startOf v) lent b))) e5 in
-    rw (← f) (refl, (rw (h .good .0) g, h .good .1)))))
+    rw (← f) (refl, (rw (h .good .0) (c .0), h .good .1)))))
 shown-good quids lent v {i} b g e =
-    after-inv (showSpan lent (startOf v) (lenOf v)) _ e
+    after-inv (showPart lent (countOf v) (startOf v) (lenOf v)) _ e
     (λ bs s e1 e2.
-    let k = span-shown lent (startOf v) (lenOf v) e1 .1 in
+    let c = part-inv lent (countOf v) (startOf v) (lenOf v) e1 in
+    let k = span-shown lent (startOf v) (lenOf v) (c .1) .1 in
     let u = cond-inv (eqb (lenOf v) (13 * countOf v)) _ R.PartMalformed e2 in
     let d = u .1 in
     let f : qids (countOf v) bs ≡ i = cc d in
-    rw (← f) (refl, (g, k ∙ eqb-true (lenOf v) (13 * countOf v) (u .0))))
+    rw (← f) (refl, (c .0, k ∙ eqb-true (lenOf v) (13 * countOf v) (u .0))))
 
 pub shows-good : (fs : Layout) (lent : List ℕ) (vs : List Value) {is : List Item} {r : List ℕ} → Bytes lent → Readable fs vs → shows fs lent vs ≡ ok is r → (map kind is ≡ fs) × Goods is
 unfolding shows

@@ -8,20 +8,20 @@ use lib.Seq.{length-take-le}
 use borrow.Author.Tests.{eq-eqb, ne-eqb, lt-ltb, le-ltb, le-leb, lt-leb}
 use Rattle.numbers.specs.Numbers.{Bytes, toLE, length-toLE, bytes-take, bytes-drop}
 use Rattle.numbers.specs.Reading.{Result, ok, bad, after}
+use Rattle.numbers.specs.ReadingLaws.{or-else}
 use Rattle.numbers.specs.Places.{restAt}
 use Rattle.numbers.specs.declared.Refusal.{Refusal}
 use Rattle.numbers.specs.declared.Refusal.the-variants as R
 use Rattle.numbers.specs.declared.Place.{Place}
 use Rattle.numbers.specs.declared.Place.the-variants.{At, Refused}
 use Rattle.strings.specs.Spans.{showSpan, showString, checkAt, SpanCheck, StrCheck}
-use Rattle.strings.specs.SpanLaws.{first-refuses, passed, shown-length}
-use Rattle.fields.specs.Layouts.{Field, str, dat, strs, quids, Item, string, bytes, strings, readMany, manyBytes, itemBytes}
+use Rattle.strings.specs.SpanLaws.{first-refuses, passing, shown-length}
+use Rattle.fields.specs.Layouts.{Field, str, dat, strs, quids, Item, string, bytes, strings, okCount, readMany, manyBytes, itemBytes}
 use Rattle.fields.specs.LayoutLaws.{took-many}
-use Rattle.laying.specs.LayingLaws.{drop-take, Unless, after-count, advance-twice}
-use Rattle.fields.specs.Values.{Value, span, part, lenOf, cutOff, wholePart, show}
+use Rattle.laying.specs.LayingLaws.{drop-take, Unless, part-passed, after-count, advance-twice}
+use Rattle.fields.specs.Values.{Value, span, part, lenOf, cutOff, showPart, wholePart, show}
 use Rattle.fields.specs.Fields.{CountCheck, ManyRead}
-use Rattle.fields.specs.FieldLaws.{count-fits}
-use Rattle.laying.specs.Laying.{limit, advance, shownSize, checkField, headWidth, headOf, FieldMeasured, Advanced, ShowCheck, filledAt, Filled, Settled, Begun}
+use Rattle.laying.specs.Laying.{limit, advance, shownSize, checkField, headWidth, headOf, FieldMeasured, Advanced, PartCheck, ShowCheck, filledAt, Filled, Settled, Begun}
 
 -- ---- a place on
 
@@ -76,21 +76,21 @@ module _ {lent : List ℕ} {x y : ℕ} {p q : Place} where
   unfolding show
   dat-check c = record { is = c .is ∙ checked-map bytes (showSpan lent x y) p }
 
-  pub quids-outside : {n : ℕ} {k : Refusal} → SpanCheck lent x y p q → q ≡ Refused k → ShowCheck quids lent (part n x y) p q
+  pub quids-outside : {n : ℕ} {k : Refusal} → PartCheck lent n x y p q → q ≡ Refused k → ShowCheck quids lent (part n x y) p q
   unfolding show
-  quids-outside c e = record { is = e ∙ sym (first-refuses (showSpan lent x y) _ p (sym (c .is) ∙ e)) }
+  quids-outside {n} c e = record { is = e ∙ sym (first-refuses (showPart lent n x y) _ p (sym (c .is) ∙ e)) }
 
-  pub quids-fine : {n a : ℕ} → SpanCheck lent x y p q → q ≡ At a → y ≡ 13 * n → ShowCheck quids lent (part n x y) p q
+  pub quids-fine : {n a : ℕ} → PartCheck lent n x y p q → q ≡ At a → y ≡ 13 * n → ShowCheck quids lent (part n x y) p q
   unfolding show
-  quids-fine {n} c e h = let k = passed c e in record { is = e ∙ rw (k .place, k .shows, eq-eqb y (13 * n) h) }
+  quids-fine {n} c e h = let k = part-passed c e in record { is = e ∙ rw (k .place, k .shows, eq-eqb y (13 * n) h) }
 
-  pub quids-malformed : {n a : ℕ} → SpanCheck lent x y p q → q ≡ At a → (y ≡ 13 * n → ⊥) → ShowCheck quids lent (part n x y) p (Refused R.PartMalformed)
+  pub quids-malformed : {n a : ℕ} → PartCheck lent n x y p q → q ≡ At a → (y ≡ 13 * n → ⊥) → ShowCheck quids lent (part n x y) p (Refused R.PartMalformed)
   unfolding show
-  quids-malformed {n} c e h = let k = passed c e in record { is = rw (k .place, k .shows, ne-eqb y (13 * n) h) }
+  quids-malformed {n} c e h = let k = part-passed c e in record { is = rw (k .place, k .shows, ne-eqb y (13 * n) h) }
 
-  pub strs-outside : {n : ℕ} {k : Refusal} → SpanCheck lent x y p q → q ≡ Refused k → ShowCheck strs lent (part n x y) p q
+  pub strs-outside : {n : ℕ} {k : Refusal} → PartCheck lent n x y p q → q ≡ Refused k → ShowCheck strs lent (part n x y) p q
   unfolding show
-  strs-outside c e = record { is = e ∙ sym (first-refuses (showSpan lent x y) _ p (sym (c .is) ∙ e)) }
+  strs-outside {n} c e = record { is = e ∙ sym (first-refuses (showPart lent n x y) _ p (sym (c .is) ∙ e)) }
 
 -- the scan's end tells whether the strings fill the part
 fills : (n a stop : ℕ) (bs : List ℕ) → length bs ≤ stop → Bytes bs → (m : Result (List (List ℕ))) → readMany n bs ≡ m
@@ -102,20 +102,30 @@ fills n a stop bs g b (ok l (y ∷ r)) e =
     let h : length bs ≡ length (manyBytes l) + suc (length r) = ap length (t .whole) ∙ length-append (manyBytes l) (y ∷ r) in
     rw (ne-eqb (stop - suc (length r)) stop (λ z. omega arith))
 
-pub strs-scanned : {lent : List ℕ} {n x y a : ℕ} {p q e r : Place} → Bytes lent → SpanCheck lent x y p q → q ≡ At a → ManyRead n (take (x + y) lent) x e → Filled e (x + y) q r
+pub strs-scanned : {lent : List ℕ} {n x y a : ℕ} {p q e r : Place} → Bytes lent → PartCheck lent n x y p q → q ≡ At a → ManyRead n (take (x + y) lent) x e → Filled e (x + y) q r
     → ShowCheck strs lent (part n x y) p r
 unfolding show
 strs-scanned {lent} {n} {x} {y} {a} b c h m f =
-    let k = passed c h in
+    let k = part-passed c h in
     let i : drop x (take (x + y) lent) ≡ take y (drop x lent) = drop-take x y lent in
     let l : length (take (x + y) lent) ≡ x + y = length-take-le (x + y) lent (k .lies) in
     let z = shown-length lent x y (k .lies) in
     let g = rw (m .next, h, l, i) at (f .is) in
     record { is = g ∙ fills n a (x + y) (take y (drop x lent)) (omega arith) (bytes-take y (drop x lent) (bytes-drop x lent b)) (readMany n (take y (drop x lent))) refl ∙ rw (k .place, k .shows) }
 
--- the count of a part, which two bytes hold, refuses none
-pub part-check : {lent : List ℕ} {n x y : ℕ} {p q r : Place} → n ≤ 65535 → CountCheck n p q → SpanCheck lent x y q r → SpanCheck lent x y p r
-part-check h c s = rw (count-fits h c) at s
+-- the count's check and the span's are the part's
+pub part-check : {lent : List ℕ} {n x y : ℕ} {p q r : Place} → CountCheck n p q → SpanCheck lent x y q r → PartCheck lent n x y p r
+part-check {lent} {n} {x} {y} {p} c s = record { is = s .is ∙ ap (checkAt (showSpan lent x y)) (c .is) ∙ go }
+  where
+    stays : (k : Refusal) (m : Result (List ℕ)) (z : Place) → checkAt m (checkAt {A = ℕ} (bad k) z) ≡ checkAt {A = List ℕ} (bad k) z
+    stays k m (At a) = refl
+    stays k m (Refused j) = refl
+
+    go : checkAt (showSpan lent x y) (checkAt (okCount n) p) ≡ checkAt (showPart lent n x y) p
+    go =
+        or-else n 16
+        (λ h. rw (le-leb n 16 h, passing n [] p))
+        (λ h. rw (lt-leb n 16 h) (stays R.TooManyElements (showSpan lent x y) p))
 
 -- ---- where a scan ends
 

@@ -19,14 +19,14 @@ use Rattle.numbers.specs.declared.Place.{Place}
 use Rattle.numbers.specs.declared.Place.the-variants.{At, Refused}
 use Rattle.strings.specs.Strings.{readString, stringBytes, GoodText}
 use Rattle.strings.specs.StringLaws.{reads-string}
-use Rattle.strings.specs.Spans.{showSpan, checkAt, SpanCheck, strStart, strLen, StrRead}
-use Rattle.strings.specs.SpanLaws.{first-refuses, passed, check-inv, shown-in, span-inv}
+use Rattle.strings.specs.Spans.{showSpan, checkAt, strStart, strLen, StrRead}
+use Rattle.strings.specs.SpanLaws.{first-refuses, check-inv, shown-in, span-inv}
 use Rattle.fields.specs.Layouts.{Field, strs, quids, Item, strings, qids, readMany, manyBytes, AllGood}
 use Rattle.fields.specs.LayoutLaws.{took-many}
-use Rattle.laying.specs.LayingLaws.{drop-take, span-shown, whole-inv}
-use Rattle.fields.specs.Values.{Value, span, part, startOf, lenOf, countOf, wholePart, show}
+use Rattle.laying.specs.LayingLaws.{drop-take, span-shown, part-inv, part-passed, whole-inv}
+use Rattle.fields.specs.Values.{Value, span, part, startOf, lenOf, countOf, showPart, wholePart, show}
 use Rattle.fields.specs.Fields.{ManyRead}
-use Rattle.laying.specs.Laying.{ShowCheck}
+use Rattle.laying.specs.Laying.{PartCheck, ShowCheck}
 use Rattle.laying.specs.Elements.{elementIn, askedFor, elementAt, viewElement, ElementAsked}
 use Rattle.laying.specs.declared.elements.Element.{Element as Answer}
 use Rattle.laying.specs.declared.elements.Element.the-variants as E
@@ -43,20 +43,20 @@ element-one (E.Refused k) (E.Refused j) e f = let g = one-answer e f in let h : 
 element-one (E.Found s) (E.Refused k) e f = absurd (let g = one-answer e f in let z : _≡_ {A = ℕ} 0 1 = cc g in omega arith)
 element-one (E.Refused k) (E.Found s) e f = absurd (let g = one-answer e f in let z : _≡_ {A = ℕ} 0 1 = cc g in omega arith)
 
--- ---- 9, then 15
+-- ---- 17, then 9, then 15
 
 module _ {lent : List ℕ} {c x y i : ℕ} {q : Place} where
-  pub asked-outside : {k : Refusal} → SpanCheck lent x y (At 0) q → q ≡ Refused k → ElementAsked lent (part c x y) i q
+  pub asked-outside : {k : Refusal} → PartCheck lent c x y (At 0) q → q ≡ Refused k → ElementAsked lent (part c x y) i q
   unfolding askedFor
-  asked-outside s e = record { is = e ∙ sym (first-refuses (showSpan lent x y) _ (At 0) (sym (s .is) ∙ e)) }
+  asked-outside s e = record { is = e ∙ sym (first-refuses (showPart lent c x y) _ (At 0) (sym (s .is) ∙ e)) }
 
-  pub asked-below : {a : ℕ} → SpanCheck lent x y (At 0) q → q ≡ At a → i < c → ElementAsked lent (part c x y) i q
+  pub asked-below : {a : ℕ} → PartCheck lent c x y (At 0) q → q ≡ At a → i < c → ElementAsked lent (part c x y) i q
   unfolding askedFor
-  asked-below s e h = let p = passed s e in record { is = e ∙ sym (p .place) ∙ rw (p .shows, lt-ltb i c h) }
+  asked-below s e h = let p = part-passed s e in record { is = e ∙ sym (p .place) ∙ rw (p .shows, lt-ltb i c h) }
 
-  pub asked-past : {a : ℕ} → SpanCheck lent x y (At 0) q → q ≡ At a → c ≤ i → ElementAsked lent (part c x y) i (Refused R.NoSuchElement)
+  pub asked-past : {a : ℕ} → PartCheck lent c x y (At 0) q → q ≡ At a → c ≤ i → ElementAsked lent (part c x y) i (Refused R.NoSuchElement)
   unfolding askedFor
-  asked-past s e h = let p = passed s e in record { is = rw (p .shows, le-ltb i c h) }
+  asked-past s e h = let p = part-passed s e in record { is = rw (p .shows, le-ltb i c h) }
 
 -- ---- any vector
 
@@ -81,7 +81,7 @@ pub record Element (f : Field) (lent : List ℕ) (v : Value) (i : ℕ) : Type 0 
 pub asked-inv : (lent : List ℕ) (v : Value) (i : ℕ) {bs r : List ℕ} → askedFor lent v i ≡ ok bs r → i < countOf v
 unfolding askedFor
 asked-inv lent v i e =
-    after-inv (showSpan lent (startOf v) (lenOf v)) _ e (λ cs s e1 e2. ltb-true i (countOf v) (cond-inv (ltb i (countOf v)) _ R.NoSuchElement e2 .0))
+    after-inv (showPart lent (countOf v) (startOf v) (lenOf v)) _ e (λ cs s e1 e2. ltb-true i (countOf v) (cond-inv (ltb i (countOf v)) _ R.NoSuchElement e2 .0))
 
 pub element : {f : Field} {lent : List ℕ} {v : Value} {i a : ℕ} {p q : Place} → ElementAsked lent v i p → ShowCheck f lent v p q → q ≡ At a → Element f lent v i
 unfolding elementAt
@@ -93,7 +93,7 @@ element {f} {lent} {v} {i} {a} {p} n s e =
 -- its part lies among the lent bytes
 pub element-lies : {lent : List ℕ} {c x y i : ℕ} → Element strs lent (part c x y) i → x + y ≤ length lent
 unfolding show
-element-lies {lent} {c} {x} {y} l = after-inv (showSpan lent x y) _ (l .shows) (λ bs s e1 e2. span-inv lent x y e1)
+element-lies {lent} {c} {x} {y} l = after-inv (showPart lent c x y) _ (l .shows) (λ bs s e1 e2. span-inv lent x y (part-inv lent c x y e1 .1))
 
 -- ---- qids
 
@@ -105,11 +105,11 @@ pub record Qid (lent : List ℕ) (c x y i : ℕ) : Type 0 where
 pub qid-found : {lent : List ℕ} {c x y i : ℕ} → Element quids lent (part c x y) i → Qid lent c x y i
 unfolding show
 qid-found {lent} {c} {x} {y} {i} l =
-    after-inv (showSpan lent x y) _ (l .shows)
+    after-inv (showPart lent c x y) _ (l .shows)
     (λ bs s e1 e2.
     let u = cond-inv (eqb y (13 * c)) _ R.PartMalformed e2 in
     let f : qids c bs ≡ l .item = (let g = u .1 in cc g) in
-    let h = span-inv lent x y e1 in
+    let h = span-inv lent x y (part-inv lent c x y e1 .1) in
     let n = eqb-true y (13 * c) (u .0) in
     let b = l .below in
     record { lies = omega arith; is = sym (l .is ∙ ap (λ it. ok (elementIn x i it) []) (sym f)) })
@@ -151,15 +151,16 @@ record Names (lent : List ℕ) (c x y : ℕ) (it : Item) : Type 0 where
 names-in : {lent : List ℕ} {c x y : ℕ} {it : Item} {r : List ℕ} → Bytes lent → show strs lent (part c x y) ≡ ok it r → Names lent c x y it
 unfolding show
 names-in {lent} {c} {x} {y} {it} b e =
-    after-inv (showSpan lent x y) _ e
+    after-inv (showPart lent c x y) _ e
     (λ bs s e1 e2. after-inv (wholePart (readMany c bs)) _ e2
     (λ l t e3 e4. whole-inv (readMany c bs) e3
     (λ e5.
-    let k = span-shown lent x y e1 in
+    let i = part-inv lent c x y e1 .1 in
+    let k = span-shown lent x y i in
     let f : it ≡ strings l = cc e4 in
     let h = took-many c bs (rw (k .2) (bytes-take y (drop x lent) (bytes-drop x lent b))) e5 in
     let m : bs ≡ manyBytes l = h .whole ∙ append-nil (manyBytes l) in
-    record { names = l; bytes = k .0 ∙ ap (λ z. ok z []) m; size = ap length (sym m) ∙ k .1; lies = span-inv lent x y e1; item = f; count = h .good .0; good = h .good .1 })))
+    record { names = l; bytes = k .0 ∙ ap (λ z. ok z []) m; size = ap length (sym m) ∙ k .1; lies = span-inv lent x y i; item = f; count = h .good .0; good = h .good .1 })))
 
 pub name-found : {lent : List ℕ} {c x y i sx sy : ℕ} {p q : Place} → Bytes lent → Element strs lent (part c x y) i → ManyRead i (take (x + y) lent) x p
     → StrRead (take (x + y) lent) p sx sy q → ok (span sx sy) [] ≡ elementAt strs lent (part c x y) i

@@ -13,7 +13,7 @@ use Rattle.numbers.specs.declared.Place.{Place}
 use Rattle.numbers.specs.declared.Place.the-variants.{At, Refused}
 use Rattle.strings.specs.Spans.{bytesIn, showSpan, checkAt}
 use Rattle.fields.specs.Layouts.{Field, num, str, dat, strs, quids, Layout, Item, itemBytes, itemsBytes}
-use Rattle.fields.specs.Values.{Value, numOf, startOf, lenOf, countOf, cutOff, show, firstOf, othersOf, shows}
+use Rattle.fields.specs.Values.{Value, numOf, startOf, lenOf, countOf, cutOff, showPart, show, firstOf, othersOf, shows}
 
 -- ---- measuring
 
@@ -114,6 +114,10 @@ pub record Advanced (n : ℕ) (p q : Place) : Type 0 where
 -- the check of a value that is to be written: the place itself, or the refusal
 pub record ShowCheck (f : Field) (lent : List ℕ) (v : Value) (p q : Place) : Type 0 where
   pub is : q ≡ checkAt (show f lent v) p
+
+-- the check of a part, before its elements are looked at: 17, 9
+pub record PartCheck (lent : List ℕ) (n x y : ℕ) (p q : Place) : Type 0 where
+  pub is : q ≡ checkAt (showPart lent n x y) p
 
 -- where the scan of a part of n bytes has ended: at its end, or it is malformed
 abbrev pub filledAt : Place → ℕ → Place → Place

@@ -5,8 +5,8 @@ use mathlib.Core.Path.{_≡_, refl, sym, ap, ap₂, _∙_}
 use mathlib.Core.List.{List, [], _∷_, _++_, append-nil}
 use lib.ListN.{length, take, drop, length-append, take-append-drop}
 use lib.Seq.{take-nil}
-use lib.Dec.{eqb}
-use borrow.Author.Tests.{le-leb}
+use lib.Dec.{eqb, leb}
+use borrow.Author.Tests.{le-leb, leb-true}
 use Rattle.numbers.specs.Numbers.{Bytes, toLE, length-toLE, bytes-take, bytes-drop}
 use Rattle.numbers.specs.Reading.{Result, ok, bad}
 use Rattle.numbers.specs.ReadingLaws.{after-inv, cond-inv}
@@ -17,11 +17,11 @@ use Rattle.numbers.specs.declared.Place.{Place}
 use Rattle.numbers.specs.declared.Place.the-variants.{At, Refused}
 use Rattle.strings.specs.Strings.{stringBytes}
 use Rattle.strings.specs.Spans.{showSpan, showString, SpanPut}
-use Rattle.strings.specs.SpanLaws.{shown-in, shown-length, span-inv, string-inv, passing}
+use Rattle.strings.specs.SpanLaws.{check-inv, shown-in, shown-length, span-inv, string-inv, passing}
 use Rattle.fields.specs.Layouts.{Field, num, str, dat, strs, quids, Layout, q, Item, number, string, bytes, strings, qids, readMany, manyBytes, itemBytes, itemsBytes}
 use Rattle.fields.specs.LayoutLaws.{took-many}
-use Rattle.fields.specs.Values.{Value, val, numOf, startOf, lenOf, countOf, wholePart, show, firstOf, othersOf, shows}
-use Rattle.laying.specs.Laying.{advance, checkField, checkFields, headWidth, headOf, countedField, pastCounted, putField, pastPutField, putFields, pastPutFields, FieldMeasured, Measured, PutAll, Advanced}
+use Rattle.fields.specs.Values.{Value, val, numOf, startOf, lenOf, countOf, showPart, wholePart, show, firstOf, othersOf, shows}
+use Rattle.laying.specs.Laying.{advance, checkField, checkFields, headWidth, headOf, countedField, pastCounted, putField, pastPutField, putFields, pastPutFields, FieldMeasured, Measured, PutAll, Advanced, PartCheck}
 
 -- a part of the bytes up to its end
 pub drop-take : (k n : ℕ) (s : List ℕ) → drop k (take (k + n) s) ≡ take n (drop k s)
@@ -129,6 +129,27 @@ span-shown lent x y {bs} {r} e =
     let f : bs ≡ take y (drop x lent) = cc d in
     (g ∙ ap (λ z. ok z []) (sym f), rw f (shown-length lent x y h), f)
 
+-- a part that is shown has few elements, and the bytes of its span
+pub part-inv : (lent : List ℕ) (n x y : ℕ) {bs r : List ℕ} → showPart lent n x y ≡ ok bs r → (n ≤ 16) × (showSpan lent x y ≡ ok bs r)
+part-inv lent n x y e = let u = cond-inv (leb n 16) (showSpan lent x y) R.TooManyElements e in (leb-true n 16 (u .0), u .1)
+
+-- what is known of one that passed
+pub record PartPassed (lent : List ℕ) (n x y : ℕ) (p : Place) (a : ℕ) : Type 0 where
+  pub place : p ≡ At a
+  pub lies : x + y ≤ length lent
+  pub shows : showPart lent n x y ≡ ok (take y (drop x lent)) []
+
+pub part-passed : {lent : List ℕ} {n x y a : ℕ} {p q : Place} → PartCheck lent n x y p q → q ≡ At a → PartPassed lent n x y p a
+part-passed {lent} {n} {x} {y} {a} {p} c e =
+    check-inv (showPart lent n x y) p (sym (c .is) ∙ e)
+    (λ bs r f g.
+    let i = part-inv lent n x y f .1 in
+    let h = span-inv lent x y i in
+    record { place = g; lies = h; shows = f ∙ sym i ∙ shown-in lent x y h })
+
+pub part-lies : {lent : List ℕ} {n x y a : ℕ} {p q : Place} → PartCheck lent n x y p q → q ≡ At a → x + y ≤ length lent
+part-lies c e = part-passed c e .lies
+
 pub whole-inv : {A X : Type 0} (m : Result A) {a : A} {r : List ℕ} → wholePart m ≡ ok a r → (m ≡ ok a [] → X) → X
 whole-inv (ok a []) {a = b} e f = f (let g : a ≡ b = cc e in ap (λ x. ok x []) g)
 whole-inv (ok a (x ∷ r)) e f = absurd (let z : _≡_ {A = ℕ} 0 1 = cc e in omega arith)
@@ -157,19 +178,19 @@ after-count dat lent v {i} u b e =
     let f : bytes bs ≡ i = cc e2 in
     rw (← f) (record { tail = bs; shows = k .0; size = k .1; item = ap (λ n. toLE 4 n ++ bs) (k .1) }))
 after-count strs lent v {i} u b e =
-    after-inv (showSpan lent (startOf v) (lenOf v)) _ e
+    after-inv (showPart lent (countOf v) (startOf v) (lenOf v)) _ e
     (λ bs s e1 e2. after-inv (wholePart (readMany (countOf v) bs)) _ e2
     (λ l t e3 e4. whole-inv (readMany (countOf v) bs) e3
     (λ e5.
-    let k = span-shown lent (startOf v) (lenOf v) e1 in
+    let k = span-shown lent (startOf v) (lenOf v) (part-inv lent (countOf v) (startOf v) (lenOf v) e1 .1) in
     let f : strings l ≡ i = cc e4 in
     let h = took-many (countOf v) bs (rw (k .2) (bytes-take (lenOf v) (drop (startOf v) lent) (bytes-drop (startOf v) lent b))) e5 in
     let m : manyBytes l ≡ bs = sym (h .whole ∙ append-nil (manyBytes l)) in
     rw (← f) (record { tail = bs; shows = k .0; size = k .1; item = ap₂ (λ n z. toLE 2 n ++ z) (h .good .0) m }))))
 after-count quids lent v {i} u b e =
-    after-inv (showSpan lent (startOf v) (lenOf v)) _ e
+    after-inv (showPart lent (countOf v) (startOf v) (lenOf v)) _ e
     (λ bs s e1 e2.
-    let k = span-shown lent (startOf v) (lenOf v) e1 in
+    let k = span-shown lent (startOf v) (lenOf v) (part-inv lent (countOf v) (startOf v) (lenOf v) e1 .1) in
     let g = cond-inv (eqb (lenOf v) (13 * countOf v)) _ R.PartMalformed e2 .1 in
     let f : qids (countOf v) bs ≡ i = cc g in
     rw (← f) (record { tail = bs; shows = k .0; size = k .1; item = refl }))

@@ -15,7 +15,7 @@ pub enum Element {
     Refused(Refusal),
 }
 
-// What comes before the elements are looked at: 9, then 15.
+// What comes before the elements are looked at: 17, then 9, then 15.
 fn asked(lent: &[u8], v: Part, i: usize) -> Place
     ensures { λ r. ⌜ ElementAsked (now (lent .entry)) (part (v .count) (v .elements .start) (v .elements .len)) i r ⌝ }
 {
@@ -29,7 +29,7 @@ fn asked(lent: &[u8], v: Part, i: usize) -> Place
     Place::Refused(Refusal::NoSuchElement)
 }
 
-// Name `i` of a vector of strings, without its count: 9, then 15, then the whole part as the writer checks it.
+// Name `i` of a vector of strings, without its count: 17, then 9, then 15, then the whole part as the writer checks it.
 pub fn name_at(lent: &[u8], v: Part, i: usize) -> Element
     ensures { λ r. ⌜ viewElement r ≡ elementAt strs (now (lent .entry)) (part (v .count) (v .elements .start) (v .elements .len)) i ⌝ }
 {
@@ -49,7 +49,7 @@ pub fn name_at(lent: &[u8], v: Part, i: usize) -> Element
     }
 }
 
-// Qid `i` of a vector of qids, whole: 9, then 15, then 14 unless the part is 13 bytes for each.
+// Qid `i` of a vector of qids, whole: 17, then 9, then 15, then 14 unless the part is 13 bytes for each.
 pub fn qid_at(lent: &[u8], v: Part, i: usize) -> Element
     ensures { λ r. ⌜ viewElement r ≡ elementAt quids (now (lent .entry)) (part (v .count) (v .elements .start) (v .elements .len)) i ⌝ }
 {

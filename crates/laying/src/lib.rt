@@ -9,10 +9,9 @@ use numbers::Refusal;
 use strings::Span;
 ghost use mathlib.Core.Path.{_≡_};
 ghost use mathlib.Core.List.{[], _∷_};
-ghost use Rattle.strings.specs.Spans.{SpanCheck};
 ghost use Rattle.fields.specs.Layouts.{str, dat, strs, quids};
 ghost use Rattle.fields.specs.Values.{span, part, cutOff};
-ghost use Rattle.laying.specs.Laying.{Advanced, FieldMeasured, ShowCheck, Filled, Settled, Begun, Written};
+ghost use Rattle.laying.specs.Laying.{Advanced, FieldMeasured, PartCheck, ShowCheck, Filled, Settled, Begun, Written};
 
 // The place `n` bytes on; past the largest frame every place is the limit, so that no sum wraps.
 pub fn advanced(p: Place, n: usize) -> Place
@@ -71,16 +70,16 @@ fn cut_off(k: Refusal) -> Refusal
     k
 }
 
-// The part that a vector is written from, or asked for an element: its count first, which two bytes hold; then 9.
+// The part that a vector is written from, or asked for an element: 17, then 9.
 fn check_part(lent: &[u8], v: Part, p: Place) -> Place
-    ensures { λ r. ⌜ SpanCheck (now (lent .entry)) (v .elements .start) (v .elements .len) p r ⌝ }
+    ensures { λ r. ⌜ PartCheck (now (lent .entry)) (v .count) (v .elements .start) (v .elements .len) p r ⌝ }
 {
     let q = fields::check_count(v.count as usize, p);
     let elements = v.elements;
     strings::check_span(lent, elements, q)
 }
 
-// The elements of a vector of strings that is to be written: the place itself; or 9, then the first failing one's 14, 5 or 6, then 14.
+// The elements of a vector of strings that is to be written: the place itself; or 17, then 9, then the first failing one's 14, 5 or 6, then 14.
 pub fn check_names(lent: &[u8], v: Part, p: Place) -> Place
     ensures { λ r. ⌜ ShowCheck strs (now (lent .entry)) (part (v .count) (v .elements .start) (v .elements .len)) p r ⌝ }
 {
@@ -95,7 +94,7 @@ pub fn check_names(lent: &[u8], v: Part, p: Place) -> Place
     filled(end, stop, q)
 }
 
-// The elements of a vector of qids that is to be written: the place itself; or 9, then 14 unless they are 13 bytes each.
+// The elements of a vector of qids that is to be written: the place itself; or 17, then 9, then 14 unless they are 13 bytes each.
 pub fn check_qids(lent: &[u8], v: Part, p: Place) -> Place
     ensures { λ r. ⌜ ShowCheck quids (now (lent .entry)) (part (v .count) (v .elements .start) (v .elements .len)) p r ⌝ }
 {

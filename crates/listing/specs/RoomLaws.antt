@@ -62,6 +62,7 @@ number-most R.StretchSize = lit< tt
 number-most R.PartMalformed = lit< tt
 number-most R.NoSuchElement = lit< tt
 number-most R.HoldsRefusal = lit< tt
+number-most R.TooManyElements = lit< tt
 
 answer-most : (a : Answer) → answerNumber a < 10 ^ 2
 answer-most (accepted ty vs used) = lit< tt

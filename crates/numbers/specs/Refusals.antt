@@ -23,12 +23,13 @@ numberOf R.StretchSize = 13
 numberOf R.PartMalformed = 14
 numberOf R.NoSuchElement = 15
 numberOf R.HoldsRefusal = 16
+numberOf R.TooManyElements = 17
 
 -- ---- no two have one number, so that a promise which fixes the refusal fixes its number, and the other way round
 
 -- in the order of their numbers, from 0 on; there is no refusal 0
 abbrev byNumber : List Refusal
-byNumber = R.Short ∷ R.Short ∷ R.SizeBelowFour ∷ R.UnknownType ∷ R.DataTooLong ∷ R.NotUtf8 ∷ R.ZeroByte ∷ R.StringTooLong ∷ R.TableTooLong ∷ R.SpanOutside ∷ R.FrameTooLong ∷ R.NoRoom ∷ R.StretchCut ∷ R.StretchSize ∷ R.PartMalformed ∷ R.NoSuchElement ∷ R.HoldsRefusal ∷ []
+byNumber = R.Short ∷ R.Short ∷ R.SizeBelowFour ∷ R.UnknownType ∷ R.DataTooLong ∷ R.NotUtf8 ∷ R.ZeroByte ∷ R.StringTooLong ∷ R.TableTooLong ∷ R.SpanOutside ∷ R.FrameTooLong ∷ R.NoRoom ∷ R.StretchCut ∷ R.StretchSize ∷ R.PartMalformed ∷ R.NoSuchElement ∷ R.HoldsRefusal ∷ R.TooManyElements ∷ []
 
 there : (k : Refusal) → getD byNumber (numberOf k) R.Short ≡ k
 there R.Short = refl
@@ -47,6 +48,7 @@ there R.StretchSize = refl
 there R.PartMalformed = refl
 there R.NoSuchElement = refl
 there R.HoldsRefusal = refl
+there R.TooManyElements = refl
 
 pub number-one : {j k : Refusal} → numberOf j ≡ numberOf k → j ≡ k
 number-one {j} {k} e = sym (there j) ∙ ap (λ n. getD byNumber n R.Short) e ∙ there k

@@ -25,6 +25,7 @@ pub enum Refusal {
     PartMalformed,
     NoSuchElement,
     HoldsRefusal,
+    TooManyElements,
 }
 
 // The refusal's number (F9).
@@ -48,6 +49,7 @@ pub fn number(k: Refusal) -> u8
         Refusal::PartMalformed => 14,
         Refusal::NoSuchElement => 15,
         Refusal::HoldsRefusal => 16,
+        Refusal::TooManyElements => 17,
     }
 }
 

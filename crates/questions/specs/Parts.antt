@@ -28,7 +28,7 @@ pub record LineHeld (line : List ℕ) (n : ℕ) : Type 0 where
 
 -- the refusal that has the number n, or the nearest that one has
 pub record Numbered (n : ℕ) (k : Refusal) : Type 0 where
-  pub is : numberOf k ≡ max 1 (min n 16)
+  pub is : numberOf k ≡ max 1 (min n 17)
 
 -- a position; refused by the number, where it is marked
 abbrev pub Places : ℕ → Bool → Place → Type 0

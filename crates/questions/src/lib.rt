@@ -279,8 +279,8 @@ pub fn read(line: &[u8], bytes: &mut [u8]) -> Question
 fn refusal(n: u64) -> Refusal
     ensures { λ r. ⌜ Numbered n r ⌝ }
 {
-    if 15 < n {
-        return Refusal::HoldsRefusal;
+    if 16 < n {
+        return Refusal::TooManyElements;
     }
     match n {
         2 => Refusal::SizeBelowFour,
@@ -297,6 +297,7 @@ fn refusal(n: u64) -> Refusal
         13 => Refusal::StretchSize,
         14 => Refusal::PartMalformed,
         15 => Refusal::NoSuchElement,
+        16 => Refusal::HoldsRefusal,
         _ => Refusal::Short,
     }
 }

@@ -16,7 +16,7 @@ pub request-fits : (m : Tmessage) → WT (loweredT m) → Limited (layoutT m) (v
 unfolding layoutT valuesT
 request-fits (M.Version m) g l = (g .1 .0 .0 .fits, (tt, tt))
 request-fits (M.Flush m) g l = (g .1 .0 .0 .0 .fits, tt)
-request-fits (M.Walk m) g l = (g .1 .0 .0 .0 .fits, (g .1 .0 .1 .0 .0 .fits, (g .1 .0 .1 .1 .0 .0 .fits, tt)))
+request-fits (M.Walk m) g l = (g .1 .0 .0 .0 .fits, (g .1 .0 .1 .0 .0 .fits, (tt, tt)))
 request-fits (M.Read m) g l = (g .1 .0 .0 .0 .fits, (g .1 .0 .1 .0 .fits, (g .1 .0 .1 .1 .0 .fits, tt)))
 request-fits (M.Write m) g l = (g .1 .0 .0 .0 .fits, (g .1 .0 .1 .0 .fits, (l .1 .1 .0, tt)))
 request-fits (M.Clunk m) g l = (g .1 .0 .0 .0 .fits, tt)
@@ -47,7 +47,7 @@ pub reply-fits : (m : Rmessage) → WT (loweredR m) → Limited (layoutR m) (val
 unfolding layoutR valuesR
 reply-fits (Q.Version m) g l = (g .1 .0 .0 .fits, (tt, tt))
 reply-fits Q.Flush g l = tt
-reply-fits (Q.Walk m) g l = (g .1 .0 .0 .0 .fits, tt)
+reply-fits (Q.Walk m) g l = (tt, tt)
 reply-fits (Q.Read m) g l = (l .0, tt)
 reply-fits (Q.Write m) g l = (g .1 .0 .0 .fits, tt)
 reply-fits Q.Clunk g l = tt

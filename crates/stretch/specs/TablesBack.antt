@@ -7,7 +7,7 @@ use mathlib.Core.List.{List, [], _∷_, _++_, map, append-assoc, append-nil}
 use mathlib.Core.Option.{some}
 use lib.ListN.{length, drop, getD, length-append}
 use lib.Dec.{ltb, lit<}
-use borrow.Author.Tests.{lt-ltb, le-ltb}
+use borrow.Author.Tests.{lt-leb, le-leb}
 use Rattle.numbers.specs.Numbers.{Bytes, toLE, length-toLE}
 use Rattle.numbers.specs.Reading.{Result, ok, bad, after}
 use Rattle.numbers.specs.ReadingLaws.{or-else, after-inv}
@@ -15,7 +15,7 @@ use Rattle.numbers.specs.declared.Refusal.the-variants as R
 use Rattle.numbers.specs.declared.Place.the-variants.{At}
 use Rattle.strings.specs.Strings.{stringBytes}
 use Rattle.strings.specs.Spans.{showString}
-use Rattle.fields.specs.Layouts.{num, Item, number, string, strings, qids, kind, readFields, manyBytes, itemBytes, itemsBytes, AllGood, Goods}
+use Rattle.fields.specs.Layouts.{num, Item, number, string, strings, qids, kind, counted, readFields, manyBytes, itemBytes, itemsBytes, AllGood, Goods}
 use Rattle.fields.specs.LayoutLaws.{reads-fields}
 use Rattle.fields.specs.Values.{val, span, places, show, shows}
 use Rattle.fields.specs.ValueLaws.{shows-items}
@@ -25,18 +25,18 @@ use Rattle.layouts.specs.declared.qids.Qid.{Qid}
 use Rattle.framing.specs.Frames.{framed, readFrame}
 use Rattle.framing.specs.Writing.{headBytes, frameOut, framePast}
 use Rattle.framing.specs.WritingLaws.{head-length}
-use Rattle.tables.specs.Tables.{TableWritten, fromTable, nameFields, nameValues, walkFields, walkValues, TwalkWritten, qidItems, RwalkWritten}
+use Rattle.tables.specs.Tables.{TableWritten, nameFields, nameValues, walkFields, walkValues, TwalkWritten, qidItems, RwalkWritten}
 use Rattle.tables.specs.QidLaws.{qidsBytes, qids-length}
 use Rattle.framing.specs.Accepted.{Stands, reads-frame}
 use Rattle.framing.specs.ReadBack.{good-text, Wrote, wrote}
 
--- what a table that was written had: no more elements than a vector may
-in-table : (k : ℕ) (m : Result (List Item)) {ty tag n : ℕ} {o o' : List ℕ} → TableWritten ty tag (fromTable k m) o o' (At n) → (k ≤ 65535) × Wrote m ty tag o o' n
+-- what a table that was written had: no more elements than a walk may
+in-table : (k : ℕ) (m : Result (List Item)) {ty tag n : ℕ} {o o' : List ℕ} → TableWritten ty tag (counted k m) o o' (At n) → (k ≤ 16) × Wrote m ty tag o o' n
 unfolding framePast
 in-table k m {ty} {tag} w =
-    or-else k 65535
-    (λ h. let f = le-ltb 65535 k h in (h, wrote m ty tag (rw f at (w .bytes)) (rw f at (w .next))))
-    (λ h. absurd (let d = rw (lt-ltb 65535 k h) at (w .next) in let z : _≡_ {A = ℕ} 0 1 = cc d in omega arith))
+    or-else k 16
+    (λ h. let f = le-leb k 16 h in (h, wrote m ty tag (rw f at (w .bytes)) (rw f at (w .next))))
+    (λ h. absurd (let d = rw (lt-leb k 16 h) at (w .next) in let z : _≡_ {A = ℕ} 0 1 = cc d in omega arith))
 
 -- a frame whose bytes are those of other items is read as those, and shows them
 record FrameBack (rows : List Row) (ty tag n : ℕ) (o' : List ℕ) (ks : List Item) : Type 0 where

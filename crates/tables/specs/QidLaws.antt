@@ -104,36 +104,36 @@ head-count n tag {o} {o1} l a b =
 
 pub past-long : (room n : ℕ) {p : Place} {k : Refusal} → CountCheck n (At 9) p → p ≡ Refused k → p ≡ rwalkPast room n
 past-long room n c e =
-    let f = lt-ltb 65535 n (count-refused c e) in
+    let f = lt-leb n 16 (count-refused c e) in
     let g = rw f at (c .is) in
     rw f g
 
 module _ (room n : ℕ) {p : Place} {a : ℕ} (c : CountCheck n (At 9) p) (e : p ≡ At a) where
   -- the place that the count was tested at, and the count
-  pub past-head : (n ≤ 65535) × (9 ≡ a)
-  past-head = count-passed c e
+  pub past-head : (n ≤ 16) × (9 ≡ a)
+  past-head = let h = count-passed c e in (h .0, cc (h .1))
 
   pub past-full : room < a + 13 * n → Refused R.NoRoom ≡ rwalkPast room n
-  past-full l = let h = past-head in rw (le-ltb 65535 n (h .0), lt-ltb room (9 + 13 * n) (rw (← (h .1)) at l))
+  past-full l = let h = past-head in rw (le-leb n 16 (h .0), lt-ltb room (9 + 13 * n) (rw (← (h .1)) at l))
 
   pub past-room : a + 13 * n ≤ room → At (a + 13 * n) ≡ rwalkPast room n
-  past-room l = let h = past-head in rw (← (h .1)) (rw (le-ltb 65535 n (h .0), le-ltb room (9 + 13 * n) (rw (← (h .1)) at l)))
+  past-room l = let h = past-head in rw (← (h .1)) (rw (le-leb n 16 (h .0), le-ltb room (9 + 13 * n) (rw (← (h .1)) at l)))
 
 -- what is known where it can be written
 pub record Fitting (room n e : ℕ) : Type 0 where
-  pub count : n ≤ 65535
+  pub count : n ≤ 16
   pub size : e ≡ 9 + 13 * n
   pub held : 9 + 13 * n ≤ room
 
 pub fitting : (room n : ℕ) {e : ℕ} → rwalkPast room n ≡ At e → Fitting room n e
 fitting room n {e} f =
-    or-else n 65535
+    or-else n 16
     (λ h.
-    let c = le-ltb 65535 n h in
+    let c = le-leb n 16 h in
     or-else (9 + 13 * n) room
     (λ l. let d = rw (c, le-ltb room (9 + 13 * n) l) at f in let z : 9 + 13 * n ≡ e = cc d in record { count = h; size = sym z; held = l })
     (λ l. absurd (let d = rw (c, lt-ltb room (9 + 13 * n) l) at f in let z : _≡_ {A = ℕ} 0 1 = cc d in omega arith)))
-    (λ h. absurd (let d = rw (lt-ltb 65535 n h) at f in let z : _≡_ {A = ℕ} 0 1 = cc d in omega arith))
+    (λ h. absurd (let d = rw (lt-leb n 16 h) at f in let z : _≡_ {A = ℕ} 0 1 = cc d in omega arith))
 
 pub head-none : (n tag : ℕ) (o : List ℕ) {p : Place} {k : Refusal} → p ≡ rwalkPast (length o) n → p ≡ Refused k → (0 ≡ toFollow (length o) n) × (o ≡ headed o tag n)
 head-none n tag o f g = let d = sym f ∙ g in (ap (λ p. allOf n p) (sym d), ap (λ p. headAt o tag n p) (sym d))
@@ -170,15 +170,15 @@ module _ (tag : ℕ) (t : List Qid) (o : List ℕ) {r : Place} (e : r ≡ rwalkP
   size-is : length (frameBytes 111 tag items) ≡ 9 + 13 * n
   size-is = frame-length 111 tag items ∙ (let a = body-length in omega arith)
 
-  below : n ≤ 65535 → ltb (7 + length (itemsBytes items)) limit ≡ true
+  below : n ≤ 16 → ltb (7 + length (itemsBytes items)) limit ≡ true
   below h = lt-ltb (7 + length (itemsBytes items)) limit (let a = body-length in omega arith)
 
   pub rwalk-written : RwalkWritten tag t o (placed (headed o tag n) 9 t (toFollow (length o) n)) r
   unfolding frameOut framePast
   rwalk-written =
-      or-else n 65535
+      or-else n 16
       (λ h.
-      let f = le-ltb 65535 n h in
+      let f = le-leb n 16 h in
       let b = below h in
       or-else (9 + 13 * n) (length o)
       (λ l.
@@ -201,4 +201,4 @@ module _ (tag : ℕ) (t : List Qid) (o : List ℕ) {r : Place} (e : r ≡ rwalkP
       let z = size-is in
       let u = put-full (frameBytes 111 tag items) o 0 (omega arith) in
       record { is = record { bytes = rw (f, g, b) (sym (u .0)); next = e ∙ rw (f, g, b) (sym (u .1)) } }))
-      (λ h. let f = lt-ltb 65535 n h in record { is = record { bytes = rw f; next = e ∙ rw f } })
+      (λ h. let f = lt-leb n 16 h in record { is = record { bytes = rw f; next = e ∙ rw f } })

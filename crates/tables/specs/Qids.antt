@@ -30,7 +30,7 @@ abbrev pub placed : List ℕ → ℕ → List Qid → ℕ → List ℕ
 placed l at t zero = l
 placed l at t (suc k) = putQid (placed l at t k) at k (getD t k noQid)
 
--- where the frame ends: 8, then 11, else its length
+-- where the frame ends: 17, then 11, else its length
 abbrev roomFor : ℕ → Place → Place
 roomFor room (At n) = cond (ltb room n) (Refused R.NoRoom) (At n)
 roomFor room (Refused k) = Refused k

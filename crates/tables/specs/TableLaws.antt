@@ -5,7 +5,7 @@ use mathlib.Core.Path.{_≡_, sym, ap, _∙_}
 use mathlib.Core.List.{List, [], _∷_}
 use lib.ListN.{length, drop, getD}
 use lib.Seq.{drop-cons, drop-length}
-use borrow.Author.Tests.{lt-ltb, le-ltb}
+use borrow.Author.Tests.{lt-leb, le-leb}
 use Rattle.numbers.specs.Numbers.{Bytes, toLE}
 use Rattle.numbers.specs.Places.{Put}
 use Rattle.numbers.specs.PlaceLaws.{one-answer}
@@ -72,20 +72,20 @@ module _ {tag fid newfid : ℕ} {lent : List ℕ} {t : List (List ℕ)} {o : Lis
   pub twalk-long : {p : Place} {k : Refusal} → CountCheck (length t) (At 7) p → p ≡ Refused k → TwalkWritten tag fid newfid lent t o o p
   unfolding frameOut framePast
   twalk-long c e =
-      let f = lt-ltb 65535 (length t) (count-refused c e) in
+      let f = lt-leb (length t) 16 (count-refused c e) in
       let g = rw f at (c .is) in
       record { is = record { bytes = rw f; next = rw f g } }
 
-  in-table : {n : ℕ} {o' : List ℕ} {q : Place} → length t ≤ 65535 → n ≡ length t → FrameWritten (walkFields t) 110 tag lent (walkValues fid newfid n t) o o' q
+  in-table : {n : ℕ} {o' : List ℕ} {q : Place} → length t ≤ 16 → n ≡ length t → FrameWritten (walkFields t) 110 tag lent (walkValues fid newfid n t) o o' q
       → TwalkWritten tag fid newfid lent t o o' q
-  in-table h e w = let f = le-ltb 65535 (length t) h in record { is = record { bytes = rw (f, ← e) (w .bytes); next = rw (f, ← e) (w .next) } }
+  in-table h e w = let f = le-leb (length t) 16 h in record { is = record { bytes = rw (f, ← e) (w .bytes); next = rw (f, ← e) (w .next) } }
 
   pub twalk-put : {n : ℕ} {o2 o3 : List ℕ} {a : ℕ} {p d e q r z : Place} → Bytes lent → CountCheck (length t) (At 7) p → p ≡ At a → n ≡ length t
       → Advanced 10 p d → Measured (nameFields t) lent (nameValues t) d e → Begun p e (length o) q → PutAll (walkFields t) lent (walkValues fid newfid n t) o q o2 r
       → HeadPut 110 tag r o2 o3 z → TwalkWritten tag fid newfid lent t o o3 z
   twalk-put {n} {p = p} {e = e} b k f m v c s l d =
       let i = count-passed k f in
-      let g = f ∙ ap At (sym (i .1)) in
+      let g = f ∙ sym (i .1) in
       let w : Measured (walkFields t) lent (walkValues fid newfid n t) p e = walk-measured t v c in
       in-table (i .0) m (frame-written (written b (rw g at w) (rw g at s) l) d)
 

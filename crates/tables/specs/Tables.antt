@@ -3,21 +3,17 @@ use Prim.Native.Nat.{ℕ}
 use mathlib.Core.Path.{_≡_}
 use mathlib.Core.List.{List, [], _∷_, map}
 use lib.ListN.{length, getD}
-use Rattle.numbers.specs.Reading.{Result, ok, after}
+use Rattle.numbers.specs.Reading.{Result, ok}
 use Rattle.numbers.specs.declared.Place.{Place}
-use Rattle.fields.specs.Layouts.{Field, num, str, Layout, Item, number, okCount}
+use Rattle.fields.specs.Layouts.{Field, num, str, Layout, Item, number, counted}
 use Rattle.fields.specs.Values.{Value, val, span, shows}
 use Rattle.layouts.specs.declared.qids.Qid.{Qid}
 use Rattle.framing.specs.Writing.{frameOut, framePast}
 
--- a frame made of what a table gives, or refused with it
+-- a frame made of what a table gives, or refused with it: a table's count comes before any element
 pub record TableWritten (ty tag : ℕ) (m : Result (List Item)) (o o' : List ℕ) (q : Place) : Type 0 where
   pub bytes : o' ≡ frameOut ty tag m o
   pub next : q ≡ framePast ty tag m o
-
--- the count comes before any element
-abbrev pub fromTable : ℕ → Result (List Item) → Result (List Item)
-fromTable n m = after (okCount n) (λ _ _. m)
 
 -- ---- names: a row of the table is a span, its start and its length
 
@@ -35,7 +31,7 @@ abbrev pub walkValues : ℕ → ℕ → ℕ → List (List ℕ) → List Value
 walkValues fid newfid count t = val fid ∷ val newfid ∷ val count ∷ nameValues t
 
 pub record TwalkWritten (tag fid newfid : ℕ) (lent : List ℕ) (t : List (List ℕ)) (o o' : List ℕ) (q : Place) : Type 0 where
-  pub is : TableWritten 110 tag (fromTable (length t) (shows (walkFields t) lent (walkValues fid newfid (length t) t))) o o' q
+  pub is : TableWritten 110 tag (counted (length t) (shows (walkFields t) lent (walkValues fid newfid (length t) t))) o o' q
 
 -- ---- qids (F1.6)
 
@@ -45,4 +41,4 @@ qidItems (x ∷ xs) = number 1 (x .ty) ∷ number 4 (x .version) ∷ number 8 (x
 
 -- an Rwalk is a vector of qids (F3.2)
 pub record RwalkWritten (tag : ℕ) (t : List Qid) (o o' : List ℕ) (q : Place) : Type 0 where
-  pub is : TableWritten 111 tag (fromTable (length t) (ok (number 2 (length t) ∷ qidItems t) [])) o o' q
+  pub is : TableWritten 111 tag (counted (length t) (ok (number 2 (length t) ∷ qidItems t) [])) o o' q

@@ -66,7 +66,7 @@ fn put_twalk(
     put_names(out, c, lent, names)
 }
 
-// A Twalk whose names are spans of the lent bytes: 8; then the names in order; then 10; then 11. The answer is its length.
+// A Twalk whose names are spans of the lent bytes: 17; then the names in order; then 10; then 11. The answer is its length.
 pub fn write_twalk(
     out: &mut [u8],
     tag: Tag,
@@ -112,7 +112,7 @@ fn put_qids(out: &mut [u8], at: usize, qids: &[Qid], count: usize)
     }
 }
 
-// Where an Rwalk of so many qids ends in so much room: 8, then 11, else the frame's length. It is below the limit of 10.
+// Where an Rwalk of so many qids ends in so much room: 17, then 11, else the frame's length. It is below the limit of 10.
 fn rwalk_past(room: usize, count: usize) -> Place
     ensures { λ r. ⌜ r ≡ rwalkPast room count ⌝ }
 {
@@ -140,7 +140,7 @@ fn rwalk_head(out: &mut [u8], tag: Tag, count: usize) -> usize
     count
 }
 
-// An Rwalk whose qids are a table of structs: 8; then 11. The answer is its length.
+// An Rwalk whose qids are a table of structs: 17; then 11. The answer is its length.
 // It has no branch of its own: a slice of structs is walked by hand, and the branches stand in what it calls.
 pub fn write_rwalk(out: &mut [u8], tag: Tag, qids: &[Qid]) -> Place
     ensures { λ r. ⌜ RwalkWritten (tag .0) (now (qids .entry)) (now (out .entry)) (now (out .exit)) r ⌝ }

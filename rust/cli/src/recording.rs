@@ -24,7 +24,7 @@ const ROWS: usize = 512;
 const HEADER: usize = 7;
 
 /// The most that the fields of a message are, with the header: those of a Twrite whose data is as
-/// long as data may be. A walk of very many long names alone may be longer.
+/// long as data may be.
 const FIELDS: usize = 33_554_432 + 23;
 
 pub trait Source: Read {

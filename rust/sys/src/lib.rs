@@ -197,13 +197,13 @@ extern "C" {
     ) -> Outcome;
     /// The frame at a position of a stretch, by its size.
     pub fn sheafsledge_frame_at(bytes: *const u8, count: usize, position: usize) -> Outcome;
-    /// Answers 2, the number of the boundary.
-    pub fn sheafsledge_boundary_2() -> u32;
+    /// Answers 3, the number of the boundary.
+    pub fn sheafsledge_boundary_3() -> u32;
 }
 
 /// Nothing links without it, whether or not it is called: a library of another boundary has it not.
 #[used]
-static BOUNDARY_IS_LINKED: unsafe extern "C" fn() -> u32 = sheafsledge_boundary_2;
+static BOUNDARY_IS_LINKED: unsafe extern "C" fn() -> u32 = sheafsledge_boundary_3;
 
 /// Holds a struct to its size, its alignment and the offset of each field, in bytes.
 macro_rules! laid_out {

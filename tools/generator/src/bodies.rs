@@ -427,7 +427,7 @@ fn field_fits(f: &Field, at: &str, limit: &str) -> Vec<String> {
             .iter()
             .map(|rest| format!("{at}{rest} .0 .fits"))
             .collect(),
-        Kind::Str => vec!["tt".to_string()],
+        Kind::Str | Kind::Names | Kind::Qids => vec!["tt".to_string()],
         Kind::Data => vec![limit.to_string()],
         _ => vec![format!("{at} .0 .fits")],
     }

@@ -2,7 +2,7 @@
 
 use std::sync::LazyLock;
 
-use p9::draw::{Cases, Draw, Draws};
+use p9::draw::{Cases, Draw, Draws, MOST_ELEMENTS};
 use p9::protocol::{Rframe, Rmessage, Tframe, Tmessage, WireFormat};
 
 use crate::{written, Direction};
@@ -86,4 +86,21 @@ pub fn damaged(mut frame: Vec<u8>, draws: &mut Draws) -> Vec<u8> {
 pub fn wraps(direction: Direction, frame: &[u8]) -> bool {
     let size = frame.first_chunk().map(|size| u32::from_le_bytes(*size));
     direction == Direction::R && size.is_some_and(|size| size < 4)
+}
+
+/// A walk whose count is held, and is more than sixteen: the Rust reads on, and the paper refuses it
+/// with 17 (docs/DIFFERENCES.md).
+pub fn too_many(direction: Direction, frame: &[u8]) -> bool {
+    let Some(size) = frame.first_chunk() else {
+        return false;
+    };
+    let size = u32::from_le_bytes(*size) as usize;
+    let held = &frame[..size.min(frame.len())];
+    let (ty, at) = match direction {
+        Direction::T => (110, 15),
+        Direction::R => (111, 7),
+    };
+    let count = held.get(at..).and_then(|rest| rest.first_chunk());
+    let over = |count: &[u8; 2]| usize::from(u16::from_le_bytes(*count)) > MOST_ELEMENTS;
+    held.get(4) == Some(&ty) && count.is_some_and(over)
 }

@@ -72,7 +72,7 @@ fn questions(seed: &str) -> Outcome {
     let list = questions::list(seed);
     say(&list.lines)?;
     let known = list.known;
-    eprintln!("oracle: left out {known} replies of size 0 to 3, see docs/DIFFERENCES.md");
+    eprintln!("oracle: left out {known} that the Rust is known to answer otherwise, see docs/DIFFERENCES.md");
     Ok(())
 }
 

@@ -3,7 +3,9 @@
 use std::array;
 use std::collections::HashSet;
 
-use judge::cases::{bytes, damaged, drawn, header, sized, types, unknown, wraps, DIRECTIONS};
+use judge::cases::{
+    bytes, damaged, drawn, header, sized, too_many, types, unknown, wraps, DIRECTIONS,
+};
 use judge::Direction;
 use p9::draw::Draws;
 use p9::protocol::{
@@ -94,7 +96,7 @@ impl List {
     }
 
     fn ask(&mut self, direction: Direction, frame: &[u8]) {
-        if wraps(direction, frame) {
+        if wraps(direction, frame) || too_many(direction, frame) {
             self.known += 1;
             return;
         }
@@ -204,12 +206,12 @@ impl List {
         }
     }
 
-    /// Letters in a string, and names in a walk, up to one more than there may be.
+    /// Letters in a string, up to one more than there may be, and names in a walk, up to sixteen.
     fn counts(&mut self) {
-        for asked in ["S", "W"] {
-            for count in [0, 1, 255, 256, 65_534, 65_535, 65_536] {
-                self.add(format!("{asked} {count}"));
-            }
+        let letters = [0, 1, 255, 256, 65_534, 65_535, 65_536].map(|count| format!("S {count}"));
+        let names = [0, 1, 15, 16].map(|count| format!("W {count}"));
+        for asked in letters.into_iter().chain(names) {
+            self.add(asked);
         }
     }
 }

@@ -10,6 +10,9 @@ const LETTERS: [[char; 5]; 4] = [
     ['\u{10000}', '😀', '\u{3ffff}', '\u{40000}', '\u{10ffff}'],
 ];
 
+/// A walk has at most so many elements.
+pub const MOST_ELEMENTS: usize = 16;
+
 /// Xorshift, as Vigna's xorshift64*.
 pub struct Draws(u64);
 
@@ -99,9 +102,13 @@ impl Draw for Data {
     }
 }
 
+/// The elements of a walk. The paper refuses more, which the seller's crate does not
+/// (docs/DIFFERENCES.md), so that they are drawn by `limits` alone.
 impl<T: Draw> Draw for Vec<T> {
     fn draw(draws: &mut Draws) -> Self {
-        (0..draws.count()).map(|_| T::draw(draws)).collect()
+        let mut all: Vec<T> = (0..draws.count()).map(|_| T::draw(draws)).collect();
+        all.truncate(MOST_ELEMENTS);
+        all
     }
 }
 

@@ -1,6 +1,6 @@
 //! One case: the library's answer beside the seller's.
 
-use judge::cases::{sized, wraps};
+use judge::cases::{sized, too_many, wraps};
 use judge::Direction;
 use ours::Flat;
 use p9::draw::Draws;
@@ -10,7 +10,7 @@ use p9::show::hex;
 use crate::kinds::Of;
 use crate::pieces::{lent, pieces, values};
 use crate::theirs::{self, Again, Theirs};
-use crate::{dirents, elements, in_rust, raw, rows, stretches, tables};
+use crate::{dirents, elements, in_rust, over, raw, rows, stretches, tables};
 
 pub enum Outcome {
     /// The same, and whether it is a frame or a refusal.
@@ -65,6 +65,7 @@ fn over_c(of: Of, bytes: &[u8], draws: &mut Draws) -> Outcome {
         Of::Text => text(bytes),
         Of::Raw(direction) => raw::raw(direction, bytes),
         Of::Again(direction) => again(direction, bytes, draws),
+        Of::Over(direction) => over::walk(direction, bytes),
         Of::Row(row) => rows::row(row),
     }
 }
@@ -87,14 +88,14 @@ fn again(direction: Direction, bytes: &[u8], draws: &mut Draws) -> Outcome {
 /// A frame read, and the record written again where there is one.
 fn read(direction: Direction, bytes: &[u8]) -> Outcome {
     let ours = ours::read(direction, bytes);
-    let theirs = theirs::read(direction, bytes);
     if wraps(direction, bytes) {
-        return known(bytes, &ours, &theirs);
+        return known(bytes, &ours, &theirs::sellers(direction, bytes));
     }
+    let theirs = theirs::read(direction, bytes);
     if ours != theirs.flat || !theirs.shown {
         return differs(format!("{ours:?}"), read_by(&theirs));
     }
-    match &theirs.again {
+    let outcome = match &theirs.again {
         None => Outcome::Refused,
         Some(again) => {
             let room = again.as_ref().map_or(0, Vec::len) + 3;
@@ -102,13 +103,17 @@ fn read(direction: Direction, bytes: &[u8]) -> Outcome {
                 ours::write(direction, out, bytes, &ours)
             })
         }
+    };
+    match outcome {
+        Outcome::Refused if too_many(direction, bytes) => Outcome::Known,
+        outcome => outcome,
     }
 }
 
 /// The Rust answers as though there were no size.
 fn known(bytes: &[u8], ours: &Flat, theirs: &Theirs) -> Outcome {
     let refused = theirs::refused(2);
-    let unlimited = theirs::read(Direction::R, &sized(bytes.to_vec(), u32::MAX));
+    let unlimited = theirs::sellers(Direction::R, &sized(bytes.to_vec(), u32::MAX));
     match *ours == refused.flat && *theirs == unlimited {
         true => Outcome::Known,
         false => differs(format!("{ours:?}"), read_by(theirs)),

@@ -74,6 +74,8 @@ pub enum Of {
     Raw(Direction),
     /// Whatever the seller reads there, written again in every way.
     Again(Direction),
+    /// A walk of more than sixteen elements, to write in every way.
+    Over(Direction),
     /// A row of docs/DIFFERENCES.md.
     Row(u8),
 }
@@ -86,7 +88,8 @@ impl Of {
             | Self::Written(direction)
             | Self::Data(direction)
             | Self::Elements(direction)
-            | Self::Table(direction) => Some(direction),
+            | Self::Table(direction)
+            | Self::Over(direction) => Some(direction),
             _ => None,
         }
     }

@@ -8,6 +8,7 @@ mod in_rust;
 pub mod kinds;
 mod limits;
 mod others;
+mod over;
 mod pieces;
 mod raw;
 pub mod rows;

@@ -1,8 +1,9 @@
-//! Frames at the limits: the longest strings and vectors, and data at the reading limit.
+//! Frames at the limits: the longest strings, walks of more elements than the paper allows, and data at
+//! the reading limit.
 
 use judge::cases::{bytes, damaged};
 use judge::Direction;
-use p9::draw::{Draw, Draws};
+use p9::draw::{Draw, Draws, MOST_ELEMENTS};
 use p9::protocol::{
     Data, P9String, Rframe, Rmessage, Rread, Rreaddir, Rreadlink, Rwalk, Tframe, Tmessage,
     Tsymlink, Tversion, Twalk, Twrite,
@@ -12,7 +13,7 @@ use crate::kinds::{Asked, Of};
 
 const READING_LIMIT: usize = 33_554_432;
 
-/// The longest that a string is, and the most that a vector has.
+/// The longest that a string is, and the most elements that a count of two bytes says.
 pub const MOST: usize = 65_535;
 
 type Framed = (Direction, Vec<u8>);
@@ -40,14 +41,8 @@ pub fn limit(turn: usize, draws: &mut Draws) -> Vec<Asked> {
         1 => r(Rmessage::Readlink(Rreadlink {
             target: string(draws),
         })),
-        2 => t(Tmessage::Walk(Twalk {
-            fid: Draw::draw(draws),
-            newfid: Draw::draw(draws),
-            wnames: vec![P9String::draw(draws); most(draws)],
-        })),
-        3 => r(Rmessage::Walk(Rwalk {
-            wqids: vec![Draw::draw(draws); most(draws)],
-        })),
+        2 => return over(twalk(elements(draws), draws), draws),
+        3 => return over(rwalk(elements(draws), draws), draws),
         4 => t(Tmessage::Symlink(Tsymlink {
             fid: Draw::draw(draws),
             name: string(draws),
@@ -72,6 +67,35 @@ fn both(frame: Framed, written: fn(Direction) -> Of) -> Vec<Asked> {
     let of = written(frame.0);
     let bytes = frame.1.clone();
     vec![read(frame), Asked { of, bytes }]
+}
+
+/// A walk of more than sixteen elements: read as it is and damaged, and written.
+fn over((direction, bytes): Framed, draws: &mut Draws) -> Vec<Asked> {
+    let damaged = (direction, damaged(bytes.clone(), draws));
+    let of = Of::Over(direction);
+    vec![
+        read((direction, bytes.clone())),
+        read(damaged),
+        Asked { of, bytes },
+    ]
+}
+
+/// One too many, as many as a guest has sent, and as many as a count of two bytes holds.
+fn elements(draws: &mut Draws) -> usize {
+    draws.one_of(&[MOST_ELEMENTS + 1, 40, MOST])
+}
+
+pub fn twalk(count: usize, draws: &mut Draws) -> Framed {
+    t(Tmessage::Walk(Twalk {
+        fid: Draw::draw(draws),
+        newfid: Draw::draw(draws),
+        wnames: vec![P9String::draw(draws); count],
+    }))
+}
+
+pub fn rwalk(count: usize, draws: &mut Draws) -> Framed {
+    let wqids = vec![Draw::draw(draws); count];
+    r(Rmessage::Walk(Rwalk { wqids }))
 }
 
 /// The most that a count of two bytes holds, or one less.

@@ -5,6 +5,7 @@
 
 use judge::Direction;
 use ours::{Flat, R_VALUES};
+use p9::draw::MOST_ELEMENTS;
 use p9::flat::Value;
 
 use crate::compare::{in_a_room, Outcome};
@@ -95,6 +96,9 @@ fn written(direction: Direction, frame: &Flat, lent: &[u8]) -> Result<Vec<u8>, u
             }
             Value::Names(_) | Value::Qids(_) => {
                 let count = next() as u16;
+                if usize::from(count) > MOST_ELEMENTS {
+                    return Err(17);
+                }
                 let bytes = spanned(lent, next(), next())?;
                 match field {
                     Value::Names(_) => names(bytes, count)?,

@@ -3,7 +3,7 @@
 use std::io;
 use std::sync::LazyLock;
 
-use judge::cases::{drawn, types, DIRECTIONS};
+use judge::cases::{drawn, too_many, types, DIRECTIONS};
 use judge::refusal::number;
 use judge::{written, Direction};
 use ours::{Flat, Outcome, R_VALUES, UNWRITTEN};
@@ -26,7 +26,29 @@ pub struct Theirs {
     pub again: Option<Again>,
 }
 
+/// What the paper has of the seller's answer: all of it, but for walks of more than sixteen elements,
+/// which the seller reads.
 pub fn read(direction: Direction, bytes: &[u8]) -> Theirs {
+    match too_many(direction, bytes) {
+        true => over(direction, bytes),
+        false => sellers(direction, bytes),
+    }
+}
+
+/// 17, straight after the count. A request has a tag then, and a record that can't be written.
+fn over(direction: Direction, bytes: &[u8]) -> Theirs {
+    let theirs = refused(17);
+    match direction {
+        Direction::R => theirs,
+        Direction::T => {
+            let (again, tag) = (Some(Err(16)), u16::from_le_bytes([bytes[5], bytes[6]]));
+            with_tag(Theirs { again, ..theirs }, tag)
+        }
+    }
+}
+
+/// The seller's own answer.
+pub fn sellers(direction: Direction, bytes: &[u8]) -> Theirs {
     let mut rest = bytes;
     match direction {
         Direction::T => match Tframe::decode(&mut rest) {

@@ -71,7 +71,7 @@ fn fid(draws: &mut Draws) -> u32 {
 }
 
 fn names(draws: &mut Draws) -> Vec<&'static str> {
-    let count = draws.one_of(&[0, 0, 1, 1, 1, 2, 17]);
+    let count = draws.one_of(&[0, 0, 1, 1, 1, 2, 16]);
     (0..count).map(|_| draws.one_of(&NAMES)).collect()
 }
 

@@ -4,7 +4,7 @@ use native.Mathlib.Omega.{arith}
 use mathlib.Core.Path.{sym}
 use lib.Seq.{length-take-le}
 use Rattle.numbers.specs.Numbers.{bytes-all}
-use Rattle.strings.specs.SpanLaws.{span-lies}
+use Rattle.laying.specs.LayingLaws.{part-lies}
 use Rattle.laying.proofs.Lays.{strs-outside, strs-scanned}
 use Rattle.laying.proofs.check_names.Statement.{statement}
 use Rattle.laying.proofs.check_names.Tie as tie
@@ -19,11 +19,11 @@ returns : tie.Need-returns
 returns c = strs-outside (c .before .before .check-part .ensures) (c .enum-told2 .given .1)
 
 add-stop : tie.Need-add-stop
-add-stop c = omega (arith, span-lies (c .before .before .before .check-part .ensures) (c .before .enum-told .given .1))
+add-stop c = omega (arith, part-lies (c .before .before .before .check-part .ensures) (c .before .enum-told .given .1))
 
 slice-aggregate-scan : tie.Need-slice-aggregate-scan
 slice-aggregate-scan c =
-    sym (length-take-le _ _ (span-lies (c .before .before .before .before .check-part .ensures) (c .before .before .enum-told .given .1)))
+    sym (length-take-le _ _ (part-lies (c .before .before .before .before .check-part .ensures) (c .before .before .enum-told .given .1)))
 
 returns-2 : tie.Need-returns-2
 returns-2 c =

@@ -1,4 +1,4 @@
--- A count of two bytes refuses nothing, so the span says.
+-- The count says, then the span.
 use native.Mathlib.Omega.{arith}
 use borrow.Author.Needs.{needs}
 use Rattle.laying.proofs.Lays.{part-check}
@@ -9,7 +9,7 @@ cast-check-count : tie.Need-cast-check-count
 cast-check-count c = search needs
 
 returns : tie.Need-returns
-returns c = part-check (omega arith) (c .before .before .check-count .ensures) (c .check-span .ensures)
+returns c = part-check (c .before .before .check-count .ensures) (c .check-span .ensures)
 
 pub check-part-spec : {M : Type 1} → statement M
 check-part-spec = tie.close (tie.spec cast-check-count (λ _ _. tt) (λ _ _. tt) returns)

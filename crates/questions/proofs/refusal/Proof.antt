@@ -1,4 +1,4 @@
--- Each number has its refusal; above 15 the last is the nearest, and what is none of 2 to 15 is 0 or 1.
+-- Each number has its refusal; above 16 the last is the nearest, and what is none of 2 to 16 is 0 or 1.
 use Prim.Native.Nat.{ℕ, zero, suc, _+_, _≤_, min, max}
 use native.Mathlib.Omega.{arith}
 use mathlib.Core.Path.{_≡_}
@@ -11,7 +11,7 @@ abbrev None : ℕ → ℕ → Type 0
 None zero n = Unit
 None (suc k) n = None k n × (n ≡ k + 2 → ⊥)
 
-least : (k n : ℕ) → None k n → n ≤ k + 1 → 1 ≡ max 1 (min n 16)
+least : (k n : ℕ) → None k n → n ≤ k + 1 → 1 ≡ max 1 (min n 17)
 least zero n h l = omega arith
 least (suc k) n h l = least k n (h .0) (let z = h .1 in omega arith)
 
@@ -34,4 +34,5 @@ refusal-spec =
     (λ c. search needs)
     (λ c. search needs)
     (λ c. search needs)
-    (λ c. record { is = least 14 _ (c .match .rest) (c .before .if1 .left) }))
+    (λ c. search needs)
+    (λ c. record { is = least 15 _ (c .match .rest) (c .before .if1 .left) }))

@@ -295,6 +295,7 @@ fn of_a_long_frame_only_its_fields_are_read() {
     let (piece, fields) = (PIECE as u64, FIELDS as u64);
     let write = |count: u32| [&[0; 12][..], &count.to_le_bytes()].concat();
     let read = MOST.to_le_bytes().to_vec();
+    let walk = |count: u16| [&[0; 8][..], &count.to_le_bytes()].concat();
     for (size, ty, body, told, held) in [
         (3_000_000_000, 118, write(5), "0 2999999972", piece),
         (u32::MAX, 118, write(MOST), "0 4261412840", fields),
@@ -304,6 +305,10 @@ fn of_a_long_frame_only_its_fields_are_read() {
         (MOST + 23, 118, write(MOST), "0 0", fields),
         (MOST + 22, 118, write(MOST), "1 0", fields - 1),
         (5_000_000, 117, read, "1 0", 5_000_000),
+        // The names are empty.
+        (u32::MAX, 110, walk(16), "0 4294967246", piece),
+        (u32::MAX, 110, walk(17), "17 0", piece),
+        (u32::MAX, 110, walk(65_535), "17 0", piece),
     ] {
         let owed = (format!("{size} {told}"), held);
         assert_eq!(sparse(size, ty, &body, 0), owed);

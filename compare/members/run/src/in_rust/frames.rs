@@ -2,7 +2,7 @@
 
 use std::cell::Cell;
 
-use judge::cases::wraps;
+use judge::cases::{too_many, wraps};
 use judge::{written, Direction};
 use p9::draw::Draws;
 use p9::protocol::{self as seller, WireFormat};
@@ -57,7 +57,7 @@ frame!(Tframe, |frame| frame.msg.ok().map(|msg| msg.ty()));
 frame!(Rframe, |frame| Some(frame.msg.ty()));
 
 /// Of a request whose message is refused nothing counts as used.
-pub fn read<'a, F: Frame<'a>>(bytes: &'a [u8]) -> Found {
+fn read<'a, F: Frame<'a>>(bytes: &'a [u8]) -> Found {
     let mut rest = bytes;
     let theirs = F::Theirs::decode(&mut rest);
     let ours = F::read(bytes);
@@ -71,12 +71,25 @@ pub fn read<'a, F: Frame<'a>>(bytes: &'a [u8]) -> Found {
     })
 }
 
-/// Row 1 of docs/DIFFERENCES.md is known.
-pub fn read_reply(bytes: &[u8]) -> Found {
-    match wraps(Direction::R, bytes) {
-        true => unequal(&Rframe::decode(bytes).err(), &Some(Refusal::SizeBelowFour)),
-        false => read::<Rframe>(bytes),
+/// Row 13 of docs/DIFFERENCES.md is known.
+pub fn read_request(bytes: &[u8]) -> Found {
+    match too_many(Direction::T, bytes) {
+        true => {
+            let msg = Tframe::decode(bytes).map(|read| read.frame.msg);
+            unequal(&msg, &Ok(Err(Refusal::TooManyElements)))
+        }
+        false => read::<Tframe>(bytes),
     }
+}
+
+/// Rows 1 and 14 are.
+pub fn read_reply(bytes: &[u8]) -> Found {
+    let known = match bytes {
+        _ if wraps(Direction::R, bytes) => Refusal::SizeBelowFour,
+        _ if too_many(Direction::R, bytes) => Refusal::TooManyElements,
+        _ => return read::<Rframe>(bytes),
+    };
+    unequal(&Rframe::decode(bytes).err(), &Some(known))
 }
 
 fn again<'a, F: Frame<'a>>(ours: &F, theirs: &F::Theirs) -> Found {

@@ -30,7 +30,7 @@ pub fn asked(of: Of, bytes: &[u8]) -> Found {
     let draws = &mut Draws::new(bytes.len() as u64);
     let buffer = &mut vec![0; bytes.len()];
     match of {
-        Of::Read(Direction::T) => frames::read::<Tframe>(bytes),
+        Of::Read(Direction::T) => frames::read_request(bytes),
         Of::Read(Direction::R) => frames::read_reply(bytes),
         Of::Written(Direction::T) => frames::made::<Tframe>(&their(bytes), buffer, bytes, draws),
         Of::Written(Direction::R) => frames::made::<Rframe>(&their(bytes), buffer, bytes, draws),
@@ -40,6 +40,8 @@ pub fn asked(of: Of, bytes: &[u8]) -> Found {
         Of::Elements(Direction::R) => parts::qids(bytes),
         Of::Table(Direction::T) => parts::twalk(bytes, draws),
         Of::Table(Direction::R) => parts::rwalk(bytes, draws),
+        Of::Over(Direction::T) => parts::too_many_names(bytes),
+        Of::Over(Direction::R) => parts::too_many_qids(bytes),
         Of::Stretch => stretches::stretch(bytes),
         Of::Text => text(bytes),
         // The crate takes no flat values, and what is asked again is asked in the other ways.

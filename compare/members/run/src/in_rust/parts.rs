@@ -135,6 +135,40 @@ pub fn rwalk(frame: &[u8], draws: &mut Draws) -> Found {
     })
 }
 
+/// A Twalk of more than sixteen names, gathered, as a record, and from a table. Names that are too
+/// many are not looked at: a zero byte is in the first.
+pub fn too_many_names(frame: &[u8]) -> Found {
+    let (tag, theirs) = their_twalk(frame);
+    let (fid, newfid) = (Fid(theirs.fid), Fid(theirs.newfid));
+    let head = WalkHead { tag, fid, newfid };
+    let count = theirs.wnames.len();
+    let (names, rows, mut out) = (vec!["\0"; count], vec![[1, 1]; count], [0; 9]);
+    let refused = [
+        Names::of(&names).err(),
+        Names::gather(&names, &mut [0; 9]).err(),
+        write_twalk(&mut out, b"", head, &rows).err(),
+    ];
+    unequal(&refused, &[Some(Refusal::TooManyElements); 3]).or_else(|| unequal(&out, &[0; 9]))
+}
+
+/// The same of an Rwalk's qids.
+pub fn too_many_qids(frame: &[u8]) -> Found {
+    let (tag, theirs) = their_rwalk(frame);
+    let (qids, mut out) = (vec![Qid::default(); theirs.wqids.len()], [0; 9]);
+    let wqids = Qids::from(&qids[..]);
+    let ours = Rframe {
+        tag,
+        msg: Rmessage::Walk(Rwalk { wqids }),
+    };
+    let refused = [
+        Qids::gather(&qids, &mut [0; 9]).err(),
+        ours.encode(&mut out).err(),
+        ours.byte_size().err(),
+        write_rwalk(&mut out, tag, &qids).err(),
+    ];
+    unequal(&refused, &[Some(Refusal::TooManyElements); 4]).or_else(|| unequal(&out, &[0; 9]))
+}
+
 fn their_twalk(frame: &[u8]) -> (Tag, seller::Twalk) {
     match their(frame) {
         seller::Tframe {

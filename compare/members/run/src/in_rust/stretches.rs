@@ -1,10 +1,10 @@
 //! A stretch as the crate goes through it.
 
-use judge::cases::unknown;
+use judge::cases::{too_many, unknown};
 use judge::stretch::whole;
 use judge::Direction;
 use p9::protocol::{self as seller, WireFormat};
-use sheafsledge::{answers, Body, Listed, Mark, Tag};
+use sheafsledge::{answers, Body, Listed, Mark, Refusal, Tag};
 
 use super::fields::Beside;
 use super::{unequal, Found};
@@ -50,6 +50,12 @@ fn listed(ours: &Listed, at: usize, frame: &[u8]) -> Found {
 fn body(ours: &Listed, frame: &[u8]) -> Found {
     let mut rest = frame;
     let (found, held) = match (&ours.body, frame[4] % 2) {
+        (Body::Request(ours), 0) if too_many(Direction::T, frame) => {
+            (unequal(ours, &Err(Refusal::TooManyElements)), false)
+        }
+        (Body::Reply(ours), 1) if too_many(Direction::R, frame) => {
+            (unequal(ours, &Err(Refusal::TooManyElements)), false)
+        }
         (Body::Request(ours), 0) => {
             let theirs = seller::Tframe::decode(&mut rest).and_then(|frame| frame.msg);
             (ours.difference(&theirs), theirs.is_ok())
