@@ -34,7 +34,8 @@ pub struct Dirent<'a> {
 }
 
 impl<'a> Dirent<'a> {
-    /// Reads the entry at a place of some bytes, and answers the place after it too.
+    /// Reads the entry at a place of some bytes, and answers the place after it too. 5 and 6 tell of a
+    /// byte as counted from the first of these bytes.
     pub fn decode(bytes: &'a [u8], at: usize) -> Result<(Self, usize), Refusal> {
         let mut values = [0; ENTRY_VALUES];
         let next = ffi::read_dirent(bytes, at, &mut values)?;
@@ -81,7 +82,7 @@ impl<'a> Field<'a> for Dirent<'a> {
 
 impl<'a> Rreaddir<'a> {
     /// The entries one by one. The data is whatever the server sent, so an entry may be refused;
-    /// none is given after that one.
+    /// none is given after that one. 5 and 6 tell of a byte as counted from the data's first.
     pub fn entries(&self) -> Dirents<'a> {
         let (data, at) = (self.data.0, 0);
         Dirents { data, at }

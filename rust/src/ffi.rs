@@ -22,7 +22,7 @@ pub fn frame_at(bytes: &[u8], position: usize) -> Outcome {
     unsafe { sheafsledge_frame_at(bytes.as_ptr(), bytes.len(), position) }
 }
 
-/// The place after the entry.
+/// The place after the entry. A refusal's counts from the first of the bytes.
 pub fn read_dirent(
     bytes: &[u8],
     at: usize,
@@ -79,7 +79,8 @@ pub fn write_t(
     unsafe { sheafsledge_write_tframe(to, room, from, count, 0, ty, crossing(tag), values) }
 }
 
-/// A request with two strings, each in a slice of its own.
+/// A request with two strings, each in a slice of its own. A place in the second counts on from the
+/// first.
 pub fn write_two(
     out: &mut [u8],
     [first, second]: [&[u8]; 2],
@@ -162,8 +163,8 @@ pub trait Told {
 }
 
 impl Told for Outcome {
-    #[inline]
+    #[inline(always)]
     fn told(self) -> Result<usize, Refusal> {
-        Refusal::of(self.refusal).map_or(Ok(self.place), Err)
+        Refusal::of(self.refusal, self.place).map_or(Ok(self.place), Err)
     }
 }

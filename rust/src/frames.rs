@@ -140,13 +140,16 @@ impl<'a> Tframe<'a> {
     pub fn decode_into<M: Make<Self>>(bytes: &'a [u8], make: M) -> M::Made {
         let mut values = [0; T_VALUES];
         let read = ffi::read_t(bytes, &mut values);
-        let (tag, used) = (Tag(read.tag), read.place);
-        let framed = Framed { tag, used, make };
-        match Refusal::of(read.refusal) {
-            Some(refusal) if !read.held => framed.make.make(Err(refusal)),
-            Some(refusal) => framed.on(Err(refusal)),
+        let tag = Tag(read.tag);
+        match Refusal::of(read.refusal, read.place) {
+            Some(refusal) if !read.held => make.make(Err(refusal)),
+            Some(refusal) => {
+                let used = 0;
+                Framed { tag, used, make }.on(Err(refusal))
+            }
             None => {
-                let (values, frame) = (values.iter(), bytes);
+                let (values, frame, used) = (values.iter(), bytes, read.place);
+                let framed = Framed { tag, used, make };
                 Tmessage::take(read.ty, &mut Taken { values, frame }, framed)
             }
         }
@@ -208,7 +211,7 @@ impl<'a> Rframe<'a> {
         let read = ffi::read_r(bytes, &mut values);
         let (tag, used) = (Tag(read.tag), read.place);
         let framed = Framed { tag, used, make };
-        match Refusal::of(read.refusal) {
+        match Refusal::of(read.refusal, read.place) {
             Some(refusal) => framed.on(Err(refusal)),
             None => {
                 let (values, frame) = (values.iter(), bytes);
@@ -277,8 +280,17 @@ fn written_t(tag: Tag, msg: &Tmessage, out: &mut [u8]) -> Outcome {
     let mut values = [0; T_VALUES];
     match msg.put(&mut values) {
         (ty, [only, []]) => ffi::write_t(out, only, (ty, tag), &values),
-        (ty, two) => ffi::write_two(out, two, (ty, tag), &values),
+        (ty, two) => in_its_own(two, ffi::write_two(out, two, (ty, tag), &values)),
     }
+}
+
+/// A refusal's place that counts on from the first of two strings is told in the second.
+#[inline(always)]
+fn in_its_own([first, _]: [&[u8]; 2], mut wrote: Outcome) -> Outcome {
+    if matches!(wrote.refusal, 5 | 6) && wrote.place >= first.len() {
+        wrote.place -= first.len();
+    }
+    wrote
 }
 
 /// No reply has two strings, or a string and data.
@@ -305,4 +317,31 @@ fn send(
     let len = encoded?;
     stream.write_all(&buffer[..len])?;
     Ok(len)
+}
+
+#[cfg(test)]
+mod tests {
+    use super::Tframe;
+    use crate::{Fid, Refusal, Tag, Text, Tmessage, Trenameat};
+
+    /// No `Text` of a caller's is refused, so these are such as the library would not have accepted.
+    #[test]
+    fn a_place_is_told_in_its_own_string() {
+        let refused = |oldname: &str, newname: &str| {
+            let (oldname, newname) = (Text::accepted(oldname), Text::accepted(newname));
+            let msg = Ok(Tmessage::RenameAt(Trenameat {
+                olddirfid: Fid(1),
+                oldname,
+                newdirfid: Fid(2),
+                newname,
+            }));
+            Tframe { tag: Tag(1), msg }.encode(&mut [0; 64])
+        };
+        let zero = |at| Err(Refusal::ZeroByte { at });
+        assert_eq!(refused("ab\0", "cd\0"), zero(2));
+        assert_eq!(refused("ab", "cd\0\0"), zero(2));
+        assert_eq!(refused("ab", "\0"), zero(0));
+        assert_eq!(refused("", "c\0d"), zero(1));
+        assert_eq!(refused("a\0b", ""), zero(1));
+    }
 }

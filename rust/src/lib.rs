@@ -69,7 +69,7 @@ pub use dirents::{Dirent, Dirents};
 pub use frames::{Decoded, Make, Rframe, Tframe};
 pub use ids::{Fid, Gid, Tag};
 pub use records::*;
-pub use refusal::Refusal;
+pub use refusal::{Refusal, Sentence};
 pub use stretch::{answers, stretch, Body, Listed, Mark, Stop, Stretch};
 pub use tables::{write_rwalk, write_twalk, WalkHead};
 pub use text::Text;

@@ -101,7 +101,7 @@ impl<'a> Iterator for Stretch<'a> {
     fn next(&mut self) -> Option<Self::Item> {
         let at = self.position.take()?;
         let step = ffi::frame_at(self.bytes, at);
-        if let Some(refusal) = Refusal::of(step.refusal) {
+        if let Some(refusal) = Refusal::of(step.refusal, step.place) {
             let at = step.place;
             return Some(Err(Stop { at, refusal }));
         }

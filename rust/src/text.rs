@@ -17,7 +17,7 @@ use crate::Refusal;
 /// let name = Text::new("höhe.txt")?;
 /// assert!(name.ends_with(".txt"));
 /// assert_eq!(name.to_c_string().as_bytes_with_nul(), "höhe.txt\0".as_bytes());
-/// assert_eq!(Text::new("a\0b"), Err(Refusal::ZeroByte));
+/// assert_eq!(Text::new("a\0b"), Err(Refusal::ZeroByte { at: 1 }));
 /// # Ok::<(), Refusal>(())
 /// ```
 #[derive(Clone, Copy, Default, PartialEq, Eq, PartialOrd, Ord, Hash)]
@@ -27,7 +27,7 @@ pub struct Text<'a>(&'a str);
 const LONGEST: usize = 65_535;
 
 impl<'a> Text<'a> {
-    /// Refused with 7 if the string is too long, and with 6 if it has a zero byte.
+    /// Refused with 7 if the string is too long, and with 6 at its first zero byte.
     pub fn new(text: &'a str) -> Result<Self, Refusal> {
         checked(text).map_or(Ok(Self(text)), Err)
     }
@@ -52,18 +52,21 @@ impl<'a> Text<'a> {
         }
     }
 
-    /// Bytes that come from elsewhere: refused with 7, 5 or 6.
+    /// Bytes that come from elsewhere: refused with 7, 5 or 6, and 5 may tell of a byte after a zero.
     ///
     /// ```
     /// use sheafsledge::{Refusal, Text};
     /// assert_eq!(Text::from_bytes(b"log"), Text::new("log"));
-    /// assert_eq!(Text::from_bytes(b"l\xf6g\0"), Err(Refusal::NotUtf8));
+    /// assert_eq!(Text::from_bytes(b"l\xf6g\0"), Err(Refusal::NotUtf8 { at: 1 }));
     /// ```
     pub fn from_bytes(bytes: &'a [u8]) -> Result<Self, Refusal> {
         if bytes.len() > LONGEST {
             return Err(Refusal::StringTooLong);
         }
-        Self::new(core::str::from_utf8(bytes).map_err(|_| Refusal::NotUtf8)?)
+        let text = core::str::from_utf8(bytes).map_err(|error| Refusal::NotUtf8 {
+            at: error.valid_up_to(),
+        });
+        Self::new(text?)
     }
 
     /// A name that the system gave. Not every one is UTF-8: refused as by [`Text::from_bytes`].
@@ -119,7 +122,7 @@ const fn checked(text: &str) -> Option<Refusal> {
     let mut i = 0;
     while i < bytes.len() {
         if bytes[i] == 0 {
-            return Some(Refusal::ZeroByte);
+            return Some(Refusal::ZeroByte { at: i });
         }
         i += 1;
     }

@@ -59,7 +59,8 @@ impl<'a, E> Held<'a, E> {
 pub struct Names<'a>(Held<'a, &'a str>);
 
 impl<'a> Names<'a> {
-    /// The caller's names: refused with 17, 7 or 6. They stay where they are until the frame is written.
+    /// The caller's names: refused with 17, or as [`Text::new`] refuses the first name that it does; a
+    /// place is one of that name's. They stay where they are until the frame is written.
     pub fn of(names: &'a [&'a str]) -> Result<Self, Refusal> {
         counted(names.len())?;
         for name in names {
@@ -69,7 +70,7 @@ impl<'a> Names<'a> {
     }
 
     /// Puts names into a lent buffer, as a Twalk holds them, so that they need not be kept: refused
-    /// with 17, 7, 6 or 11, and then the buffer is as it was.
+    /// as by [`Names::of`], or with 11, and then the buffer is as it was.
     ///
     /// ```
     /// use sheafsledge::Names;

@@ -240,7 +240,7 @@ fn the_functions_are_the_librarys() {
 #[test]
 fn the_library_is_of_this_boundary() {
     // SAFETY: it is handed nothing.
-    let number = unsafe { sheafsledge_sys::sheafsledge_boundary_3() };
+    let number = unsafe { sheafsledge_sys::sheafsledge_boundary_4() };
     assert_eq!(number, sheafsledge_sys::BOUNDARY);
     let (_, rust) = both();
     let symbol = format!("{PREFIX}boundary_{number}");

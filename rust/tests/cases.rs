@@ -8,7 +8,9 @@
 //!
 //! A question is a letter, decimal numbers, a slash and bytes by their hexadecimal digits. `*N K`
 //! after the numbers makes N bytes of those given, the last K of them over and over. An output was
-//! all ee; of more than 1,024 bytes its runs are shown, as `ff*2.61*65535.`.
+//! all ee; of more than 1,024 bytes its runs are shown, as `ff*2.61*65535.`. A refusal of a text has
+//! its place after it, as `refused 5.13`: where the longest well-formed start ends, or the first zero
+//! byte.
 
 #[path = "cases/frames.rs"]
 mod frames;
@@ -62,7 +64,16 @@ fn listed(values: &[u64]) -> String {
 fn ended(wrote: Outcome) -> String {
     match wrote.refusal {
         0 => format!("at {}", wrote.place),
-        k => format!("refused {k}"),
+        _ => refused(wrote),
+    }
+}
+
+/// What has no place must not have one, but for a stretch, which tells it in words of its own.
+fn refused(told: Outcome) -> String {
+    match (told.refusal, told.place) {
+        (k @ (5 | 6), place) => format!("refused {k}.{place}"),
+        (k @ (12 | 13), _) | (k, 0) => format!("refused {k}"),
+        (k, place) => format!("refused {k}.{place}"),
     }
 }
 

@@ -48,11 +48,34 @@ fn nothing_is_given_after_a_refusal() {
         assert_eq!(entries(cut), [Ok(OF_AB), Err(Refusal::Short)], "{end}");
     }
     let surrogate = [AB, &E[..22], b"\x03\0\xed\xa0\x80", AB].concat();
-    assert_eq!(entries(&surrogate), [Ok(OF_AB), Err(Refusal::NotUtf8)]);
+    // The data's bytes count from its first, not from the entry's.
+    let at = AB.len() + 24;
+    assert_eq!(
+        entries(&surrogate),
+        [Ok(OF_AB), Err(Refusal::NotUtf8 { at })]
+    );
     let zero = [&AB[..25], b"\0", E].concat();
-    assert_eq!(entries(&zero), [Err(Refusal::ZeroByte)]);
+    assert_eq!(entries(&zero), [Err(Refusal::ZeroByte { at: 25 })]);
     assert_eq!(Dirent::decode(AB, 27), Err(Refusal::Short));
     assert_eq!(Dirent::decode(AB, usize::MAX), Err(Refusal::Short));
+}
+
+/// From the first byte of the slice, wherever in it the entry stands.
+#[test]
+fn a_name_breaks_at_a_byte_of_the_slice() {
+    let name = |before: usize, name: &[u8]| {
+        let count = (name.len() as u16).to_le_bytes();
+        let bytes = [&vec![0xff; before][..], &AB[..22], &count, name, E].concat();
+        Dirent::decode(&bytes, before).expect_err("a refusal")
+    };
+    for before in [0, 1, 700] {
+        let start = before + 24;
+        let broken = |of| Refusal::NotUtf8 { at: start + of };
+        assert_eq!(name(before, b"\xe2\x82A"), broken(0));
+        assert_eq!(name(before, b"a\0\xe2\x82"), broken(2));
+        let at = start + 1;
+        assert_eq!(name(before, b"a\0b\0"), Refusal::ZeroByte { at });
+    }
 }
 
 #[test]

@@ -107,8 +107,8 @@ fn refused_tables_leave_the_output_as_it_was() {
     assert_eq!(refused(&[[0, 2], [65_540, 1]], 64), Refusal::SpanOutside);
     assert_eq!(refused(&[[usize::MAX, 2]], 64), Refusal::SpanOutside);
     assert_eq!(refused(&[[4, 65_536]], 64), Refusal::StringTooLong);
-    assert_eq!(refused(&[[0, 4]], 64), Refusal::NotUtf8);
-    assert_eq!(refused(&[[0, 3]], 64), Refusal::ZeroByte);
+    assert_eq!(refused(&[[0, 4]], 64), Refusal::NotUtf8 { at: 3 });
+    assert_eq!(refused(&[[0, 3]], 64), Refusal::ZeroByte { at: 2 });
     assert_eq!(refused(&[[0, 2]], 20), Refusal::NoRoom);
     // The rows are not looked at.
     for count in [17, 40, 65_535, 65_536] {
@@ -128,6 +128,40 @@ fn refused_tables_leave_the_output_as_it_was() {
         Err(Refusal::NoRoom)
     );
     assert_eq!(out, [0xee; 64]);
+}
+
+/// A table's names are refused at a byte of the text that they are parts of; the first one that is.
+#[test]
+fn a_table_tells_a_byte_of_its_text() {
+    let text = b"ab\0c\xe2\x82A\xc3\xa9\0";
+    let refused = |rows: &[[usize; 2]]| write_twalk(&mut [0; 64], text, HEAD, rows).unwrap_err();
+    let broken = |at| Refusal::NotUtf8 { at };
+    assert_eq!(refused(&[[0, 2], [3, 4]]), broken(4));
+    assert_eq!(refused(&[[5, 1], [2, 1]]), broken(5));
+    // Both in one: what is no UTF-8 comes first, though it stands after the zero byte.
+    assert_eq!(refused(&[[0, 2], [0, 5]]), broken(4));
+    // Halves of a character.
+    assert_eq!(refused(&[[7, 1]]), broken(7));
+    assert_eq!(refused(&[[7, 2], [8, 1]]), broken(8));
+    assert_eq!(refused(&[[0, 3], [4, 1]]), Refusal::ZeroByte { at: 2 });
+    assert_eq!(refused(&[[7, 3], [0, 3]]), Refusal::ZeroByte { at: 9 });
+}
+
+/// Whichever name is asked for, the first that fails is told of, by its byte among those lent. Over
+/// the boundary itself, since the crate holds no such names.
+#[test]
+fn the_first_name_that_fails_is_told() {
+    // Two bytes before the part; in it "a", "b", a zero byte and "c", "\xff", "".
+    let lent = b"\xff\0\x01\0a\x03\0b\0c\x01\0\xff\0\0";
+    for (i, count) in [(0, 4), (1, 4), (2, 4), (3, 4), (0, 3), (1, 2)] {
+        let mut span = [7; sheafsledge_sys::SPAN_VALUES];
+        let (from, all, len) = (lent.as_ptr(), lent.len(), lent.len() - 2);
+        // SAFETY: pointer and count are an array's, and the span is borrowed alone.
+        let found =
+            unsafe { sheafsledge_sys::sheafsledge_name_at(from, all, count, 2, len, i, &mut span) };
+        assert_eq!((found.refusal, found.place), (6, 8), "{i} of {count}");
+        assert_eq!(span, [7; sheafsledge_sys::SPAN_VALUES]);
+    }
 }
 
 #[test]
@@ -239,7 +273,10 @@ fn lent_qids_are_written_as_gathered_ones() {
 fn names_that_no_frame_holds_are_refused_at_once() {
     let long = "a".repeat(65_536);
     assert_eq!(Names::of(&["a", &long]), Err(Refusal::StringTooLong));
-    assert_eq!(Names::of(&["a\0", &long]), Err(Refusal::ZeroByte));
+    let zero = |at| Err(Refusal::ZeroByte { at });
+    assert_eq!(Names::of(&["a\0", &long]), zero(1));
+    assert_eq!(Names::of(&["abc", "\0", "d\0"]), zero(0));
+    assert_eq!(Names::gather(&["abc", "d\0\0"], &mut [0; 64]), zero(1));
     assert_eq!(Names::of(&["\0"; 17]), Err(Refusal::TooManyElements));
 }
 

@@ -68,19 +68,14 @@ example a b c d e f x y z t u v w = refl
 
 -- ---- what a span shows is the same in the one slice and in both
 
--- a string that is shown alike is measured alike, and put alike
+-- a string that is shown alike is put alike
 module _ {lent both : List ℕ} {x z y : ℕ} (e : showSpan lent x y ≡ showSpan both z y) where
-  measured-alike : {fs : Layout} {vs : List Value} {p q r : Place} → FieldMeasured str lent (span x y) p q → Measured fs both vs q r
-      → Measured (str ∷ fs) both (span z y ∷ vs) p r
-  unfolding checkField show showString
-  measured-alike m n = measure (record { is = m .is ∙ rw e }) n
-
   put-alike : {fs : Layout} {vs : List Value} {o o1 o2 : List ℕ} {p q r : Place} → PutAll (str ∷ []) lent (span x y ∷ []) o p o1 q → PutAll fs both vs o1 q o2 r
       → PutAll (str ∷ fs) both (span z y ∷ vs) o p o2 r
   unfolding putFields pastPutFields putField pastPutField
   put-alike a b = record { bytes = b .bytes ∙ rw (a .bytes, a .next, e); next = b .next ∙ rw (a .bytes, a .next, e) }
 
-whole : (s : List ℕ) → showSpan s 0 (length s) ≡ ok s []
+pub whole : (s : List ℕ) → showSpan s 0 (length s) ≡ ok s []
 whole s = shown-in s 0 (length s) (omega arith) ∙ rw (take-length s)
 
 module _ (first second : List ℕ) where
@@ -92,18 +87,15 @@ module _ (first second : List ℕ) where
       let l = length-append first second in
       whole first ∙ sym (shown-in both 0 (length first) (omega arith) ∙ rw (take-append-seam first second))
 
-  in-second : showSpan second 0 (length second) ≡ showSpan both (length first) (length second)
+  pub in-second : showSpan second 0 (length second) ≡ showSpan both (length first) (length second)
   in-second =
       let l = length-append first second in
       whole second ∙ sym (shown-in both (length first) (length second) (omega arith) ∙ rw (drop-append-seam first second, take-length second))
 
   module _ {fs : Layout} {vs : List Value} {p q r : Place} where
     pub measure-first : FieldMeasured str first (span 0 (length first)) p q → Measured fs both vs q r → Measured (str ∷ fs) both (span 0 (length first) ∷ vs) p r
-    measure-first = measured-alike in-first
-
-    pub measure-second : FieldMeasured str second (span 0 (length second)) p q → Measured fs both vs q r
-        → Measured (str ∷ fs) both (span (length first) (length second) ∷ vs) p r
-    measure-second = measured-alike in-second
+    unfolding checkField show showString
+    measure-first m n = measure (record { is = m .is ∙ rw in-first }) n
 
   module _ {fs : Layout} {vs : List Value} {o o1 o2 : List ℕ} {p q r : Place} where
     pub put-first : PutAll (str ∷ []) first (span 0 (length first) ∷ []) o p o1 q → PutAll fs both vs o1 q o2 r → PutAll (str ∷ fs) both (span 0 (length first) ∷ vs) o p o2 r
@@ -125,6 +117,6 @@ apart-length {l} {first} {second} {ns} {o} {o'} {p} {q} w =
     written-length v
 
 -- a type that has not two strings
-pub apart-unknown : {first second ns o : List ℕ} {p q : Place} (ty : ℕ) → Nots (Unit {0}) tableTwo ty → q ≡ Refused R.UnknownType
+pub apart-unknown : {first second ns o : List ℕ} {p q : Place} (ty : ℕ) → Nots (Unit {0}) tableTwo ty → q ≡ Refused R.UnknownType 0
     → ApartWritten (lookup tableTwo ty) first second ns o p o q
 apart-unknown ty h e = record { is = written-unknown tableTwo ty h e }

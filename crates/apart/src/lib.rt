@@ -6,7 +6,7 @@ use flat::WIDTH_T;
 use numbers::Place;
 use numbers::Refusal;
 use strings::Span;
-ghost use mathlib.Core.List.{[], _∷_};
+ghost use mathlib.Core.List.{[], _∷_, _++_};
 ghost use mathlib.Core.Option.{some};
 ghost use lib.ListN.{length};
 ghost use Rattle.numbers.specs.Numbers.{toLE};
@@ -17,6 +17,7 @@ ghost use Rattle.laying.specs.Laying.{FieldMeasured, PutAll};
 ghost use Rattle.layouts.specs.Tables.{layoutTsymlink, layoutTrenameat, layoutTattach, lookup};
 ghost use Rattle.flat.specs.Flat.{low};
 ghost use Rattle.apart.specs.Apart.{tableTwo, ApartWritten};
+ghost use Rattle.apart.specs.SecondLaws.{Passed};
 
 // A string that is all of a slice, measured at a place: 7, 5, 6; then the place after its count and its text.
 fn measure(text: &[u8], p: Place) -> Place
@@ -29,7 +30,29 @@ fn measure(text: &[u8], p: Place) -> Place
     laying::measure_str(text, all, p)
 }
 
-// The same string put at a place, after its count.
+// The second string, measured at a place as where the two slices are one: a place in its text counts on from the first (F2.7). No sum is
+// large, since the first was measured before.
+fn measure_second(first: &[u8], second: &[u8], p: Place) -> Place
+    requires { ⌜ Passed (now first) p ⌝ }
+    ensures { λ r. ⌜ FieldMeasured str (now (first .entry) ++ now (second .entry)) (span (length (now (first .entry))) (length (now (second .entry)))) p r ⌝ }
+{
+    let Place::At(_) = p else {
+        return p;
+    };
+    if 65535 < second.len() {
+        return Place::Refused(Refusal::StringTooLong, 0);
+    }
+    let q = measure(second, p);
+    match q {
+        Place::At(_) => q,
+        Place::Refused(k, n) => {
+            let at = first.len() + n;
+            Place::Refused(k, at)
+        }
+    }
+}
+
+// A string that is all of a slice put at a place, after its count.
 fn put(out: &mut [u8], p: Place, text: &[u8]) -> Place
     ensures { λ r. ⌜ PutAll (str ∷ []) (now (text .entry)) (span 0 (length (now (text .entry))) ∷ []) (now (out .entry)) p (now (out .exit)) r ⌝ }
 {
@@ -58,7 +81,7 @@ fn write_4ss4(
 {
     let p1 = laying::advanced(p, 4);
     let p2 = measure(first, p1);
-    let p3 = measure(second, p2);
+    let p3 = measure_second(first, second, p2);
     let end = laying::advanced(p3, 4);
     let start = laying::begun(p, end, out.len());
     let q1 = put_low(out, start, values[0]);
@@ -80,7 +103,7 @@ fn write_4s4s(
     let p1 = laying::advanced(p, 4);
     let p2 = measure(first, p1);
     let p3 = laying::advanced(p2, 4);
-    let end = measure(second, p3);
+    let end = measure_second(first, second, p3);
     let start = laying::begun(p, end, out.len());
     let q1 = put_low(out, start, values[0]);
     let q2 = put(out, q1, first);
@@ -100,7 +123,7 @@ fn write_44ss4(
 {
     let p1 = laying::advanced(p, 8);
     let p2 = measure(first, p1);
-    let p3 = measure(second, p2);
+    let p3 = measure_second(first, second, p2);
     let end = laying::advanced(p3, 4);
     let start = laying::begun(p, end, out.len());
     let q1 = put_low(out, start, values[0]);
@@ -127,6 +150,6 @@ pub fn write_flat(
         74 => write_4s4s(out, p, first, second, values),
         102 => write_4ss4(out, p, first, second, values),
         104 => write_44ss4(out, p, first, second, values),
-        _ => Place::Refused(Refusal::UnknownType),
+        _ => Place::Refused(Refusal::UnknownType, 0),
     }
 }

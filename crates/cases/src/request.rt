@@ -12,7 +12,7 @@ fn body(out: &mut [u8], ty: u8, p: Place, s: &[u8]) -> Place {
             questions::at(0, end);
             requests::write_tmessage(out, p, s, m)
         }
-        Tbody::Refused(k) => Place::Refused(k),
+        Tbody::Refused(k, n) => Place::Refused(k, n),
     }
 }
 
@@ -25,7 +25,7 @@ fn frame(s: &[u8], ty: u8, out: &mut [u8]) -> Place {
             let msg = f.msg;
             match msg {
                 Tbody::Message(_, used) => questions::head(0, ty, tag.0, true, used),
-                Tbody::Refused(k) => questions::head(numbers::number(k), 0, tag.0, true, 0),
+                Tbody::Refused(k, _) => questions::head(numbers::number(k), 0, tag.0, true, 0),
             }
             frames::write_tframe(out, s, f)
         }

@@ -40,7 +40,7 @@ fn answer(s: &[u8]) -> usize {
             }
             7
         }
-        Place::Refused(k) => {
+        Place::Refused(k, _) => {
             let n = numbers::number(k) as usize;
             if n < 7 {
                 return n;

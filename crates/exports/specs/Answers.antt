@@ -15,10 +15,11 @@ use Rattle.laying.specs.Laying.{writtenOut, writtenPast, Written}
 use Rattle.flat.specs.Flat.{laid, fieldValues, FlatRead}
 use Rattle.exports.specs.declared.Outcome.{Outcome}
 
--- F4.7: a refusal is told by its number, and no bytes count as used. The tag stands beside it where a request's header was read
+-- F4.7: a refusal is told by its number and its place (F2.7), and no bytes count as used. The tag stands beside it where a request's header
+-- was read
 abbrev pub outcomeOf : ℕ → ℕ → Bool → Place → Outcome
 outcomeOf ty tag held (At n) = record { refusal = 0; ty = ty; tag = tag; held = held; place = n }
-outcomeOf ty tag held (Refused k) = record { refusal = numberOf k; ty = 0; tag = tag; held = held; place = 0 }
+outcomeOf ty tag held (Refused k at) = record { refusal = numberOf k; ty = 0; tag = tag; held = held; place = at }
 
 -- where there is no frame to tell of
 abbrev pub ended : Place → Outcome

@@ -33,11 +33,11 @@ endOf v = startOf v + lenOf v
 
 abbrev pub pastElement : Result Value → Place
 pastElement (ok v r) = At (endOf v)
-pastElement (bad k) = Refused k
+pastElement (bad k at) = Refused k at
 
 abbrev foundIn : Result Value → List Value
 foundIn (ok v r) = v ∷ []
-foundIn (bad k) = []
+foundIn (bad k at) = []
 
 -- F4.18; refused, the two numbers are as they were
 pub record Spanned (e : Result Value) (before after : List ℕ) (r : Outcome) : Type 0 where
@@ -47,7 +47,7 @@ pub record Spanned (e : Result Value) (before after : List ℕ) (r : Outcome) : 
 
 abbrev pub Ends : Result Value → Type 0
 Ends (ok v r) = endOf v < 2 ^ 64
-Ends (bad k) = Unit {0}
+Ends (bad k at) = Unit {0}
 
 found : {X : Type 0} (f : Field) (lent : List ℕ) (v : Value) (i : ℕ) {w : Value} {r : List ℕ} → elementAt f lent v i ≡ ok w r
     → ((it : Item) (s : List ℕ) → i < countOf v → show f lent v ≡ ok it s → w ≡ elementIn (startOf v) i it → X) → X
@@ -80,13 +80,13 @@ module _ (lent : List ℕ) (c x y i : ℕ) (b : Bytes lent) (m : length lent < 2
   name-within e =
       found strs lent (part c x y) i e
       (λ it s h e1 e2. after-inv (showPart lent c x y) _ e1
-      (λ bs t e0 e4. after-inv (wholePart (readMany c bs)) _ e4
-      (λ l u e5 e6. whole-inv (readMany c bs) e5
+      (λ bs t e0 e4. after-inv (wholePart (readMany c x bs)) _ e4
+      (λ l u e5 e6. whole-inv (readMany c x bs) e5
       (λ e7.
       let e3 = part-inv lent c x y e0 .1 in
       let k = span-shown lent x y e3 in
       let f : it ≡ strings l = cc e6 in
-      let g = took-many c bs (rw (k .2) (bytes-take y (drop x lent) (bytes-drop x lent b))) e7 in
+      let g = took-many c x bs (rw (k .2) (bytes-take y (drop x lent) (bytes-drop x lent b))) e7 in
       let n : length bs ≡ length (manyBytes l) = ap length (g .whole ∙ append-nil (manyBytes l)) in
       let d = k .1 in
       let lies = span-inv lent x y e3 in
@@ -101,18 +101,18 @@ module _ (lent : List ℕ) (c x y i : ℕ) (b : Bytes lent) (m : length lent < 2
       (λ it s h e1 e2. after-inv (showPart lent c x y) _ e1
       (λ bs t e0 e4.
       let e3 = part-inv lent c x y e0 .1 in
-      let u = cond-inv (eqb y (13 * c)) _ R.PartMalformed e4 in
+      let u = cond-inv (eqb y (13 * c)) _ R.PartMalformed 0 e4 in
       let f : it ≡ qids c bs = (let g = u .1 in cc g) in
       let n = eqb-true y (13 * c) (u .0) in
       let lies = span-inv lent x y e3 in
       rw (e2, f) (omega arith)))
 
   pub name-lies : (e : Result Value) → e ≡ elementAt strs lent (part c x y) i → Ends e
-  name-lies (bad k) h = tt
+  name-lies (bad k at) h = tt
   name-lies (ok v r) h = let n = name-within (sym h) in omega arith
 
   pub qid-lies : (e : Result Value) → e ≡ elementAt quids lent (part c x y) i → Ends e
-  qid-lies (bad k) h = tt
+  qid-lies (bad k at) h = tt
   qid-lies (ok v r) h = let n = qid-within (sym h) in omega arith
 
 -- ---- what is answered for it
@@ -126,7 +126,7 @@ module _ (e : Element) where
   unfolding viewElement
   spanned-found h a x = rw h (record { is = record { answer = x; left = a } })
 
-  pub spanned-refused : {before : List ℕ} {k : Refusal} {r : Outcome} → e ≡ E.Refused k → r ≡ ended (Refused k) → Spanned (viewElement e) before before r
+  pub spanned-refused : {before : List ℕ} {k : Refusal} {at : ℕ} {r : Outcome} → e ≡ E.Refused k at → r ≡ ended (Refused k at) → Spanned (viewElement e) before before r
   unfolding viewElement
   spanned-refused h x = rw h (record { is = record { answer = x; left = refl } })
 

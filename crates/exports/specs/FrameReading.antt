@@ -1,7 +1,7 @@
 -- A frame that is read flat is the definition's frame, laid flat. Shown of any direction; requests and replies are two of them.
 use Prim.Native.Nat.{ℕ}
 use native.Mathlib.Omega.{arith}
-use mathlib.Core.Path.{_≡_, refl, sym, ap, _∙_}
+use mathlib.Core.Path.{_≡_, refl, sym, ap, ap₂, _∙_}
 use mathlib.Core.Bool.{true}
 use mathlib.Core.List.{List}
 use mathlib.Core.Option.{Option, none, some}
@@ -32,22 +32,22 @@ use Rattle.exports.specs.Frames.{frameOutcome, frameLaid, FrameRead}
 pub record FlatDirection : Type 0 where
   pub rows : List Row
   pub whole : Frame → Frame
-  pub fails : ℕ → Refusal → Outcome
-  pub none : (k : Refusal) → whole (headless k) ≡ headless k
+  pub fails : ℕ → Refusal → ℕ → Outcome
+  pub none : (k : Refusal) (at : ℕ) → whole (headless k at) ≡ headless k at
   pub good : (tag ty e : ℕ) (vs : List Value) → whole (framed tag (accepted ty vs e)) ≡ framed tag (accepted ty vs e)
-  pub told : (tag : ℕ) (k : Refusal) → fails tag k ≡ frameOutcome (whole (framed tag (refused k)))
-  pub bare : (tag : ℕ) (k : Refusal) (ns : List ℕ) → ns ≡ frameLaid (whole (framed tag (refused k))) ns
+  pub told : (tag : ℕ) (k : Refusal) (at : ℕ) → fails tag k at ≡ frameOutcome (whole (framed tag (refused k at)))
+  pub bare : (tag : ℕ) (k : Refusal) (at : ℕ) (ns : List ℕ) → ns ≡ frameLaid (whole (framed tag (refused k at))) ns
 
 abbrev pub flatRequests : FlatDirection
 flatRequests =
     record {
       rows = tableT;
       whole = λ f. f;
-      fails = λ tag k. outcomeOf 0 tag true (Refused k);
-      none = λ k. refl;
+      fails = λ tag k at. outcomeOf 0 tag true (Refused k at);
+      none = λ k at. refl;
       good = λ tag ty e vs. refl;
-      told = λ tag k. refl;
-      bare = λ tag k ns. refl;
+      told = λ tag k at. refl;
+      bare = λ tag k at ns. refl;
     }
 
 abbrev pub flatReplies : FlatDirection
@@ -55,11 +55,11 @@ flatReplies =
     record {
       rows = tableR;
       whole = refusedWhole;
-      fails = λ tag k. ended (Refused k);
-      none = λ k. refl;
+      fails = λ tag k at. ended (Refused k at);
+      none = λ k at. refl;
       good = λ tag ty e vs. refl;
-      told = λ tag k. refl;
-      bare = λ tag k ns. refl;
+      told = λ tag k at. refl;
+      bare = λ tag k at ns. refl;
     }
 
 -- ---- a body
@@ -69,8 +69,8 @@ module _ (ty : ℕ) {s ns ms : List ℕ} {p q : Place} where
   body-accepted none f h = absurd (let g = sym h ∙ f .next in let z : _≡_ {A = ℕ} 0 1 = cc g in omega arith)
   body-accepted (some l) f h = ap (finishAt ty (valuesAt l s p)) (sym h ∙ f .next)
 
-  body-refused : {k : Refusal} (l : Option Layout) → FlatRead l s p ns ms q → q ≡ Refused k → refused k ≡ bodyAt l ty s p
-  body-refused {k} none f h = let g = sym h ∙ f .next in let j : k ≡ R.UnknownType = cc g in ap refused j
+  body-refused : {k : Refusal} {at : ℕ} (l : Option Layout) → FlatRead l s p ns ms q → q ≡ Refused k at → refused k at ≡ bodyAt l ty s p
+  body-refused {k} {at} none f h = let g = sym h ∙ f .next in let j : k ≡ R.UnknownType = cc g in let i : at ≡ 0 = cc g in ap₂ refused j i
   body-refused (some l) f h = ap (finishAt ty (valuesAt l s p)) (sym h ∙ f .next)
 
 -- by the place that is answered
@@ -84,9 +84,9 @@ module _ (d : FlatDirection) (s : List ℕ) {ns ms : List ℕ} {r : Outcome} whe
   read-as w e a v = let h = sym (ap (d .whole) e) ∙ w in rw h (record { is = record { answer = a; left = v } })
 
   module _ {g : Head} (h : HeadIs s g) where
-    pub headless-read : {k : Refusal} → g ≡ H.Refused k → r ≡ ended (Refused k) → ms ≡ ns → FrameRead (d .whole (readFrame (d .rows) s)) ns ms r
+    pub headless-read : {k : Refusal} → g ≡ H.Refused k → r ≡ ended (Refused k 0) → ms ≡ ns → FrameRead (d .whole (readFrame (d .rows) s)) ns ms r
     unfolding HeadIs
-    headless-read {k} e = read-as (d .none k) (frame-headless s (d .rows) (rw e at h))
+    headless-read {k} e = read-as (d .none k 0) (frame-headless s (d .rows) (rw e at h))
 
     module _ {n ty tag : ℕ} {q : Place} (b : Bytes s) (e : g ≡ H.Held n ty tag) (f : FlatRead (lookup (d .rows) ty) (take n s) (At 7) ns ms q) where
       pub frame-read : {a : ℕ} → q ≡ At a → r ≡ outcomeOf ty tag true q → FrameRead (d .whole (readFrame (d .rows) s)) ns ms r
@@ -95,18 +95,18 @@ module _ (d : FlatDirection) (s : List ℕ) {ns ms : List ℕ} {r : Outcome} whe
           let vs : List Value = rowValues its (take n s) (At 7) in
           read-as (d .good tag ty a vs) (ap (framed tag) (body-accepted ty its f i) ∙ frame-is (d .rows) b (head-yes s h e)) (x ∙ ap (outcomeOf ty tag true) i) (values-left its f ∙ ap (λ z. laid z vs ns) i)
 
-      pub body-failed : {k : Refusal} → q ≡ Refused k → r ≡ d .fails tag k → FrameRead (d .whole (readFrame (d .rows) s)) ns ms r
-      body-failed {k} i x =
+      pub body-failed : {k : Refusal} {at : ℕ} → q ≡ Refused k at → r ≡ d .fails tag k at → FrameRead (d .whole (readFrame (d .rows) s)) ns ms r
+      body-failed {k} {at} i x =
           let its : Option Layout = lookup (d .rows) ty in
           let vs : List Value = rowValues its (take n s) (At 7) in
-          read-as refl (ap (framed tag) (body-refused ty its f i) ∙ frame-is (d .rows) b (head-yes s h e)) (x ∙ d .told tag k) (values-left its f ∙ ap (λ z. laid z vs ns) i ∙ d .bare tag k ns)
+          read-as refl (ap (framed tag) (body-refused ty its f i) ∙ frame-is (d .rows) b (head-yes s h e)) (x ∙ d .told tag k at) (values-left its f ∙ ap (λ z. laid z vs ns) i ∙ d .bare tag k at ns)
 
 -- a request is told in one way, whether its body fails or not
-by-place : {X : Type 0} (q : Place) → ((a : ℕ) → q ≡ At a → X) → ((k : Refusal) → q ≡ Refused k → X) → X
+by-place : {X : Type 0} (q : Place) → ((a : ℕ) → q ≡ At a → X) → ((k : Refusal) (at : ℕ) → q ≡ Refused k at → X) → X
 by-place (At a) f g = f a refl
-by-place (Refused k) f g = g k refl
+by-place (Refused k at) f g = g k at refl
 
 pub request-read : (s : List ℕ) {n ty tag : ℕ} {ns ms : List ℕ} {g : Head} {q : Place} {r : Outcome} → HeadIs s g → Bytes s → g ≡ H.Held n ty tag → FlatRead (lookup tableT ty) (take n s) (At 7) ns ms q → r ≡ outcomeOf ty tag true q
     → FrameRead (readFrame tableT s) ns ms r
 request-read s {ty = ty} {tag = tag} {q = q} h b e f x =
-    by-place q (λ a i. frame-read flatRequests s h b e f i x) (λ k i. body-failed flatRequests s h b e f i (x ∙ ap (outcomeOf ty tag true) i))
+    by-place q (λ a i. frame-read flatRequests s h b e f i x) (λ k at i. body-failed flatRequests s h b e f i (x ∙ ap (outcomeOf ty tag true) i))

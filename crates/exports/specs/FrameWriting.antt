@@ -16,7 +16,7 @@ use Rattle.exports.specs.Answers.{ended, Answered, wrote}
 use Rattle.exports.specs.declared.Outcome.{Outcome}
 use Rattle.exports.specs.Frames.{FlatWrote}
 
-pub holds-refusal : {rows : List Row} {refusal ty tag : ℕ} {ns lent o : List ℕ} {r : Outcome} → (refusal ≡ 0 → ⊥) → r ≡ ended (Refused R.HoldsRefusal)
+pub holds-refusal : {rows : List Row} {refusal ty tag : ℕ} {ns lent o : List ℕ} {r : Outcome} → (refusal ≡ 0 → ⊥) → r ≡ ended (Refused R.HoldsRefusal 0)
     → FlatWrote rows refusal ty tag ns lent o o r
 unfolding frameOut framePast
 holds-refusal {refusal = refusal} h x = let f = ne-eqb refusal 0 h in record { is = record { answer = rw f x; left = rw f } }

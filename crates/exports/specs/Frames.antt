@@ -20,19 +20,19 @@ use Rattle.exports.specs.declared.Outcome.{Outcome}
 -- the tag stands beside a message and beside a body's refusal (F4.5); a reply whose body fails has none, since it fails whole (F4.6)
 abbrev pub bodyOutcome : ℕ → Answer → Outcome
 bodyOutcome tag (accepted ty vs n) = outcomeOf ty tag true (At n)
-bodyOutcome tag (refused k) = outcomeOf 0 tag true (Refused k)
+bodyOutcome tag (refused k at) = outcomeOf 0 tag true (Refused k at)
 
 abbrev pub frameOutcome : Frame → Outcome
-frameOutcome (headless k) = ended (Refused k)
+frameOutcome (headless k at) = ended (Refused k at)
 frameOutcome (framed tag a) = bodyOutcome tag a
 
 -- what the lent values are afterwards: those of an accepted body at their front; refused, as they were
 abbrev pub answerLaid : Answer → List ℕ → List ℕ
 answerLaid (accepted ty vs n) before = stored before 0 (flatValues vs)
-answerLaid (refused k) before = before
+answerLaid (refused k at) before = before
 
 abbrev pub frameLaid : Frame → List ℕ → List ℕ
-frameLaid (headless k) before = before
+frameLaid (headless k at) before = before
 frameLaid (framed tag a) before = answerLaid a before
 
 pub record FrameRead (f : Frame) (before after : List ℕ) (r : Outcome) : Type 0 where
@@ -42,7 +42,7 @@ pub record FrameRead (f : Frame) (before after : List ℕ) (r : Outcome) : Type 
 
 -- what a frame shows: 16 where it holds a refusal
 abbrev pub flatShows : List Row → ℕ → ℕ → List ℕ → List ℕ → Result (List Item)
-flatShows rows refusal ty lent ns = cond (eqb refusal 0) (showsFrom (lookup rows ty) lent ns) (bad R.HoldsRefusal)
+flatShows rows refusal ty lent ns = cond (eqb refusal 0) (showsFrom (lookup rows ty) lent ns) (bad R.HoldsRefusal 0)
 
 -- refused, the output is as it was; else the frame stands at its front
 pub record FlatWrote (rows : List Row) (refusal ty tag : ℕ) (ns lent o o' : List ℕ) (r : Outcome) : Type 0 where

@@ -10,8 +10,9 @@ use numbers::Place;
 ghost use mathlib.Core.Path.{_≡_};
 ghost use Rattle.exports.specs.Answers.{outcomeOf, ended};
 
-// What crosses to Rust for all that is read or written: 0 and the place after it, or the refusal and no place. A frame also has a tag, and
-// a type where it was accepted or stands at a position; `held` says that there is one. Values go into room that the caller lends.
+// What crosses to Rust for all that is read or written: 0 and the place after it; or the refusal, and where a text breaks, else 0 (F2.7). A
+// frame also has a tag, and a type where it was accepted or stands at a position; `held` says that there is one. Values go into room that the
+// caller lends.
 #[repr(C)]
 pub struct Outcome {
     pub refusal: u8,
@@ -32,14 +33,14 @@ pub fn outcome_of(ty: u8, tag: u16, held: bool, p: Place) -> Outcome
             held,
             place,
         },
-        Place::Refused(k) => {
+        Place::Refused(k, place) => {
             let refusal = numbers::number(k);
             Outcome {
                 refusal,
                 ty: 0,
                 tag,
                 held,
-                place: 0,
+                place,
             }
         }
     }
@@ -55,8 +56,8 @@ pub fn ended(p: Place) -> Outcome
 // The number of the boundary between this library and Rust. The name holds it, so that Rust does not link with a library of another
 // boundary. It rises whenever a function or a struct that crosses changes.
 #[no_mangle]
-pub extern "C" fn sheafsledge_boundary_3() -> u32
-    ensures { λ r. ⌜ r ≡ 3 ⌝ }
+pub extern "C" fn sheafsledge_boundary_4() -> u32
+    ensures { λ r. ⌜ r ≡ 4 ⌝ }
 {
-    3
+    4
 }

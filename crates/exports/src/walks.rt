@@ -29,9 +29,10 @@ fn spanned(e: Element, span: &mut [u64; 2]) -> Outcome
         Element::Found(s) => {
             span[0] = s.start as u64;
             span[1] = s.len as u64;
-            crate::ended(Place::At(s.start + s.len))
+            let end = s.start + s.len;
+            crate::ended(Place::At(end))
         }
-        Element::Refused(k) => crate::ended(Place::Refused(k)),
+        Element::Refused(k, n) => crate::ended(Place::Refused(k, n)),
     }
 }
 

@@ -6,7 +6,7 @@ use mathlib.Core.Bool.{cond}
 use lib.ListN.{length, drop}
 use lib.Dec.{ltb}
 use Rattle.numbers.specs.Reading.{Result, ok, bad}
-use Rattle.numbers.specs.Places.{readAt, restAt, numAt, pastNum}
+use Rattle.numbers.specs.Places.{readFrom, restAt, numAt, pastNum}
 use Rattle.numbers.specs.declared.Place.{Place}
 use Rattle.numbers.specs.declared.Place.the-variants.{At, Refused}
 use Rattle.strings.specs.Spans.{checkAt}
@@ -24,14 +24,14 @@ nothing quids = part 0 0 0
 -- the value of what was read at a place
 abbrev pub placedIn : Field → Place → Result Item → Value
 placedIn f (At a) (ok i r) = place a i
-placedIn f (At a) (bad k) = nothing f
-placedIn f (Refused k) m = nothing f
+placedIn f (At a) (bad k at) = nothing f
+placedIn f (Refused k at) m = nothing f
 
 unfoldable pub valueAt : Field → List ℕ → Place → Value
-valueAt f s p = placedIn f p (readAt (readField f) s p)
+valueAt f s p = placedIn f p (readFrom (readField f) s p)
 
 unfoldable pub pastField : Field → List ℕ → Place → Place
-pastField f s p = restAt (length s) (readAt (readField f) s p)
+pastField f s p = restAt (length s) (readFrom (readField f) s p)
 
 -- what a field's reader answers at p of s: the value, and the place after it
 pub record FieldRead (f : Field) (s : List ℕ) (p : Place) (v : Value) (e : Place) : Type 0 where
@@ -49,7 +49,7 @@ pub record CountRead (s : List ℕ) (p : Place) (n : ℕ) (e : Place) : Type 0 w
 
 -- so many strings from a position on: the place after them
 pub record ManyRead (n : ℕ) (s : List ℕ) (a : ℕ) (e : Place) : Type 0 where
-  pub next : e ≡ restAt (length s) (readMany n (drop a s))
+  pub next : e ≡ restAt (length s) (readMany n a (drop a s))
 
 -- the part of a vector that was refused, and the place that says why
 pub record Nowhere (v : Value) (e k : Place) : Type 0 where

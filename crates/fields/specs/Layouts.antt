@@ -40,37 +40,6 @@ kind (bytes bs) = dat
 kind (strings l) = strs
 kind (qids n bs) = quids
 
--- ---- reading
-
--- a walk has at most sixteen elements (F1.9); the count is checked before any of them (F4.11, F4.12)
-abbrev pub counted : {A : Type 0} → ℕ → Result A → Result A
-counted n m = cond (leb n 16) m (bad R.TooManyElements)
-
-abbrev pub okCount : ℕ → Result ℕ
-okCount n = counted n (ok n [])
-
--- how many bytes data may have that is read (F1.9)
-abbrev pub most : ℕ
-most = 33554432
-
--- so many strings, one after the other (F4.11)
-unfoldable pub readMany : ℕ → List ℕ → Result (List (List ℕ))
-readMany zero xs = ok [] xs
-readMany (suc n) xs = after (readString xs) (λ b r. after (readMany n r) (λ bs s. ok (b ∷ bs) s))
-
--- a field by its kind (F4.8 to F4.12); data: count, limit, bytes; a vector: count, limit, elements
-unfoldable pub readField : Field → List ℕ → Result Item
-readField (num w) xs = after (readNum w xs) (λ n r. ok (number w n) r)
-readField str xs = after (readString xs) (λ bs r. ok (string bs) r)
-readField dat xs = after (readNum 4 xs) (λ n r. cond (leb n most) (after (raw n r) (λ bs s. ok (bytes bs) s)) (bad R.DataTooLong))
-readField strs xs = after (readNum 2 xs) (λ n r. counted n (after (readMany n r) (λ l s. ok (strings l) s)))
-readField quids xs = after (readNum 2 xs) (λ n r. counted n (after (raw (13 * n) r) (λ bs s. ok (qids n bs) s)))
-
--- fields in order; the first that fails answers (F4.2)
-unfoldable pub readFields : Layout → List ℕ → Result (List Item)
-readFields [] xs = ok [] xs
-readFields (f ∷ fs) xs = after (readField f xs) (λ i r. after (readFields fs r) (λ is s. ok (i ∷ is) s))
-
 -- ---- writing
 
 unfoldable pub manyBytes : List (List ℕ) → List ℕ
@@ -87,6 +56,37 @@ itemBytes (qids n bs) = toLE 2 n ++ bs
 unfoldable pub itemsBytes : List Item → List ℕ
 itemsBytes [] = []
 itemsBytes (i ∷ is) = itemBytes i ++ itemsBytes is
+
+-- ---- reading, of bytes that begin at position a
+
+-- a walk has at most sixteen elements (F1.9); the count is checked before any of them (F4.11, F4.12)
+abbrev pub counted : {A : Type 0} → ℕ → Result A → Result A
+counted n m = cond (leb n 16) m (bad R.TooManyElements 0)
+
+abbrev pub okCount : ℕ → Result ℕ
+okCount n = counted n (ok n [])
+
+-- how many bytes data may have that is read (F1.9)
+abbrev pub most : ℕ
+most = 33554432
+
+-- so many strings, one after the other (F4.11)
+unfoldable pub readMany : ℕ → ℕ → List ℕ → Result (List (List ℕ))
+readMany zero a xs = ok [] xs
+readMany (suc n) a xs = after (readString a xs) (λ b r. after (readMany n (a + length (stringBytes b)) r) (λ bs s. ok (b ∷ bs) s))
+
+-- a field by its kind (F4.8 to F4.12); data: count, limit, bytes; a vector: count, limit, elements
+unfoldable pub readField : Field → ℕ → List ℕ → Result Item
+readField (num w) a xs = after (readNum w xs) (λ n r. ok (number w n) r)
+readField str a xs = after (readString a xs) (λ bs r. ok (string bs) r)
+readField dat a xs = after (readNum 4 xs) (λ n r. cond (leb n most) (after (raw n r) (λ bs s. ok (bytes bs) s)) (bad R.DataTooLong 0))
+readField strs a xs = after (readNum 2 xs) (λ n r. counted n (after (readMany n (a + 2) r) (λ l s. ok (strings l) s)))
+readField quids a xs = after (readNum 2 xs) (λ n r. counted n (after (raw (13 * n) r) (λ bs s. ok (qids n bs) s)))
+
+-- fields in order; the first that fails answers (F4.2)
+unfoldable pub readFields : Layout → ℕ → List ℕ → Result (List Item)
+readFields [] a xs = ok [] xs
+readFields (f ∷ fs) a xs = after (readField f a xs) (λ i r. after (readFields fs (a + length (itemBytes i)) r) (λ is s. ok (i ∷ is) s))
 
 -- ---- what can stand in a frame
 

@@ -37,7 +37,7 @@ item-shown (number w n) a c p g h = refl
 item-shown (string bs) a c p g h = rw (string-shown bs a c p g h)
 item-shown (bytes bs) a c p g h = rw (shown-counted 4 (length bs) a bs c p h)
 item-shown (strings l) a c p g h =
-    rw (le-leb (length l) 16 (g .0), shown-counted 2 (length l) a (manyBytes l) c p h, ← (append-nil (manyBytes l)), reads-many l (g .1) .back [])
+    rw (le-leb (length l) 16 (g .0), shown-counted 2 (length l) a (manyBytes l) c p h, ← (append-nil (manyBytes l)), reads-many (p + 2) l (g .1) .back [])
 item-shown (qids n bs) a c p g h = rw (le-leb n 16 (g .0), shown-counted 2 n a bs c p h, eq-eqb (length bs) (13 * n) (g .1))
 
 pub shows-items : (is : List Item) (a c : List ℕ) (p : ℕ) → Goods is → length a ≡ p

@@ -64,8 +64,8 @@ cutOff k = cond (eqb (numberOf k) 1) R.PartMalformed k
 -- bytes left over are 14 (F5.7)
 abbrev pub wholePart : {A : Type 0} → Result A → Result A
 wholePart (ok a []) = ok a []
-wholePart (ok a (x ∷ r)) = bad R.PartMalformed
-wholePart (bad k) = bad (cutOff k)
+wholePart (ok a (x ∷ r)) = bad R.PartMalformed 0
+wholePart (bad k at) = bad (cutOff k) at
 
 -- a field that is to be written (F5.5 to F5.9)
 unfoldable pub show : Field → List ℕ → Value → Result Item
@@ -73,10 +73,10 @@ show (num w) lent v = ok (number w (numOf v)) []
 show str lent v = after (showString lent (startOf v) (lenOf v)) (λ bs r. ok (string bs) r)
 show dat lent v = after (showSpan lent (startOf v) (lenOf v)) (λ bs r. ok (bytes bs) r)
 show strs lent v =
-    after (showPart lent (countOf v) (startOf v) (lenOf v)) (λ bs r. after (wholePart (readMany (countOf v) bs)) (λ l s. ok (strings l) s))
+    after (showPart lent (countOf v) (startOf v) (lenOf v)) (λ bs r. after (wholePart (readMany (countOf v) (startOf v) bs)) (λ l s. ok (strings l) s))
 show quids lent v =
     after (showPart lent (countOf v) (startOf v) (lenOf v))
-    (λ bs r. cond (eqb (lenOf v) (13 * countOf v)) (ok (qids (countOf v) bs) r) (bad R.PartMalformed))
+    (λ bs r. cond (eqb (lenOf v) (13 * countOf v)) (ok (qids (countOf v) bs) r) (bad R.PartMalformed 0))
 
 -- the first of the values, and the others
 abbrev pub firstOf : List Value → Value

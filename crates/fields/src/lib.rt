@@ -44,7 +44,7 @@ pub fn read_data(s: &[u8], p: Place) -> ReadSpan
     if 33554432 < len {
         return ReadSpan {
             value: none,
-            next: Place::Refused(Refusal::DataTooLong),
+            next: Place::Refused(Refusal::DataTooLong, 0),
         };
     }
     if numbers::within(start, len, s.len()) {
@@ -57,7 +57,7 @@ pub fn read_data(s: &[u8], p: Place) -> ReadSpan
     }
     ReadSpan {
         value: none,
-        next: Place::Refused(Refusal::Short),
+        next: Place::Refused(Refusal::Short, 0),
     }
 }
 
@@ -109,7 +109,7 @@ pub fn check_count(count: usize, p: Place) -> Place
         return p;
     };
     if 16 < count {
-        return Place::Refused(Refusal::TooManyElements);
+        return Place::Refused(Refusal::TooManyElements, 0);
     }
     p
 }
@@ -145,10 +145,10 @@ fn scan_names(s: &[u8], from: usize, count: u16) -> Place
         };
         let len = c.value as usize;
         if s.len() < len {
-            break 'names Place::Refused(Refusal::Short);
+            break 'names Place::Refused(Refusal::Short, 0);
         }
         if s.len() - len < start {
-            break 'names Place::Refused(Refusal::Short);
+            break 'names Place::Refused(Refusal::Short, 0);
         }
         let end = start + len;
         let name = &s[start..end];
@@ -234,5 +234,5 @@ pub fn read_qids(s: &[u8], p: Place) -> ReadPart
             next: Place::At(end),
         };
     }
-    no_part(Place::Refused(Refusal::Short))
+    no_part(Place::Refused(Refusal::Short, 0))
 }

@@ -35,7 +35,7 @@ stored ns i (x ∷ xs) = stored (set ns i x) (suc i) xs
 -- what the lent numbers are once values were read: at the front those of the values, after them as they were; refused, all are as they were
 abbrev pub laid : Place → List Value → List ℕ → List ℕ
 laid (At e) vs ns = stored ns 0 (flatValues vs)
-laid (Refused k) vs ns = ns
+laid (Refused k at) vs ns = ns
 
 -- ---- and back
 
@@ -62,7 +62,7 @@ rowValues none s p = []
 rowValues (some l) s p = valuesAt l s p
 
 abbrev pub rowPast : Option Layout → List ℕ → Place → Place
-rowPast none s p = Refused R.UnknownType
+rowPast none s p = Refused R.UnknownType 0
 rowPast (some l) s p = pastFields l s p
 
 pub record FlatRead (l : Option Layout) (s : List ℕ) (p : Place) (before after : List ℕ) (q : Place) : Type 0 where
@@ -73,8 +73,8 @@ pub record FlatRead (l : Option Layout) (s : List ℕ) (p : Place) (before after
 
 -- the place n bytes on; 1 where they are not all held
 abbrev pub skipped : ℕ → List ℕ → Place → Place
-skipped n s (At a) = cond (leb (a + n) (length s)) (At (a + n)) (Refused R.Short)
-skipped n s (Refused k) = Refused k
+skipped n s (At a) = cond (leb (a + n) (length s)) (At (a + n)) (Refused R.Short 0)
+skipped n s (Refused k at) = Refused k at
 
 pub record Skipped (n : ℕ) (s : List ℕ) (p q : Place) : Type 0 where
   pub is : q ≡ skipped n s p
@@ -82,7 +82,7 @@ pub record Skipped (n : ℕ) (s : List ℕ) (p q : Place) : Type 0 where
 -- ---- a body written from such a run of numbers, by the layout of the type's row: 3 where it has none
 
 abbrev pub showsFrom : Option Layout → List ℕ → List ℕ → Result (List Item)
-showsFrom none lent ns = bad R.UnknownType
+showsFrom none lent ns = bad R.UnknownType 0
 showsFrom (some l) lent ns = shows l lent (fieldValues l ns)
 
 abbrev pub outIn : Option Layout → List ℕ → List ℕ → List ℕ → Place → List ℕ
@@ -90,7 +90,7 @@ outIn none lent ns o p = o
 outIn (some l) lent ns o p = writtenOut (shows l lent (fieldValues l ns)) o p
 
 abbrev pub endIn : Option Layout → List ℕ → List ℕ → List ℕ → Place → Place
-endIn none lent ns o p = Refused R.UnknownType
+endIn none lent ns o p = Refused R.UnknownType 0
 endIn (some l) lent ns o p = writtenPast (shows l lent (fieldValues l ns)) o p
 
 pub record FlatWritten (l : Option Layout) (lent ns o : List ℕ) (p : Place) (o' : List ℕ) (q : Place) : Type 0 where

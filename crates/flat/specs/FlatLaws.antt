@@ -41,16 +41,16 @@ module _ {l : Layout} {s ns : List ℕ} {p e : Place} {vs : List Value} (f : Fie
   pub flat-known : {a : ℕ} {ms : List ℕ} → e ≡ At a → ms ≡ stored ns 0 (flatValues vs) → FlatRead (some l) s p ns ms e
   flat-known h g = record { values = g ∙ ap (λ q. laid q vs ns) (sym h ∙ f .next) ∙ ap (λ (v : List Value). laid (pastFields l s p) v ns) (f .values); next = f .next }
 
-  pub flat-refused : {k : Refusal} → e ≡ Refused k → FlatRead (some l) s p ns ns e
+  pub flat-refused : {k : Refusal} {at : ℕ} → e ≡ Refused k at → FlatRead (some l) s p ns ns e
   flat-refused h = record { values = ap (λ q. laid q (valuesAt l s p) ns) (sym h ∙ f .next); next = f .next }
 
 -- one that holds nothing
 pub flat-empty : {s ns : List ℕ} (p : Place) → FlatRead (some []) s p ns ns p
 unfolding valuesAt pastFields
 flat-empty (At a) = record { values = refl; next = refl }
-flat-empty (Refused k) = record { values = refl; next = refl }
+flat-empty (Refused k at) = record { values = refl; next = refl }
 
-pub flat-unknown : {s ns : List ℕ} {p q : Place} (rs : List Row) (ty : ℕ) → Nots (Unit {0}) rs ty → q ≡ Refused R.UnknownType → FlatRead (lookup rs ty) s p ns ns q
+pub flat-unknown : {s ns : List ℕ} {p q : Place} (rs : List Row) (ty : ℕ) → Nots (Unit {0}) rs ty → q ≡ Refused R.UnknownType 0 → FlatRead (lookup rs ty) s p ns ns q
 flat-unknown rs ty h f = let g = no-row rs (Unit {0}) ty h .0 in record { values = rw g; next = rw g f }
 
 -- ---- numbers alone are passed as so many bytes are
@@ -83,18 +83,18 @@ both false c e = no-way e
 past-held : (w a : ℕ) (s : List ℕ) → a + w ≤ length s → pastField (num w) s (At a) ≡ At (a + w)
 past-held w a s h = sym (number-field (num-held {x = fromLE (take w (drop a s))} {p = At a} {t = true} refl (record { is = h }) refl refl) .next)
 
-past-short : (w a : ℕ) (s : List ℕ) → 0 < w → length s < a + w → pastField (num w) s (At a) ≡ Refused R.Short
+past-short : (w a : ℕ) (s : List ℕ) → 0 < w → length s < a + w → pastField (num w) s (At a) ≡ Refused R.Short 0
 past-short w a s o h = sym (number-field (num-short {p = At a} {t = false} o refl (record { is = h }) refl) .next)
 
 module _ {n a : ℕ} {s : List ℕ} {p : Place} (e : p ≡ At a) {t : Bool} (i : Within a n (length s) t) where
   pub skip-held : t ≡ true → Skipped n s p (At (a + n))
   skip-held h = record { is = rw (e, le-leb (a + n) (length s) (inside i h)) }
 
-  pub skip-short : t ≡ false → Skipped n s p (Refused R.Short)
+  pub skip-short : t ≡ false → Skipped n s p (Refused R.Short 0)
   skip-short h = record { is = rw (e, lt-leb (a + n) (length s) (outside i h)) }
 
 skip-on : (w n a : ℕ) (s : List ℕ) → skipped n s (At (a + w)) ≡ skipped (w + n) s (At a)
-skip-on w n a s = let z : a + w + n ≡ a + (w + n) = omega arith in ap (λ m. cond (leb m (length s)) (At m) (Refused R.Short)) z
+skip-on w n a s = let z : a + w + n ≡ a + (w + n) = omega arith in ap (λ m. cond (leb m (length s)) (At m) (Refused R.Short 0)) z
 
 -- a number, and others after it
 number-then : (fs : Layout) (w a : ℕ) (s : List ℕ) → 0 < w → (a + w ≤ length s → pastFields fs s (At (a + w)) ≡ skipped (w + widths fs) s (At a))
@@ -103,7 +103,7 @@ unfolding pastFields
 number-then fs w a s o g =
     or-else (a + w) (length s)
     (λ h. rw (past-held w a s h) (g h))
-    (λ h. rw (past-short w a s o h, lt-leb (a + (w + widths fs)) (length s) (omega arith)) (stays fs s R.Short))
+    (λ h. rw (past-short w a s o h, lt-leb (a + (w + widths fs)) (length s) (omega arith)) (stays fs s R.Short 0))
 
 past-numbers : (fs : Layout) (w a : ℕ) (s : List ℕ) → 0 < w → numbersAlone fs ≡ true → pastFields (num w ∷ fs) s (At a) ≡ skipped (w + widths fs) s (At a)
 unfolding pastFields
@@ -123,12 +123,12 @@ pub fields-skipped : {w n : ℕ} {fs : Layout} {s : List ℕ} {p q : Place} {vs 
 fields-skipped {w} {n} {fs} {s} {p = At a} o e g h =
     let b = both (ltb 0 w) (numbersAlone fs) o in
     record { values = h; next = g .is ∙ ap (λ m. skipped m s (At a)) (sym e) ∙ sym (past-numbers fs w a s (ltb-true 0 w (b .0)) (b .1)) }
-fields-skipped {w} {n} {fs} {s} {p = Refused k} o e g h = record { values = h; next = g .is ∙ sym (stays (num w ∷ fs) s k) }
+fields-skipped {w} {n} {fs} {s} {p = Refused k at} o e g h = record { values = h; next = g .is ∙ sym (stays (num w ∷ fs) s k at) }
 
 -- ---- a body that is written from numbers
 
 pub written-known : {l : Layout} {lent ns o o' : List ℕ} {p q : Place} {vs : List Value} → vs ≡ fieldValues l ns → Written l lent vs o p o' q → FlatWritten (some l) lent ns o p o' q
 written-known e w = let v = rw e at w in record { bytes = v .bytes; next = v .next }
 
-pub written-unknown : {lent ns o : List ℕ} {p q : Place} (rs : List Row) (ty : ℕ) → Nots (Unit {0}) rs ty → q ≡ Refused R.UnknownType → FlatWritten (lookup rs ty) lent ns o p o q
+pub written-unknown : {lent ns o : List ℕ} {p q : Place} (rs : List Row) (ty : ℕ) → Nots (Unit {0}) rs ty → q ≡ Refused R.UnknownType 0 → FlatWritten (lookup rs ty) lent ns o p o q
 written-unknown rs ty h e = let g = no-row rs (Unit {0}) ty h .0 in record { bytes = rw g; next = rw g e }

@@ -35,5 +35,5 @@ pub fn skip(s: &[u8], p: Place, n: usize) -> Place
     if numbers::within(at, n, s.len()) {
         return Place::At(at + n);
     }
-    Place::Refused(Refusal::Short)
+    Place::Refused(Refusal::Short, 0)
 }

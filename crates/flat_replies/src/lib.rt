@@ -50,7 +50,7 @@ pub fn read_flat(s: &[u8], ty: u8, p: Place, values: &mut [u64; WIDTH_R]) -> Pla
         119 => files::read_rwrite(s, p, values),
         121 => p,
         123 => p,
-        _ => Place::Refused(Refusal::UnknownType),
+        _ => Place::Refused(Refusal::UnknownType, 0),
     }
 }
 
@@ -110,6 +110,6 @@ pub fn write_flat(out: &mut [u8], p: Place, lent: &[u8], ty: u8, values: &[u64; 
         119 => common::files::write_rwrite(out, p, lent, flat::files::rwrite_of(v)),
         121 => laying::begun(p, p, out.len()),
         123 => laying::begun(p, p, out.len()),
-        _ => Place::Refused(Refusal::UnknownType),
+        _ => Place::Refused(Refusal::UnknownType, 0),
     }
 }

@@ -31,9 +31,9 @@ why-not k e = record { is = λ j f. absurd (let d = sym e ∙ f in let z : _≡_
 pub why-so : {h : Head} {k : Refusal} → h ≡ H.Refused k → Why h k
 why-so e = record { is = λ j f. (let d = sym e ∙ f in cc d) }
 
-head-no : (s : List ℕ) {g : Head} {j k : Refusal} → HeadIs s g → g ≡ H.Refused j → Why g k → readHeader s ≡ bad k
+head-no : (s : List ℕ) {g : Head} {j k : Refusal} → HeadIs s g → g ≡ H.Refused j → Why g k → readHeader s ≡ bad k 0
 unfolding HeadIs
-head-no s h e w = rw e at h ∙ ap bad (sym (w .is _ e))
+head-no s h e w = rw e at h ∙ ap (λ i. bad i 0) (sym (w .is _ e))
 
 pub tframe-no : (s : List ℕ) {g : Head} {j k : Refusal} → HeadIs s g → g ≡ H.Refused j → Why g k → viewTframe (T.Refused k) ≡ readFrame tableT s
 unfolding viewTframe
@@ -44,7 +44,7 @@ pub tframe-yes : (s : List ℕ) (b : Tbody) {g : Head} {n ty tag : ℕ} → Byte
 unfolding viewTframe
 tframe-yes s b {tag = tag} bs h e v = ap (framed tag) v ∙ frame-is tableT bs (head-yes s h e)
 
-pub rframe-no : (s : List ℕ) {g : Head} {j k : Refusal} → HeadIs s g → g ≡ H.Refused j → Why g k → viewRframe (F.Refused k) ≡ refusedWhole (readFrame tableR s)
+pub rframe-no : (s : List ℕ) {g : Head} {j k : Refusal} → HeadIs s g → g ≡ H.Refused j → Why g k → viewRframe (F.Refused k 0) ≡ refusedWhole (readFrame tableR s)
 unfolding viewRframe
 rframe-no s h e w = ap refusedWhole (frame-headless s tableR (head-no s h e w))
 
@@ -56,6 +56,6 @@ module _ (s : List ℕ) {g : Head} {n ty tag : ℕ} (bs : Bytes s) (h : HeadIs s
   unfolding viewRframe viewR
   rframe-yes m used f = ap (λ (x : Rbody). refusedWhole (framed tag (viewR x))) (sym f) ∙ ap refusedWhole rframe-is
 
-  pub rframe-bad : {k : Refusal} → b ≡ B.Refused k → viewRframe (F.Refused k) ≡ refusedWhole (readFrame tableR s)
+  pub rframe-bad : {k : Refusal} {at : ℕ} → b ≡ B.Refused k at → viewRframe (F.Refused k at) ≡ refusedWhole (readFrame tableR s)
   unfolding viewRframe viewR
   rframe-bad f = ap (λ (x : Rbody). refusedWhole (framed tag (viewR x))) (sym f) ∙ ap refusedWhole rframe-is

@@ -39,6 +39,6 @@ one-rframe (R.Frame f m) (R.Frame g n) e =
     let c : valuesR (f .msg) ≡ valuesR (g .msg) = cc e in
     let d : m ≡ n = cc e in
     ap₂ (λ t x. rframe t x m) a (one-message (f .msg) (g .msg) b c) ∙ ap (λ x. rframe (g .tag .0) (g .msg) x) d
-one-rframe (R.Refused j) (R.Refused k) e = let a : j ≡ k = cc e in ap R.Refused a
-one-rframe (R.Frame f n) (R.Refused k) e = absurd (let z : _≡_ {A = ℕ} 0 1 = cc e in omega arith)
-one-rframe (R.Refused k) (R.Frame f n) e = absurd (let z : _≡_ {A = ℕ} 0 1 = cc e in omega arith)
+one-rframe (R.Refused j m) (R.Refused k n) e = let a : j ≡ k = cc e in let b : m ≡ n = cc e in ap₂ R.Refused a b
+one-rframe (R.Frame f n) (R.Refused k m) e = absurd (let z : _≡_ {A = ℕ} 0 1 = cc e in omega arith)
+one-rframe (R.Refused k m) (R.Frame f n) e = absurd (let z : _≡_ {A = ℕ} 0 1 = cc e in omega arith)

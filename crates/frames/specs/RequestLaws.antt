@@ -18,6 +18,6 @@ pub request-written : (lent : List ℕ) (tag : ℕ) (b : Tbody) {n : ℕ} {m : T
 unfolding TbodyWritten
 request-written lent tag b e w = rw e w
 
-pub request-refused : (lent : List ℕ) (tag : ℕ) (b : Tbody) (o : List ℕ) {k : Refusal} → b ≡ M.Refused k → TbodyWritten lent tag b o o (Refused R.HoldsRefusal)
+pub request-refused : (lent : List ℕ) (tag : ℕ) (b : Tbody) (o : List ℕ) {k : Refusal} {at : ℕ} → b ≡ M.Refused k at → TbodyWritten lent tag b o o (Refused R.HoldsRefusal 0)
 unfolding TbodyWritten
 request-refused lent tag b o e = rw e (refl, refl)

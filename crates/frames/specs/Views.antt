@@ -27,16 +27,16 @@ pub record Why (h : Head) (k : Refusal) : Type 0 where
 
 unfoldable pub viewTframe : ReadTframe → Frame
 viewTframe (T.Frame f) = framed (f .tag .0) (viewT (f .msg))
-viewTframe (T.Refused k) = headless k
+viewTframe (T.Refused k) = headless k 0
 
 unfoldable pub viewRframe : ReadRframe → Frame
 viewRframe (R.Frame f n) = framed (f .tag .0) (accepted (typeR (f .msg)) (valuesR (f .msg)) n)
-viewRframe (R.Refused k) = headless k
+viewRframe (R.Refused k at) = headless k at
 
 -- a request's body written: 16 where it holds a refusal, and the output is as it was
 unfoldable pub TbodyWritten : List ℕ → ℕ → Tbody → List ℕ → List ℕ → Place → Type 0
 TbodyWritten lent tag (M.Message m n) o o' q = FrameWritten (layoutT m) (typeT m) tag lent (valuesT m) o o' q
-TbodyWritten lent tag (M.Refused k) o o' q = (o' ≡ o) × (q ≡ P.Refused C.HoldsRefusal)
+TbodyWritten lent tag (M.Refused k at) o o' q = (o' ≡ o) × (q ≡ P.Refused C.HoldsRefusal 0)
 
 pub record TframeWritten (lent : List ℕ) (f : Tframe) (o o' : List ℕ) (q : Place) : Type 0 where
   pub is : TbodyWritten lent (f .tag .0) (f .msg) o o' q

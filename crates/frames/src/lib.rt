@@ -30,10 +30,10 @@ pub enum ReadTframe {
     Refused(Refusal),
 }
 
-// An accepted reply, with the bytes used; in this direction a failed body refuses the frame.
+// An accepted reply, with the bytes used; in this direction a failed body refuses the frame, with its place.
 pub enum ReadRframe {
     Frame(Rframe, usize),
-    Refused(Refusal),
+    Refused(Refusal, usize),
 }
 
 // Why a header can't be read.
@@ -66,7 +66,7 @@ pub fn read_rframe(s: &[u8]) -> ReadRframe
 {
     let head = framing::read_header(s);
     let Head::Held(n, ty, tag) = head else {
-        return ReadRframe::Refused(why(head));
+        return ReadRframe::Refused(why(head), 0);
     };
     let body = replies::read_rmessage(&s[..n], ty, Place::At(framing::BODY));
     match body {
@@ -75,7 +75,7 @@ pub fn read_rframe(s: &[u8]) -> ReadRframe
             let frame = Rframe { tag, msg };
             ReadRframe::Frame(frame, used)
         }
-        Rbody::Refused(k) => ReadRframe::Refused(k),
+        Rbody::Refused(k, n) => ReadRframe::Refused(k, n),
     }
 }
 
@@ -91,7 +91,7 @@ pub fn write_tframe(out: &mut [u8], lent: &[u8], f: Tframe) -> Place
             let ty = requests::type_of(m);
             framing::put_header(out, end, ty, tag.0)
         }
-        Tbody::Refused(_) => Place::Refused(Refusal::HoldsRefusal),
+        Tbody::Refused(_, _) => Place::Refused(Refusal::HoldsRefusal, 0),
     }
 }
 

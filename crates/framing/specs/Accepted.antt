@@ -47,7 +47,7 @@ pub reads-frame : (rows : List Row) (size ty tag : ℕ) (is : List Item) (y z : 
     → readFrame rows (headBytes size ty tag ++ (itemsBytes is ++ y) ++ z) ≡ framed tag (accepted ty (places 7 is) (7 + length (itemsBytes is)))
 unfolding readFrame
 reads-frame rows size ty tag is y z w e =
-    rw (reads-header size ty tag (itemsBytes is ++ y) z (w .sized) (w .typed) (w .tagged) e, w .known, reads-fields is (w .goods) .back y)
+    rw (reads-header size ty tag (itemsBytes is ++ y) z (w .sized) (w .typed) (w .tagged) e, w .known, reads-fields 7 is (w .goods) .back y)
 
 -- ---- and the other way
 
@@ -61,27 +61,27 @@ pub record Accepts (rows : List Row) (s : List ℕ) (ty tag : ℕ) (vs : List Va
   pub values : vs ≡ places 7 items
   pub uses : used ≡ 7 + length (itemsBytes items)
 
-frame-inv : {X : Type 0} (rows : List Row) {tag : ℕ} {a : Answer} (m : Result Header) → frameOf rows m ≡ framed tag a
+pub frame-inv : {X : Type 0} (rows : List Row) {tag : ℕ} {a : Answer} (m : Result Header) → frameOf rows m ≡ framed tag a
     → ((h : Header) (d : List ℕ) → m ≡ ok h d → h .tag ≡ tag → bodyOf (lookup rows (h .ty)) (h .ty) 7 d ≡ a → X) → X
 frame-inv rows (ok h d) e f = f h d refl (cc e) (cc e)
-frame-inv rows (bad k) e f = absurd (let z : _≡_ {A = ℕ} 0 1 = cc e in omega arith)
+frame-inv rows (bad k at) e f = absurd (let z : _≡_ {A = ℕ} 0 1 = cc e in omega arith)
 
 items-inv : {X : Type 0} (ty a : ℕ) {ty' used : ℕ} {vs : List Value} (m : Result (List Item)) → itemsAt ty a m ≡ accepted ty' vs used
     → ((is : List Item) (r : List ℕ) → m ≡ ok is r → ty ≡ ty' → vs ≡ places a is → used ≡ a + length (itemsBytes is) → X) → X
 items-inv ty a (ok is r) e f = f is r refl (cc e) (cc e) (cc e)
-items-inv ty a (bad k) e f = absurd (let z : _≡_ {A = ℕ} 0 1 = cc e in omega arith)
+items-inv ty a (bad k at) e f = absurd (let z : _≡_ {A = ℕ} 0 1 = cc e in omega arith)
 
 body-inv : {X : Type 0} (ty a : ℕ) {ty' used : ℕ} {vs : List Value} (o : Option Layout) (d : List ℕ) → bodyOf o ty a d ≡ accepted ty' vs used
-    → ((l : Layout) (is : List Item) (r : List ℕ) → o ≡ some l → readFields l d ≡ ok is r → ty ≡ ty' → vs ≡ places a is → used ≡ a + length (itemsBytes is) → X) → X
+    → ((l : Layout) (is : List Item) (r : List ℕ) → o ≡ some l → readFields l a d ≡ ok is r → ty ≡ ty' → vs ≡ places a is → used ≡ a + length (itemsBytes is) → X) → X
 body-inv ty a none d e f = absurd (let z : _≡_ {A = ℕ} 0 1 = cc e in omega arith)
-body-inv ty a (some l) d e f = items-inv ty a (readFields l d) e (λ is r e1 e2 e3 e4. f l is r refl e1 e2 e3 e4)
+body-inv ty a (some l) d e f = items-inv ty a (readFields l a d) e (λ is r e1 e2 e3 e4. f l is r refl e1 e2 e3 e4)
 
-cond-no : {A : Type 0} (t : Bool) (n : Refusal) (m : Result A) {a : A} {r : List ℕ} → cond t (bad n) m ≡ ok a r → (t ≡ false) × (m ≡ ok a r)
+cond-no : {A : Type 0} (t : Bool) (n : Refusal) (m : Result A) {a : A} {r : List ℕ} → cond t (bad n 0) m ≡ ok a r → (t ≡ false) × (m ≡ ok a r)
 cond-no true n m e = absurd (let z : _≡_ {A = ℕ} 0 1 = cc e in omega arith)
 cond-no false n m e = (refl, e)
 
 -- a header that was read, byte for byte
-record Headed (s : List ℕ) (h : Header) (d : List ℕ) : Type 0 where
+pub record Headed (s : List ℕ) (h : Header) (d : List ℕ) : Type 0 where
   pub size : ℕ
   pub sized : size < 256 ^ 4
   pub typed : h .ty < 256 ^ 1
@@ -89,7 +89,7 @@ record Headed (s : List ℕ) (h : Header) (d : List ℕ) : Type 0 where
   pub bytes : Bytes d
   pub held : take size s ≡ headBytes size (h .ty) (h .tag) ++ d
 
-header-inv : (s : List ℕ) {h : Header} {d : List ℕ} → Bytes s → readHeader s ≡ ok h d → Headed s h d
+pub header-inv : (s : List ℕ) {h : Header} {d : List ℕ} → Bytes s → readHeader s ≡ ok h d → Headed s h d
 unfolding readHeader readTypeTag
 header-inv s {h} {d} b e =
     after-inv (readNum 4 s) _ e
@@ -126,7 +126,7 @@ accepts rows s {ty} {tag} {used} {vs} b e =
     (λ h d e1 e2 e3. body-inv (h .ty) 7 (lookup rows (h .ty)) d e3
     (λ l is r e4 e5 e6 e7 e8.
     let p = header-inv s b e1 in
-    let q = took-fields l d (p .bytes) e5 in
+    let q = took-fields l 7 d (p .bytes) e5 in
     record {
       size = p .size;
       items = is;

@@ -34,7 +34,7 @@ number-is : (w a : ℕ) (s : List ℕ) → a + w ≤ length s → numAt w s (At 
 unfolding numAt
 number-is w a s h = rw (held-num w a s h)
 
-size-short : {s : List ℕ} {p x : ℕ} {q : Place} {k : Refusal} → NumRead 4 s (At p) x q → q ≡ Refused k → length s < p + 4
+size-short : {s : List ℕ} {p x : ℕ} {q : Place} {k : Refusal} {at : ℕ} → NumRead 4 s (At p) x q → q ≡ Refused k at → length s < p + 4
 size-short {s} {p} r e =
     or-else (p + 4) (length s) (λ h. absurd (let f = sym (held-num 4 p s h) ∙ num-refused r e .reads in let z : _≡_ {A = ℕ} 0 1 = cc f in omega arith)) (λ h. h)
 
@@ -58,7 +58,7 @@ module _ (ts rs : List Row) (s : List ℕ) (p : ℕ) where
   unfolding frameAt
   inside-it h = rw (le-ltb (length s) p (omega arith), ne-eqb (length s) p (λ e. omega arith))
 
-  pub at-cut : {x : ℕ} {q : Place} {k : Refusal} → p < length s → NumRead 4 s (At p) x q → q ≡ Refused k → stop R.StretchCut p ≡ frameAt ts rs s p
+  pub at-cut : {x : ℕ} {q : Place} {k : Refusal} {at : ℕ} → p < length s → NumRead 4 s (At p) x q → q ≡ Refused k at → stop R.StretchCut p ≡ frameAt ts rs s p
   unfolding front
   at-cut h r e =
       let l = size-short r e in

@@ -62,12 +62,12 @@ unfoldable pub newLines : {ts rs : List Row} {old new : List ℕ} → ℕ → Ed
 newLines p nothing = ends p
 newLines p (grown f g ty used vs w a l e) =
     entry p (length g) (typeIn f) (tagIn f) (accepted ty vs used) (length f - used + (length g - length f)) (newLines (p + length g) e)
-newLines p (added f s e) = entry p (length f) (typeIn f) (tagIn f) (refused R.UnknownType) 0 (newLines (p + length f) e)
+newLines p (added f s e) = entry p (length f) (typeIn f) (tagIn f) (refused R.UnknownType 0) 0 (newLines (p + length f) e)
 
 -- ---- one frame
 
 answer-inv : {X : Type 0} {ty used : ℕ} {vs : List Value} (m : Frame) → answerIn m ≡ accepted ty vs used → ((tag : ℕ) → m ≡ framed tag (accepted ty vs used) → X) → X
-answer-inv (headless k) e f = absurd (let z : _≡_ {A = ℕ} 0 1 = cc e in omega arith)
+answer-inv (headless k at) e f = absurd (let z : _≡_ {A = ℕ} 0 1 = cc e in omega arith)
 answer-inv (framed tag a) e f = f tag (ap (framed tag) e)
 
 -- type and tag stand after the size, in front of the fields
@@ -136,7 +136,7 @@ module _ (ts rs : List Row) (f g : List ℕ) {ty used : ℕ} {vs : List Value} (
 -- ---- stretches
 
 module _ (ts rs : List Row) where
-  strange-frame : (f : List ℕ) → Strange ts rs f → answerOf ts rs f ≡ refused R.UnknownType
+  strange-frame : (f : List ℕ) → Strange ts rs f → answerOf ts rs f ≡ refused R.UnknownType 0
   unfolding answerOf readFrame
   strange-frame f s = rw (whole-header f (s .whole .seven) (s .whole .sized) .reads, s .unknown)
 
@@ -168,7 +168,7 @@ module _ (ts rs : List Row) where
       (ap₂ (entry p (length g) (typeIn f) (tagIn f) (accepted ty vs used)) (omega arith) (new-listed e (p + length g) (bytes-split f old b .1) (bytes-split g new c .1)))
   new-listed (added {new = new} f s e) p b c =
       list-whole p f new (s .whole)
-      ∙ rw (strange-frame f s) (ap (entry p (length f) (typeIn f) (tagIn f) (refused R.UnknownType) 0) (new-listed e (p + length f) b (bytes-split f new c .1)))
+      ∙ rw (strange-frame f s) (ap (entry p (length f) (typeIn f) (tagIn f) (refused R.UnknownType 0) 0) (new-listed e (p + length f) b (bytes-split f new c .1)))
 
 -- ---- the old records in the old order
 
@@ -178,7 +178,7 @@ pub data Record : Type 0 where
 
 unfoldable pub recordsIn : Listing → List Record
 recordsIn (entry p n ty tag (accepted y vs used) tail l) = shown ty tag vs ∷ recordsIn l
-recordsIn (entry p n ty tag (refused k) tail l) = recordsIn l
+recordsIn (entry p n ty tag (refused k at) tail l) = recordsIn l
 recordsIn (ends p) = []
 recordsIn (stops k p) = []
 

@@ -20,16 +20,16 @@ readTypeTag b = after (readNum 1 b) (λ ty c. after (readNum 2 c) (λ tag d. ok 
 -- size, not below 4, type, tag (F4.2), of the first size bytes as far as they are held (F4.1); the rest is the body
 unfoldable pub readHeader : List ℕ → Result Header
 readHeader s =
-    after (readNum 4 s) (λ size r. cond (ltb size 4) (bad R.SizeBelowFour) (readTypeTag (take (size - 4) r)))
+    after (readNum 4 s) (λ size r. cond (ltb size 4) (bad R.SizeBelowFour 0) (readTypeTag (take (size - 4) r)))
 
--- the refusal alone where the header can't be read (F4.4); else a tag beside the body's answer (F4.5)
+-- the refusal with its place where the header can't be read (F4.4); else a tag beside the body's answer (F4.5)
 pub data Frame : Type 0 where
-  headless : Refusal → Frame
+  headless : Refusal → ℕ → Frame
   framed : ℕ → Answer → Frame
 
 -- the body by its type (F4.2); spans count from the frame's first byte, so the body begins at 7 (F4.16)
 abbrev pub frameOf : List Row → Result Header → Frame
-frameOf rows (bad k) = headless k
+frameOf rows (bad k at) = headless k at
 frameOf rows (ok h d) = framed (h .tag) (bodyOf (lookup rows (h .ty)) (h .ty) 7 d)
 
 unfoldable pub readFrame : List Row → List ℕ → Frame
@@ -37,6 +37,6 @@ readFrame rows s = frameOf rows (readHeader s)
 
 -- a failed body refuses a reply (F4.6)
 abbrev pub refusedWhole : Frame → Frame
-refusedWhole (headless k) = headless k
+refusedWhole (headless k at) = headless k at
 refusedWhole (framed tag (accepted ty vs n)) = framed tag (accepted ty vs n)
-refusedWhole (framed tag (refused k)) = headless k
+refusedWhole (framed tag (refused k at)) = headless k at

@@ -7,9 +7,10 @@ use mathlib.Core.Bool.{Bool, true, false, cond}
 use mathlib.Core.List.{List, [], _∷_}
 use lib.ListN.{length, take, drop, length-take, length-drop}
 use lib.Seq.{length-take-le, take-all, take-length}
+use lib.Dec.{leb}
 use borrow.Author.Tests.{lt-ltb, le-ltb}
-use Rattle.numbers.specs.Numbers.{Bytes, bytes-take}
-use Rattle.numbers.specs.Reading.{Result, ok, bad, after, readNum}
+use Rattle.numbers.specs.Numbers.{Bytes, fromLE, bytes-take}
+use Rattle.numbers.specs.Reading.{Result, ok, bad, after, raw, readNum}
 use Rattle.numbers.specs.ReadingLaws.{or-else}
 use Rattle.numbers.specs.Places.{readAt, restAt, NumRead}
 use Rattle.numbers.specs.PlaceLaws.{Held, Refuses, num-holds, num-refused}
@@ -29,6 +30,18 @@ use Rattle.framing.specs.declared.Head.the-variants as H
 at-is : {m n : ℕ} → At m ≡ At n → m ≡ n
 at-is e = cc
 
+-- a number is refused with no place
+no-place : (w : ℕ) (xs : List ℕ) {k : Refusal} {at : ℕ} → readNum w xs ≡ bad k at → at ≡ 0
+unfolding readNum raw
+no-place w xs {k} {at} e = go (leb w (length xs)) e
+  where
+    go : (t : Bool) → after (cond t (ok (take w xs) (drop w xs)) (bad R.Short 0)) (λ bs r. ok (fromLE bs) r) ≡ bad k at → at ≡ 0
+    go true f = absurd (let z : _≡_ {A = ℕ} 0 1 = cc f in omega arith)
+    go false f = cc f
+
+bad-is : {A : Type 0} {m : Result A} {k : Refusal} {at : ℕ} → m ≡ bad k at → at ≡ 0 → m ≡ bad k 0
+bad-is {k = k} e h = e ∙ ap (bad k) h
+
 -- ---- the type and the tag
 
 pub tagged : {b : List ℕ} {ty tag e : ℕ} {a c : Place} → NumRead 1 b (At 4) ty a → NumRead 2 b a tag c → c ≡ At e → Tagged b (length b) ty tag
@@ -47,17 +60,20 @@ tagged {b} {ty} {tag} {e} r1 r2 h =
 unfoldable made : ℕ → ℕ → List ℕ → Result Header
 made ty tag d = ok (record { ty = ty; tag = tag }) d
 
-pub untagged : {b : List ℕ} {ty tag : ℕ} {a c : Place} {k : Refusal} → NumRead 1 b (At 4) ty a → NumRead 2 b a tag c → c ≡ Refused k → readTypeTag (drop 4 b) ≡ bad k
+pub untagged : {b : List ℕ} {ty tag : ℕ} {a c : Place} {k : Refusal} {at : ℕ} → NumRead 1 b (At 4) ty a → NumRead 2 b a tag c → c ≡ Refused k at → readTypeTag (drop 4 b) ≡ bad k 0
 unfolding readTypeTag made
-untagged {b} {ty} {tag} {a} {c} {k} r1 r2 h = go a refl (num-refused r2 h .reads)
+untagged {b} {ty} {tag} {a} {c} {k} {at} r1 r2 h = go a refl (num-refused r2 h .reads)
   where
-    go : (a' : Place) → a ≡ a' → readAt (readNum 2) b a' ≡ bad k → after (readNum 1 (drop 4 b)) (λ ty c. after (readNum 2 c) (λ tag d. made ty tag d)) ≡ bad k
+    go : (a' : Place) → a ≡ a' → readAt (readNum 2) b a' ≡ bad k at → after (readNum 1 (drop 4 b)) (λ ty c. after (readNum 2 c) (λ tag d. made ty tag d)) ≡ bad k 0
     go (At n) f g =
         let j = num-holds (omega arith) r1 f in
         let x : 4 ≡ j .at = at-is (j .place) in
         let v : readNum 1 (drop 4 b) ≡ ok ty (drop n b) = rw x (j .reads) in
-        rw (v, g)
-    go (Refused j) f g = let v : readNum 1 (drop 4 b) ≡ bad j = num-refused r1 f .reads in let e : j ≡ k = cc g in rw (v, e)
+        rw (v, bad-is g (no-place 2 (drop n b) g))
+    go (Refused j i) f g =
+        let v : readNum 1 (drop 4 b) ≡ bad j i = num-refused r1 f .reads in
+        let e : j ≡ k = cc g in
+        rw (bad-is v (no-place 1 (drop 4 b) v), e)
 
 -- ---- the size in front
 
@@ -70,11 +86,11 @@ size-held {s} {x} {e} r h =
     let n : e ≡ 4 = omega arith in
     (rw (← a, n) at (k .reads), omega arith)
 
-pub size-cut : {s : List ℕ} {x : ℕ} {q : Place} {k : Refusal} → NumRead 4 s (At 0) x q → q ≡ Refused k → readHeader s ≡ bad k
+pub size-cut : {s : List ℕ} {x : ℕ} {q : Place} {k : Refusal} {at : ℕ} → NumRead 4 s (At 0) x q → q ≡ Refused k at → readHeader s ≡ bad k 0
 unfolding readHeader
-size-cut r h = rw (num-refused r h .reads)
+size-cut {s} r h = let e = num-refused r h .reads in rw (bad-is e (no-place 4 s e))
 
-pub size-below : {s : List ℕ} {x e : ℕ} {q : Place} → NumRead 4 s (At 0) x q → q ≡ At e → x < 4 → readHeader s ≡ bad R.SizeBelowFour
+pub size-below : {s : List ℕ} {x e : ℕ} {q : Place} → NumRead 4 s (At 0) x q → q ≡ At e → x < 4 → readHeader s ≡ bad R.SizeBelowFour 0
 unfolding readHeader
 size-below {x = x} r h l = rw (size-held r h .0, lt-ltb x 4 l)
 
@@ -98,7 +114,7 @@ module _ {s : List ℕ} {x e n : ℕ} {q : Place} (r : NumRead 4 s (At 0) x q) (
       let c = t .seven in
       record { seven = omega arith; held = omega arith; reads = rw b (header-is ∙ t .reads) }
 
-  pub header-cut : {k : Refusal} → readTypeTag (drop 4 (take n s)) ≡ bad k → readHeader s ≡ bad k
+  pub header-cut : {k : Refusal} → readTypeTag (drop 4 (take n s)) ≡ bad k 0 → readHeader s ≡ bad k 0
   header-cut f = header-is ∙ f
 
   pub head-on : (g : Head) → TypeTag (take n s) g → HeadIs s g
@@ -115,7 +131,7 @@ frame-is {s} {n} {ty} {tag} rs b h =
     let c = h .seven in
     rw (h .reads) (ap (framed tag) (body-is rs ty (take n s) 7 (bytes-take n s b) (omega arith)))
 
-pub frame-headless : (s : List ℕ) {k : Refusal} (rs : List Row) → readHeader s ≡ bad k → headless k ≡ readFrame rs s
+pub frame-headless : (s : List ℕ) {k : Refusal} (rs : List Row) → readHeader s ≡ bad k 0 → headless k 0 ≡ readFrame rs s
 unfolding readFrame
 frame-headless s rs e = rw e
 

@@ -16,7 +16,7 @@ pub record Headed (s : List ℕ) (n ty tag : ℕ) : Type 0 where
 
 unfoldable pub HeadIs : List ℕ → Head → Type 0
 HeadIs s (H.Held n ty tag) = Headed s n ty tag
-HeadIs s (H.Refused k) = readHeader s ≡ bad k
+HeadIs s (H.Refused k) = readHeader s ≡ bad k 0
 
 -- after the size, of the frame's own bytes: the type and the tag
 pub record Tagged (b : List ℕ) (n ty tag : ℕ) : Type 0 where
@@ -26,4 +26,4 @@ pub record Tagged (b : List ℕ) (n ty tag : ℕ) : Type 0 where
 
 unfoldable pub TypeTag : List ℕ → Head → Type 0
 TypeTag b (H.Held n ty tag) = Tagged b n ty tag
-TypeTag b (H.Refused k) = readTypeTag (drop 4 b) ≡ bad k
+TypeTag b (H.Refused k) = readTypeTag (drop 4 b) ≡ bad k 0

@@ -14,3 +14,6 @@ pub mod Accepted
 pub mod Stripped
 pub mod Demand
 pub mod ReadBack
+pub mod Breaks
+pub mod Broken
+pub mod Lent

@@ -18,11 +18,11 @@ use Rattle.laying.specs.LayingLaws.{drop-take}
 abbrev pub sizeIn : List ℕ → ℕ
 sizeIn s = fromLE (take 4 s)
 
-short : (s : List ℕ) → length s < 4 → readHeader s ≡ bad R.Short
+short : (s : List ℕ) → length s < 4 → readHeader s ≡ bad R.Short 0
 unfolding readHeader readNum
 short s h = rw (raw-short 4 s h)
 
-below : (s : List ℕ) → 4 ≤ length s → sizeIn s < 4 → readHeader s ≡ bad R.SizeBelowFour
+below : (s : List ℕ) → 4 ≤ length s → sizeIn s < 4 → readHeader s ≡ bad R.SizeBelowFour 0
 unfolding readHeader readNum raw
 below s h l = rw (le-leb 4 (length s) h, lt-ltb (sizeIn s) 4 l)
 

@@ -27,7 +27,7 @@ pub frame-one : {fs : Layout} {ty tag : ℕ} {lent o o1 o2 : List ℕ} {vs : Lis
 frame-one a b = (one-answer (a .bytes) (b .bytes), one-answer (a .next) (b .next))
 
 -- a read and a refused header are not the same
-apart : {h : Header} {d : List ℕ} {k : Refusal} → ok h d ≡ bad k → ⊥
+apart : {h : Header} {d : List ℕ} {k : Refusal} {at : ℕ} → ok h d ≡ bad k at → ⊥
 apart e = let z : _≡_ {A = ℕ} 0 1 = cc e in omega arith
 
 -- of a header that was read, what is left tells how many bytes are the frame's

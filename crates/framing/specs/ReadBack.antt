@@ -53,9 +53,9 @@ good-text lent x y {bs} e =
     after-inv (showSpan lent x y) _ e
     (λ cs s e1 e2.
     let k = span-shown lent x y e1 in
-    let u = cond-inv (leb y 65535) _ R.StringTooLong e2 in
-    let v = cond-inv (utf8 cs) _ R.NotUtf8 (u .1) in
-    let w = cond-inv (noZero cs) _ R.ZeroByte (v .1) in
+    let u = cond-inv (leb y 65535) _ R.StringTooLong 0 e2 in
+    let v = cond-inv (utf8 cs) _ R.NotUtf8 _ (u .1) in
+    let w = cond-inv (noZero cs) _ R.ZeroByte _ (v .1) in
     let d = w .1 in
     let f : cs ≡ bs = cc d in
     let n = k .1 in
@@ -75,20 +75,20 @@ shown-good dat lent v {i} b g e =
     (λ bs s e1 e2. let f : bytes bs ≡ i = cc e2 in let k = span-shown lent (startOf v) (lenOf v) e1 .1 in rw (← f) (refl, omega arith))
 shown-good strs lent v {i} b g e =
     after-inv (showPart lent (countOf v) (startOf v) (lenOf v)) _ e
-    (λ bs s e1 e2. after-inv (wholePart (readMany (countOf v) bs)) _ e2
-    (λ l t e3 e4. whole-inv (readMany (countOf v) bs) e3
+    (λ bs s e1 e2. after-inv (wholePart (readMany (countOf v) (startOf v) bs)) _ e2
+    (λ l t e3 e4. whole-inv (readMany (countOf v) (startOf v) bs) e3
     (λ e5.
     let c = part-inv lent (countOf v) (startOf v) (lenOf v) e1 in
     let k = span-shown lent (startOf v) (lenOf v) (c .1) in
     let f : strings l ≡ i = cc e4 in
-    let h = took-many (countOf v) bs (rw (k .2) (bytes-take (lenOf v) (drop (startOf v) lent) (bytes-drop (startOf v) lent b))) e5 in
+    let h = took-many (countOf v) (startOf v) bs (rw (k .2) (bytes-take (lenOf v) (drop (startOf v) lent) (bytes-drop (startOf v) lent b))) e5 in
     rw (← f) (refl, (rw (h .good .0) (c .0), h .good .1)))))
 shown-good quids lent v {i} b g e =
     after-inv (showPart lent (countOf v) (startOf v) (lenOf v)) _ e
     (λ bs s e1 e2.
     let c = part-inv lent (countOf v) (startOf v) (lenOf v) e1 in
     let k = span-shown lent (startOf v) (lenOf v) (c .1) .1 in
-    let u = cond-inv (eqb (lenOf v) (13 * countOf v)) _ R.PartMalformed e2 in
+    let u = cond-inv (eqb (lenOf v) (13 * countOf v)) _ R.PartMalformed 0 e2 in
     let d = u .1 in
     let f : qids (countOf v) bs ≡ i = cc d in
     rw (← f) (refl, (c .0, k ∙ eqb-true (lenOf v) (13 * countOf v) (u .0))))
@@ -124,7 +124,7 @@ laid o ty tag n is u =
 
 pub wrote : (m : Result (List Item)) (ty tag : ℕ) {n : ℕ} {o o' : List ℕ} → o' ≡ frameOut ty tag m o → At n ≡ framePast ty tag m o → Wrote m ty tag o o' n
 unfolding frameOut framePast
-wrote (bad k) ty tag x y = absurd (let z : _≡_ {A = ℕ} 0 1 = cc y in omega arith)
+wrote (bad k at) ty tag x y = absurd (let z : _≡_ {A = ℕ} 0 1 = cc y in omega arith)
 wrote (ok is r) ty tag {n} {o} x y =
     or-else limit (7 + length (itemsBytes is))
     (λ l. absurd (let d = rw (le-ltb (7 + length (itemsBytes is)) limit l) at y in let z : _≡_ {A = ℕ} 0 1 = cc d in omega arith))

@@ -27,7 +27,7 @@ tableFor ts rs ty = cond (eqb (ty % 2) 0) ts rs
 
 -- what is listed as the answer, in both directions: the body's, or the header's refusal (F6.4)
 abbrev pub answerIn : Frame → Answer
-answerIn (headless k) = refused k
+answerIn (headless k at) = refused k at
 answerIn (framed tag a) = a
 
 unfoldable pub answerOf : List Row → List Row → List ℕ → Answer
@@ -36,7 +36,7 @@ answerOf ts rs f = answerIn (readFrame (tableFor ts rs (typeIn f)) f)
 -- the size less the bytes used; a refused frame has none (F6.5)
 abbrev pub tailIn : ℕ → Answer → ℕ
 tailIn size (accepted ty vs used) = size - used
-tailIn size (refused k) = 0
+tailIn size (refused k at) = 0
 
 -- ---- at a position
 

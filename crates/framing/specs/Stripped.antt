@@ -118,12 +118,12 @@ cutAt j s = cond (ltb j 4) (take j s) (resized j s)
 
 -- after the size: type, tag and items, cut anywhere
 cut-body : (rows : List Row) {size ty tag : ℕ} {is : List Item} → Stands rows size ty tag is → (m : ℕ) → m < length (toLE 1 ty ++ (toLE 2 tag ++ itemsBytes is))
-    → answerIn (frameOf rows (readTypeTag (take m (toLE 1 ty ++ (toLE 2 tag ++ itemsBytes is))))) ≡ refused R.Short
+    → answerIn (frameOf rows (readTypeTag (take m (toLE 1 ty ++ (toLE 2 tag ++ itemsBytes is))))) ≡ refused R.Short 0
 unfolding readTypeTag
 cut-body rows {size} {ty} {tag} {is} w m h =
     cutting (reads-num 1 ty (w .typed)) (toLE 2 tag ++ itemsBytes is) m h (λ e. rw e)
     (λ m1 h1 e. rw e
-    (cutting (reads-num 2 tag (w .tagged)) (itemsBytes is) m1 h1 (λ e1. rw e1) (λ m2 h2 e1. rw (e1, w .known, reads-fields is (w .goods) .cut m2 h2))))
+    (cutting (reads-num 2 tag (w .tagged)) (itemsBytes is) m1 h1 (λ e1. rw e1) (λ m2 h2 e1. rw (e1, w .known, reads-fields 7 is (w .goods) .cut m2 h2))))
 
 module _ (rows : List Row) (s : List ℕ) {ty tag used : ℕ} {vs : List Value} (A : Accepts rows s ty tag vs used) (j : ℕ) (h : j < used) where
   abbrev rest : List ℕ
@@ -132,7 +132,7 @@ module _ (rows : List Row) (s : List ℕ) {ty tag used : ℕ} {vs : List Value} 
   rest-length : length rest ≡ 3 + length (itemsBytes (A .items))
   rest-length = simp (length-append, length-toLE) (omega arith)
 
-  size-cut : j < 4 → answerIn (readFrame rows (take j s)) ≡ refused R.Short
+  size-cut : j < 4 → answerIn (readFrame rows (take j s)) ≡ refused R.Short 0
   unfolding readFrame readHeader readNum
   size-cut l = let d = length-take j s in rw (raw-short 4 (take j s) (omega arith))
 
@@ -144,7 +144,7 @@ module _ (rows : List Row) (s : List ℕ) {ty tag used : ℕ} {vs : List Value} 
       ap (λ (x : List ℕ). toLE 4 j ++ drop 4 x) t ∙ ap (λ n. toLE 4 j ++ drop 4 (take n (toLE 4 (A .size) ++ rest))) e
       ∙ ap (λ (x : List ℕ). toLE 4 j ++ x) (drop-take 4 (j - 4) (toLE 4 (A .size) ++ rest) ∙ ap (take (j - 4)) (drop-at (toLE 4 (A .size)) rest 4 (length-toLE 4 (A .size))))
 
-  fields-cut : 4 ≤ j → answerIn (readFrame rows (resized j s)) ≡ refused R.Short
+  fields-cut : 4 ≤ j → answerIn (readFrame rows (resized j s)) ≡ refused R.Short 0
   unfolding readFrame readHeader
   fields-cut l =
       let z = A .stands .sized in
@@ -154,6 +154,6 @@ module _ (rows : List Row) (s : List ℕ) {ty tag used : ℕ} {vs : List Value} 
       rw (first-cut l, reads-num 4 j (omega arith) .back (take (j - 4) rest), le-ltb j 4 l, take-take (j - 4) (j - 4) rest (omega arith))
       (cut-body rows (A .stands) (j - 4) (omega arith))
 
-  pub cut-short : answerIn (readFrame rows (cutAt j s)) ≡ refused R.Short
+  pub cut-short : answerIn (readFrame rows (cutAt j s)) ≡ refused R.Short 0
   unfolding cutAt
   cut-short = or-else 4 j (λ l. rw (le-ltb j 4 l) (fields-cut l)) (λ l. rw (lt-ltb j 4 l) (size-cut l))

@@ -25,12 +25,12 @@ unfoldable pub frameBytes : ℕ → ℕ → List Item → List ℕ
 frameBytes ty tag is = headBytes (7 + length (itemsBytes is)) ty tag ++ itemsBytes is
 
 unfoldable pub frameOut : ℕ → ℕ → Result (List Item) → List ℕ → List ℕ
-frameOut ty tag (bad k) o = o
+frameOut ty tag (bad k at) o = o
 frameOut ty tag (ok is r) o = cond (ltb (7 + length (itemsBytes is)) limit) (putAt (frameBytes ty tag is) o (At 0)) o
 
 unfoldable pub framePast : ℕ → ℕ → Result (List Item) → List ℕ → Place
-framePast ty tag (bad k) o = Refused k
-framePast ty tag (ok is r) o = cond (ltb (7 + length (itemsBytes is)) limit) (pastPut (frameBytes ty tag is) o (At 0)) (Refused R.FrameTooLong)
+framePast ty tag (bad k at) o = Refused k at
+framePast ty tag (ok is r) o = cond (ltb (7 + length (itemsBytes is)) limit) (pastPut (frameBytes ty tag is) o (At 0)) (Refused R.FrameTooLong 0)
 
 -- what writing a frame of that type, tag and values leaves in the output, and answers: its length, or the refusal
 pub record FrameWritten (fs : Layout) (ty tag : ℕ) (lent : List ℕ) (vs : List Value) (o o' : List ℕ) (q : Place) : Type 0 where
@@ -38,12 +38,12 @@ pub record FrameWritten (fs : Layout) (ty tag : ℕ) (lent : List ℕ) (vs : Lis
   pub next : q ≡ framePast ty tag (shows fs lent vs) o
 
 abbrev pub headOut : ℕ → ℕ → Place → List ℕ → List ℕ
-headOut ty tag (Refused k) o = o
+headOut ty tag (Refused k at) o = o
 headOut ty tag (At n) o = putAt (headBytes n ty tag) o (At 0)
 
 abbrev pub headPast : Place → List ℕ → Place
-headPast (Refused k) o = Refused k
-headPast (At n) o = cond (leb 7 (length o)) (At n) (Refused R.NoRoom)
+headPast (Refused k at) o = Refused k at
+headPast (At n) o = cond (leb 7 (length o)) (At n) (Refused R.NoRoom 0)
 
 -- the header put in front of a body that ends at `end`, if there is room for it; nothing where the body was refused
 pub record HeadPut (ty tag : ℕ) (end : Place) (o o' : List ℕ) (q : Place) : Type 0 where

@@ -31,16 +31,16 @@ pub put-fits : (bs o : List ℕ) (a : ℕ) → a + length bs ≤ length o → pu
 unfolding putAt
 put-fits bs o a h = rw (le-leb (a + length bs) (length o) h)
 
-pub put-full : (bs o : List ℕ) (a : ℕ) → length o < a + length bs → (putAt bs o (At a) ≡ o) × (pastPut bs o (At a) ≡ Refused R.NoRoom)
+pub put-full : (bs o : List ℕ) (a : ℕ) → length o < a + length bs → (putAt bs o (At a) ≡ o) × (pastPut bs o (At a) ≡ Refused R.NoRoom 0)
 unfolding putAt pastPut
 put-full bs o a h = let f = lt-leb (a + length bs) (length o) h in (rw f, rw f)
 
 -- ---- the header
 
-pub head-stays : {ty tag : ℕ} {e : Place} {o : List ℕ} {k : Refusal} → e ≡ Refused k → HeadPut ty tag e o o e
+pub head-stays : {ty tag : ℕ} {e : Place} {o : List ℕ} {k : Refusal} {at : ℕ} → e ≡ Refused k at → HeadPut ty tag e o o e
 head-stays e = record { bytes = rw e; next = rw e }
 
-pub head-full : {n ty tag : ℕ} {e : Place} {o : List ℕ} → e ≡ At n → length o < 7 → HeadPut ty tag e o o (Refused R.NoRoom)
+pub head-full : {n ty tag : ℕ} {e : Place} {o : List ℕ} → e ≡ At n → length o < 7 → HeadPut ty tag e o o (Refused R.NoRoom 0)
 head-full {n} {ty} {tag} {o = o} f h =
     let l = head-length n ty tag in
     record { bytes = rw f (sym (put-full (headBytes n ty tag) o 0 (omega arith) .0)); next = rw (f, lt-leb 7 (length o) h) }
@@ -83,8 +83,8 @@ unfolding frameBytes
 whole-frame o ty tag is h = sym (put-fits (frameBytes ty tag is) o 0 h)
 
 module _ {fs : Layout} {ty tag : ℕ} {lent : List ℕ} {vs : List Value} {o o1 o2 : List ℕ} {e q : Place} (w : Written fs lent vs o (At 7) o1 e) (h : HeadPut ty tag e o1 o2 q) where
-  nothing : (k : Refusal) → e ≡ Refused k → o1 ≡ o → (m : Result (List Item)) → shows fs lent vs ≡ m → o ≡ frameOut ty tag m o → Refused k ≡ framePast ty tag m o → FrameWritten fs ty tag lent vs o o2 q
-  nothing k f g m s x y = record {
+  nothing : (k : Refusal) (at : ℕ) → e ≡ Refused k at → o1 ≡ o → (m : Result (List Item)) → shows fs lent vs ≡ m → o ≡ frameOut ty tag m o → Refused k at ≡ framePast ty tag m o → FrameWritten fs ty tag lent vs o o2 q
+  nothing k at f g m s x y = record {
     bytes = h .bytes ∙ ap (λ z. headOut ty tag z o1) f ∙ g ∙ x ∙ ap (λ z. frameOut ty tag z o) (sym s);
     next = h .next ∙ ap (λ z. headPast z o1) f ∙ y ∙ ap (λ z. framePast ty tag z o) (sym s);
   }
@@ -114,18 +114,18 @@ module _ {fs : Layout} {ty tag : ℕ} {lent : List ℕ} {vs : List Value} {o o1 
   frame-written = go (shows fs lent vs) refl (w .bytes) (w .next)
     where
       go : (m : Result (List Item)) → shows fs lent vs ≡ m → o1 ≡ writtenOut (shows fs lent vs) o (At 7) → e ≡ writtenPast (shows fs lent vs) o (At 7) → FrameWritten fs ty tag lent vs o o2 q
-      go (bad k) s x y = nothing k (rw s at y) (rw s at x) (bad k) s refl refl
+      go (bad k at) s x y = nothing k at (rw s at y) (rw s at x) (bad k at) s refl refl
       go (ok is r) s x y =
           let bs : List ℕ = itemsBytes is in
           or-else limit (7 + length bs)
-          (λ l. let f = le-ltb (7 + length bs) limit l in nothing R.FrameTooLong (rw (s, f) at y) (rw (s, f) at x) (ok is r) s (rw f) (rw f))
+          (λ l. let f = le-ltb (7 + length bs) limit l in nothing R.FrameTooLong 0 (rw (s, f) at y) (rw (s, f) at x) (ok is r) s (rw f) (rw f))
           (λ l.
           let f = lt-ltb (7 + length bs) limit l in
           or-else (7 + length bs) (length o) (λ n. fitting is r s l n)
           (λ n.
           let g = put-full bs o 7 n in
           let u = put-full (frameBytes ty tag is) o 0 (rw (frame-length ty tag is) (omega arith)) in
-          nothing R.NoRoom ((rw (s, f) at y) ∙ g .1) ((rw (s, f) at x) ∙ g .0) (ok is r) s (rw f (sym (u .0))) (rw f (sym (u .1)))))
+          nothing R.NoRoom 0 ((rw (s, f) at y) ∙ g .1) ((rw (s, f) at x) ∙ g .0) (ok is r) s (rw f (sym (u .0))) (rw f (sym (u .1)))))
 
 pub frame-as : {fs : Layout} {ty ty' tag : ℕ} {lent : List ℕ} {vs : List Value} {o o1 o2 : List ℕ} {e q : Place} → ty' ≡ ty → Written fs lent vs o (At 7) o1 e → HeadPut ty' tag e o1 o2 q
     → FrameWritten fs ty tag lent vs o o2 q

@@ -35,7 +35,7 @@ fn type_and_tag(held: &[u8]) -> Head
     let b = g.next;
     match b {
         Place::At(_) => Head::Held(held.len(), t.value, g.value),
-        Place::Refused(k) => Head::Refused(k),
+        Place::Refused(k, _) => Head::Refused(k),
     }
 }
 
@@ -53,7 +53,7 @@ pub fn read_header(s: &[u8]) -> Head
             let limit = own(size.value, s.len());
             type_and_tag(&s[..limit])
         }
-        Place::Refused(k) => Head::Refused(k),
+        Place::Refused(k, _) => Head::Refused(k),
     }
 }
 
@@ -66,7 +66,7 @@ pub fn put_header(out: &mut [u8], end: Place, ty: u8, tag: u16) -> Place
         return end;
     };
     if out.len() < BODY {
-        return Place::Refused(Refusal::NoRoom);
+        return Place::Refused(Refusal::NoRoom, 0);
     }
     let a = numbers::put_num(out, Place::At(0), n as u64, 4);
     let b = numbers::put_u8(out, a, ty);

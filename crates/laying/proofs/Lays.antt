@@ -25,7 +25,7 @@ use Rattle.laying.specs.Laying.{limit, advance, shownSize, checkField, h
 
 -- ---- a place on
 
-pub on-refused : {n : ℕ} {p : Place} {k : Refusal} → p ≡ Refused k → Advanced n p p
+pub on-refused : {n : ℕ} {p : Place} {k : Refusal} {at : ℕ} → p ≡ Refused k at → Advanced n p p
 on-refused e = record { is = rw e }
 
 pub on-over : {n a : ℕ} {p : Place} → p ≡ At a → limit ≤ a + n → Advanced n p (At limit)
@@ -48,9 +48,9 @@ check-measured {f} {lent} {v} {p} {q} z c x y = record {
 }
   where
     go : (m : Result Item) → show f lent v ≡ m → (p' : Place) → advance (headWidth f + lenOf v) (checkAt m p') ≡ advance (shownSize m) (checkAt m p')
-    go m e (Refused k) = refl
+    go m e (Refused k at) = refl
     go (ok i s) e (At n) = ap (λ k. At (min (n + k) limit)) (sym (z .is i s e))
-    go (bad k) e (At n) = refl
+    go (bad k at) e (At n) = refl
 
 pub sized : {f : Field} {lent : List ℕ} {v : Value} → Unless f → Bytes lent → Sized f lent v
 sized {f} {lent} {v} u b = record {
@@ -63,9 +63,9 @@ sized {f} {lent} {v} u b = record {
 -- ---- the checks
 
 checked-map : {A B : Type 0} (f : A → B) (m : Result A) (p : Place) → checkAt m p ≡ checkAt (after m (λ x r. ok (f x) r)) p
-checked-map f m (Refused k) = refl
+checked-map f m (Refused k at) = refl
 checked-map f (ok x r) (At n) = refl
-checked-map f (bad k) (At n) = refl
+checked-map f (bad k at) (At n) = refl
 
 module _ {lent : List ℕ} {x y : ℕ} {p q : Place} where
   pub str-check : StrCheck lent x y p q → ShowCheck str lent (span x y) p q
@@ -76,7 +76,7 @@ module _ {lent : List ℕ} {x y : ℕ} {p q : Place} where
   unfolding show
   dat-check c = record { is = c .is ∙ checked-map bytes (showSpan lent x y) p }
 
-  pub quids-outside : {n : ℕ} {k : Refusal} → PartCheck lent n x y p q → q ≡ Refused k → ShowCheck quids lent (part n x y) p q
+  pub quids-outside : {n : ℕ} {k : Refusal} {at : ℕ} → PartCheck lent n x y p q → q ≡ Refused k at → ShowCheck quids lent (part n x y) p q
   unfolding show
   quids-outside {n} c e = record { is = e ∙ sym (first-refuses (showPart lent n x y) _ p (sym (c .is) ∙ e)) }
 
@@ -84,21 +84,21 @@ module _ {lent : List ℕ} {x y : ℕ} {p q : Place} where
   unfolding show
   quids-fine {n} c e h = let k = part-passed c e in record { is = e ∙ rw (k .place, k .shows, eq-eqb y (13 * n) h) }
 
-  pub quids-malformed : {n a : ℕ} → PartCheck lent n x y p q → q ≡ At a → (y ≡ 13 * n → ⊥) → ShowCheck quids lent (part n x y) p (Refused R.PartMalformed)
+  pub quids-malformed : {n a : ℕ} → PartCheck lent n x y p q → q ≡ At a → (y ≡ 13 * n → ⊥) → ShowCheck quids lent (part n x y) p (Refused R.PartMalformed 0)
   unfolding show
   quids-malformed {n} c e h = let k = part-passed c e in record { is = rw (k .place, k .shows, ne-eqb y (13 * n) h) }
 
-  pub strs-outside : {n : ℕ} {k : Refusal} → PartCheck lent n x y p q → q ≡ Refused k → ShowCheck strs lent (part n x y) p q
+  pub strs-outside : {n : ℕ} {k : Refusal} {at : ℕ} → PartCheck lent n x y p q → q ≡ Refused k at → ShowCheck strs lent (part n x y) p q
   unfolding show
   strs-outside {n} c e = record { is = e ∙ sym (first-refuses (showPart lent n x y) _ p (sym (c .is) ∙ e)) }
 
 -- the scan's end tells whether the strings fill the part
-fills : (n a stop : ℕ) (bs : List ℕ) → length bs ≤ stop → Bytes bs → (m : Result (List (List ℕ))) → readMany n bs ≡ m
+fills : (n a x stop : ℕ) (bs : List ℕ) → length bs ≤ stop → Bytes bs → (m : Result (List (List ℕ))) → readMany n x bs ≡ m
     → filledAt (restAt stop m) stop (At a) ≡ checkAt (after (wholePart m) (λ l s. ok (strings l) s)) (At a)
-fills n a stop bs g b (bad k) e = refl
-fills n a stop bs g b (ok l []) e = rw (eq-eqb (stop - 0) stop (omega arith))
-fills n a stop bs g b (ok l (y ∷ r)) e =
-    let t = took-many n bs b e in
+fills n a x stop bs g b (bad k at) e = refl
+fills n a x stop bs g b (ok l []) e = rw (eq-eqb (stop - 0) stop (omega arith))
+fills n a x stop bs g b (ok l (y ∷ r)) e =
+    let t = took-many n x bs b e in
     let h : length bs ≡ length (manyBytes l) + suc (length r) = ap length (t .whole) ∙ length-append (manyBytes l) (y ∷ r) in
     rw (ne-eqb (stop - suc (length r)) stop (λ z. omega arith))
 
@@ -111,15 +111,15 @@ strs-scanned {lent} {n} {x} {y} {a} b c h m f =
     let l : length (take (x + y) lent) ≡ x + y = length-take-le (x + y) lent (k .lies) in
     let z = shown-length lent x y (k .lies) in
     let g = rw (m .next, h, l, i) at (f .is) in
-    record { is = g ∙ fills n a (x + y) (take y (drop x lent)) (omega arith) (bytes-take y (drop x lent) (bytes-drop x lent b)) (readMany n (take y (drop x lent))) refl ∙ rw (k .place, k .shows) }
+    record { is = g ∙ fills n a x (x + y) (take y (drop x lent)) (omega arith) (bytes-take y (drop x lent) (bytes-drop x lent b)) (readMany n x (take y (drop x lent))) refl ∙ rw (k .place, k .shows) }
 
 -- the count's check and the span's are the part's
 pub part-check : {lent : List ℕ} {n x y : ℕ} {p q r : Place} → CountCheck n p q → SpanCheck lent x y q r → PartCheck lent n x y p r
 part-check {lent} {n} {x} {y} {p} c s = record { is = s .is ∙ ap (checkAt (showSpan lent x y)) (c .is) ∙ go }
   where
-    stays : (k : Refusal) (m : Result (List ℕ)) (z : Place) → checkAt m (checkAt {A = ℕ} (bad k) z) ≡ checkAt {A = List ℕ} (bad k) z
+    stays : (k : Refusal) (m : Result (List ℕ)) (z : Place) → checkAt m (checkAt {A = ℕ} (bad k 0) z) ≡ checkAt {A = List ℕ} (bad k 0) z
     stays k m (At a) = refl
-    stays k m (Refused j) = refl
+    stays k m (Refused j at) = refl
 
     go : checkAt (showSpan lent x y) (checkAt (okCount n) p) ≡ checkAt (showPart lent n x y) p
     go =
@@ -132,22 +132,22 @@ part-check {lent} {n} {x} {y} {p} c s = record { is = s .is ∙ ap (checkAt (sho
 pub fills-at : {e p : Place} {n m : ℕ} → e ≡ At m → m ≡ n → Filled e n p p
 fills-at {n = n} {m = m} e h = record { is = rw (e, eq-eqb m n h) }
 
-pub fills-not : {e p : Place} {n m : ℕ} → e ≡ At m → (m ≡ n → ⊥) → Filled e n p (Refused R.PartMalformed)
+pub fills-not : {e p : Place} {n m : ℕ} → e ≡ At m → (m ≡ n → ⊥) → Filled e n p (Refused R.PartMalformed 0)
 fills-not {n = n} {m = m} e h = record { is = rw (e, ne-eqb m n h) }
 
-pub fills-refused : {e p : Place} {n : ℕ} {k j : Refusal} → e ≡ Refused k → j ≡ cutOff k → Filled e n p (Refused j)
-fills-refused e h = record { is = rw e (ap Refused h) }
+pub fills-refused : {e p : Place} {n : ℕ} {k j : Refusal} {at : ℕ} → e ≡ Refused k at → j ≡ cutOff k → Filled e n p (Refused j at)
+fills-refused {at = at} e h = record { is = rw e (ap (λ i. Refused i at) h) }
 
 -- ---- the end of measuring
 
-pub settles-refused : {e : Place} {n : ℕ} {k : Refusal} → e ≡ Refused k → Settled e n e
+pub settles-refused : {e : Place} {n : ℕ} {k : Refusal} {at : ℕ} → e ≡ Refused k at → Settled e n e
 settles-refused e = record { is = rw e }
 
 module _ {e : Place} {n m : ℕ} where
-  pub settles-over : e ≡ At m → limit ≤ m → Settled e n (Refused R.FrameTooLong)
+  pub settles-over : e ≡ At m → limit ≤ m → Settled e n (Refused R.FrameTooLong 0)
   settles-over f h = record { is = rw (f, le-ltb m limit h) }
 
-  pub settles-full : e ≡ At m → m < limit → n < m → Settled e n (Refused R.NoRoom)
+  pub settles-full : e ≡ At m → m < limit → n < m → Settled e n (Refused R.NoRoom 0)
   settles-full f h k = record { is = rw (f, lt-ltb m limit h, lt-leb m n k) }
 
   pub settles-fits : e ≡ At m → m < limit → m ≤ n → Settled e n (At m)
@@ -156,7 +156,7 @@ module _ {e : Place} {n m : ℕ} where
 -- ---- where putting begins
 
 module _ {p e q : Place} {n : ℕ} where
-  pub begins-not : {k : Refusal} → Settled e n q → q ≡ Refused k → Begun p e n q
+  pub begins-not : {k : Refusal} {at : ℕ} → Settled e n q → q ≡ Refused k at → Begun p e n q
   begins-not s h = record { is = rw (← (s .is), h) }
 
   pub begins : {m : ℕ} → Settled e n q → q ≡ At m → Begun p e n p

@@ -25,7 +25,7 @@ elementIn x i (qids n bs) = span (x + 13 * i) 13
 
 -- 17, then 9, then 15 (F4.19)
 unfoldable pub askedFor : List ℕ → Value → ℕ → Result (List ℕ)
-askedFor lent v i = after (showPart lent (countOf v) (startOf v) (lenOf v)) (λ bs r. cond (ltb i (countOf v)) (ok bs r) (bad R.NoSuchElement))
+askedFor lent v i = after (showPart lent (countOf v) (startOf v) (lenOf v)) (λ bs r. cond (ltb i (countOf v)) (ok bs r) (bad R.NoSuchElement 0))
 
 -- then the whole part, as its writer checks it (F4.19). The rest of an `ok` is not used, and is []
 unfoldable pub elementAt : Field → List ℕ → Value → ℕ → Result Value
@@ -33,7 +33,7 @@ elementAt f lent v i = after (askedFor lent v i) (λ bs r. after (show f lent v)
 
 unfoldable pub viewElement : Element → Result Value
 viewElement (E.Found s) = ok (span (s .start) (s .len)) []
-viewElement (E.Refused k) = bad k
+viewElement (E.Refused k at) = bad k at
 
 -- the place itself where an element may be looked for; or 17, 9, 15
 pub record ElementAsked (lent : List ℕ) (v : Value) (i : ℕ) (q : Place) : Type 0 where

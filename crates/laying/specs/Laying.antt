@@ -23,12 +23,12 @@ limit = 4294967296
 
 abbrev pub advance : ℕ → Place → Place
 advance n (At a) = At (min (a + n) limit)
-advance n (Refused k) = Refused k
+advance n (Refused k at) = Refused k at
 
 -- how long an item is that a value shows
 abbrev pub shownSize : Result Item → ℕ
 shownSize (ok i r) = length (itemBytes i)
-shownSize (bad k) = 0
+shownSize (bad k at) = 0
 
 unfoldable pub checkField : Field → List ℕ → Value → Place → Place
 checkField f lent v p = advance (shownSize (show f lent v)) (checkAt (show f lent v) p)
@@ -121,8 +121,8 @@ pub record PartCheck (lent : List ℕ) (n x y : ℕ) (p q : Place) : Type 0 wher
 
 -- where the scan of a part of n bytes has ended: at its end, or it is malformed
 abbrev pub filledAt : Place → ℕ → Place → Place
-filledAt (At e) n p = cond (eqb e n) p (Refused R.PartMalformed)
-filledAt (Refused k) n p = Refused (cutOff k)
+filledAt (At e) n p = cond (eqb e n) p (Refused R.PartMalformed 0)
+filledAt (Refused k at) n p = Refused (cutOff k) at
 
 pub record Filled (e : Place) (n : ℕ) (p q : Place) : Type 0 where
   pub is : q ≡ filledAt e n p
@@ -130,15 +130,15 @@ pub record Filled (e : Place) (n : ℕ) (p q : Place) : Type 0 where
 -- ---- a whole layout written: its fields in order, then 10, then 11, and a refusal leaves the output as it was (F5.16)
 
 abbrev pub writtenOut : Result (List Item) → List ℕ → Place → List ℕ
-writtenOut m o (Refused k) = o
-writtenOut (bad k) o (At a) = o
+writtenOut m o (Refused k at) = o
+writtenOut (bad k at) o (At a) = o
 writtenOut (ok is r) o (At a) = cond (ltb (a + length (itemsBytes is)) limit) (putAt (itemsBytes is) o (At a)) o
 
 abbrev pub writtenPast : Result (List Item) → List ℕ → Place → Place
-writtenPast m o (Refused k) = Refused k
-writtenPast (bad k) o (At a) = Refused k
+writtenPast m o (Refused k at) = Refused k at
+writtenPast (bad k at) o (At a) = Refused k at
 writtenPast (ok is r) o (At a) =
-    cond (ltb (a + length (itemsBytes is)) limit) (pastPut (itemsBytes is) o (At a)) (Refused R.FrameTooLong)
+    cond (ltb (a + length (itemsBytes is)) limit) (pastPut (itemsBytes is) o (At a)) (Refused R.FrameTooLong 0)
 
 pub record Written (fs : Layout) (lent : List ℕ) (vs : List Value) (o : List ℕ) (p : Place) (o' : List ℕ) (q : Place) : Type 0 where
   pub bytes : o' ≡ writtenOut (shows fs lent vs) o p
@@ -146,8 +146,8 @@ pub record Written (fs : Layout) (lent : List ℕ) (vs : List Value) (o : List �
 
 -- the end that measuring found, in an output of n bytes
 abbrev pub settledAt : Place → ℕ → Place
-settledAt (At e) n = cond (ltb e limit) (cond (leb e n) (At e) (Refused R.NoRoom)) (Refused R.FrameTooLong)
-settledAt (Refused k) n = Refused k
+settledAt (At e) n = cond (ltb e limit) (cond (leb e n) (At e) (Refused R.NoRoom 0)) (Refused R.FrameTooLong 0)
+settledAt (Refused k at) n = Refused k at
 
 pub record Settled (e : Place) (n : ℕ) (q : Place) : Type 0 where
   pub is : q ≡ settledAt e n
@@ -155,7 +155,7 @@ pub record Settled (e : Place) (n : ℕ) (q : Place) : Type 0 where
 -- where putting begins: where measuring did, unless that was refused
 abbrev pub begunAt : Place → Place → Place
 begunAt p (At n) = p
-begunAt p (Refused k) = Refused k
+begunAt p (Refused k at) = Refused k at
 
 pub record Begun (p e : Place) (n : ℕ) (q : Place) : Type 0 where
   pub is : q ≡ begunAt p (settledAt e n)

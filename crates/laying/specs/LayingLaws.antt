@@ -58,7 +58,7 @@ afterNumbers (w ∷ ws) vs = afterNumbers ws (othersOf vs)
 
 pub advance-twice : (m n : ℕ) (p : Place) → advance n (advance m p) ≡ advance (m + n) p
 advance-twice m n (At a) = ap At (omega arith)
-advance-twice m n (Refused k) = refl
+advance-twice m n (Refused k at) = refl
 
 size : (w x : ℕ) → length (itemBytes (number w x)) ≡ w
 unfolding itemBytes
@@ -67,7 +67,7 @@ size w x = length-toLE w x
 check-number : (w : ℕ) (lent : List ℕ) (v : Value) (p : Place) → checkField (num w) lent v p ≡ advance w p
 unfolding checkField show
 check-number w lent v (At a) = ap (λ n. At (min (a + n) 4294967296)) (size w (numOf v))
-check-number w lent v (Refused k) = refl
+check-number w lent v (Refused k at) = refl
 
 check-numbers : (w : ℕ) (ws : List ℕ) (fs : Layout) (lent : List ℕ) (vs : List Value) (p : Place)
     → checkFields fs lent (afterNumbers (w ∷ ws) vs) (advance (total (w ∷ ws)) p) ≡ checkFields (numbers (w ∷ ws) fs) lent vs p
@@ -131,7 +131,7 @@ span-shown lent x y {bs} {r} e =
 
 -- a part that is shown has few elements, and the bytes of its span
 pub part-inv : (lent : List ℕ) (n x y : ℕ) {bs r : List ℕ} → showPart lent n x y ≡ ok bs r → (n ≤ 16) × (showSpan lent x y ≡ ok bs r)
-part-inv lent n x y e = let u = cond-inv (leb n 16) (showSpan lent x y) R.TooManyElements e in (leb-true n 16 (u .0), u .1)
+part-inv lent n x y e = let u = cond-inv (leb n 16) (showSpan lent x y) R.TooManyElements 0 e in (leb-true n 16 (u .0), u .1)
 
 -- what is known of one that passed
 pub record PartPassed (lent : List ℕ) (n x y : ℕ) (p : Place) (a : ℕ) : Type 0 where
@@ -153,7 +153,7 @@ part-lies c e = part-passed c e .lies
 pub whole-inv : {A X : Type 0} (m : Result A) {a : A} {r : List ℕ} → wholePart m ≡ ok a r → (m ≡ ok a [] → X) → X
 whole-inv (ok a []) {a = b} e f = f (let g : a ≡ b = cc e in ap (λ x. ok x []) g)
 whole-inv (ok a (x ∷ r)) e f = absurd (let z : _≡_ {A = ℕ} 0 1 = cc e in omega arith)
-whole-inv (bad k) e f = absurd (let z : _≡_ {A = ℕ} 0 1 = cc e in omega arith)
+whole-inv (bad k at) e f = absurd (let z : _≡_ {A = ℕ} 0 1 = cc e in omega arith)
 
 pub after-count : (f : Field) (lent : List ℕ) (v : Value) {i : Item} {r : List ℕ} → Unless f → Bytes lent → show f lent v ≡ ok i r → AfterCount f lent v i
 unfolding show itemBytes stringBytes
@@ -179,19 +179,19 @@ after-count dat lent v {i} u b e =
     rw (← f) (record { tail = bs; shows = k .0; size = k .1; item = ap (λ n. toLE 4 n ++ bs) (k .1) }))
 after-count strs lent v {i} u b e =
     after-inv (showPart lent (countOf v) (startOf v) (lenOf v)) _ e
-    (λ bs s e1 e2. after-inv (wholePart (readMany (countOf v) bs)) _ e2
-    (λ l t e3 e4. whole-inv (readMany (countOf v) bs) e3
+    (λ bs s e1 e2. after-inv (wholePart (readMany (countOf v) (startOf v) bs)) _ e2
+    (λ l t e3 e4. whole-inv (readMany (countOf v) (startOf v) bs) e3
     (λ e5.
     let k = span-shown lent (startOf v) (lenOf v) (part-inv lent (countOf v) (startOf v) (lenOf v) e1 .1) in
     let f : strings l ≡ i = cc e4 in
-    let h = took-many (countOf v) bs (rw (k .2) (bytes-take (lenOf v) (drop (startOf v) lent) (bytes-drop (startOf v) lent b))) e5 in
+    let h = took-many (countOf v) (startOf v) bs (rw (k .2) (bytes-take (lenOf v) (drop (startOf v) lent) (bytes-drop (startOf v) lent b))) e5 in
     let m : manyBytes l ≡ bs = sym (h .whole ∙ append-nil (manyBytes l)) in
     rw (← f) (record { tail = bs; shows = k .0; size = k .1; item = ap₂ (λ n z. toLE 2 n ++ z) (h .good .0) m }))))
 after-count quids lent v {i} u b e =
     after-inv (showPart lent (countOf v) (startOf v) (lenOf v)) _ e
     (λ bs s e1 e2.
     let k = span-shown lent (startOf v) (lenOf v) (part-inv lent (countOf v) (startOf v) (lenOf v) e1 .1) in
-    let g = cond-inv (eqb (lenOf v) (13 * countOf v)) _ R.PartMalformed e2 .1 in
+    let g = cond-inv (eqb (lenOf v) (13 * countOf v)) _ R.PartMalformed 0 e2 .1 in
     let f : qids (countOf v) bs ≡ i = cc g in
     rw (← f) (record { tail = bs; shows = k .0; size = k .1; item = refl }))
 

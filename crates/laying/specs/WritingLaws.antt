@@ -40,14 +40,14 @@ check-passed : (f : Field) (lent : List ℕ) (v : Value) (a : ℕ) {i : Item} {r
 unfolding checkField
 check-passed f lent v a e = rw e
 
-check-failed : (f : Field) (lent : List ℕ) (v : Value) (a : ℕ) {k : Refusal} → show f lent v ≡ bad k → checkField f lent v (At a) ≡ Refused k
+check-failed : (f : Field) (lent : List ℕ) (v : Value) (a : ℕ) {k : Refusal} {at : ℕ} → show f lent v ≡ bad k at → checkField f lent v (At a) ≡ Refused k at
 unfolding checkField
 check-failed f lent v a e = rw e
 
-stays : (fs : Layout) (lent : List ℕ) (vs : List Value) (k : Refusal) → checkFields fs lent vs (Refused k) ≡ Refused k
+stays : (fs : Layout) (lent : List ℕ) (vs : List Value) (k : Refusal) (n : ℕ) → checkFields fs lent vs (Refused k n) ≡ Refused k n
 unfolding checkFields checkField
-stays [] lent vs k = refl
-stays (f ∷ fs) lent vs k = stays fs lent (othersOf vs) k
+stays [] lent vs k n = refl
+stays (f ∷ fs) lent vs k n = stays fs lent (othersOf vs) k n
 
 reaches : (fs : Layout) (lent : List ℕ) (vs : List Value) (a : ℕ) {is : List Item} {r : List ℕ} → shows fs lent vs ≡ ok is r
     → Reaches (checkFields fs lent vs (At a)) (a + length (itemsBytes is))
@@ -69,24 +69,24 @@ reaches (f ∷ fs) lent vs a {is} e =
       over = λ h. (let k = m .over h in omega arith);
     })))
 
-failed : (fs : Layout) (lent : List ℕ) (vs : List Value) (a : ℕ) {k : Refusal} → shows fs lent vs ≡ bad k → checkFields fs lent vs (At a) ≡ Refused k
+failed : (fs : Layout) (lent : List ℕ) (vs : List Value) (a : ℕ) {k : Refusal} {at : ℕ} → shows fs lent vs ≡ bad k at → checkFields fs lent vs (At a) ≡ Refused k at
 unfolding shows checkFields
 failed [] lent vs a e = absurd (let z : _≡_ {A = ℕ} 0 1 = cc e in omega arith)
-failed (f ∷ fs) lent vs a {k} e = go (show f lent (firstOf vs)) refl e (λ n c. failed fs lent (othersOf vs) n c)
+failed (f ∷ fs) lent vs a {k} {at} e = go (show f lent (firstOf vs)) refl e (λ n c. failed fs lent (othersOf vs) n c)
   where
-    go : (m : Result Item) → show f lent (firstOf vs) ≡ m → after m (λ i r. after (shows fs lent (othersOf vs)) (λ is u. ok (i ∷ is) u)) ≡ bad k
-        → ((n : ℕ) → shows fs lent (othersOf vs) ≡ bad k → checkFields fs lent (othersOf vs) (At n) ≡ Refused k)
-        → checkFields fs lent (othersOf vs) (checkField f lent (firstOf vs) (At a)) ≡ Refused k
+    go : (m : Result Item) → show f lent (firstOf vs) ≡ m → after m (λ i r. after (shows fs lent (othersOf vs)) (λ is u. ok (i ∷ is) u)) ≡ bad k at
+        → ((n : ℕ) → shows fs lent (othersOf vs) ≡ bad k at → checkFields fs lent (othersOf vs) (At n) ≡ Refused k at)
+        → checkFields fs lent (othersOf vs) (checkField f lent (firstOf vs) (At a)) ≡ Refused k at
     go (ok i t) d c ih = rw (check-passed f lent (firstOf vs) a d) (ih (min (a + length (itemBytes i)) limit) (others-bad i (shows fs lent (othersOf vs)) c))
-    go (bad j) d c ih = let g : j ≡ k = cc c in rw (check-failed f lent (firstOf vs) a d, g) (stays fs lent (othersOf vs) k)
+    go (bad j b) d c ih = let g : j ≡ k = cc c in let l : b ≡ at = cc c in rw (check-failed f lent (firstOf vs) a d, g, l) (stays fs lent (othersOf vs) k at)
 
 -- ---- and what is written
 
 module _ (fs : Layout) (lent : List ℕ) (vs : List Value) (o : List ℕ) (a : ℕ) {is : List Item} {r : List ℕ} (m : shows fs lent vs ≡ ok is r) where
-  over-limit : limit ≤ a + length (itemsBytes is) → Written fs lent vs o (At a) o (Refused R.FrameTooLong)
+  over-limit : limit ≤ a + length (itemsBytes is) → Written fs lent vs o (At a) o (Refused R.FrameTooLong 0)
   over-limit h = let f = le-ltb (a + length (itemsBytes is)) limit h in record { bytes = rw (m, f); next = rw (m, f) }
 
-  no-room : a + length (itemsBytes is) < limit → length o < a + length (itemsBytes is) → Written fs lent vs o (At a) o (Refused R.NoRoom)
+  no-room : a + length (itemsBytes is) < limit → length o < a + length (itemsBytes is) → Written fs lent vs o (At a) o (Refused R.NoRoom 0)
   unfolding putAt pastPut
   no-room h k =
       let f = lt-ltb (a + length (itemsBytes is)) limit h in
@@ -100,25 +100,25 @@ module _ (fs : Layout) (lent : List ℕ) (vs : List Value) (o : List ℕ) (a : �
       let g = put-fields fs lent vs o a b m k in
       record { bytes = rw (m, f) (g .bytes); next = rw (m, f) (g .next) }
 
-settled-over : (n l : ℕ) {q : Place} → q ≡ settledAt (At n) l → limit ≤ n → q ≡ Refused R.FrameTooLong
+settled-over : (n l : ℕ) {q : Place} → q ≡ settledAt (At n) l → limit ≤ n → q ≡ Refused R.FrameTooLong 0
 settled-over n l s h = s ∙ rw (le-ltb n limit h)
 
-settled-full : (n l : ℕ) {q : Place} → q ≡ settledAt (At n) l → n < limit → l < n → q ≡ Refused R.NoRoom
+settled-full : (n l : ℕ) {q : Place} → q ≡ settledAt (At n) l → n < limit → l < n → q ≡ Refused R.NoRoom 0
 settled-full n l s h k = s ∙ rw (lt-ltb n limit h, lt-leb n l k)
 
 settled-fits : (n l : ℕ) {q : Place} → q ≡ settledAt (At n) l → n < limit → n ≤ l → q ≡ At n
 settled-fits n l s h k = s ∙ rw (lt-ltb n limit h, le-leb n l k)
 
-clash : {k : Refusal} {n : ℕ} {q : Place} → q ≡ Refused k → q ≡ At n → ⊥
+clash : {k : Refusal} {at : ℕ} {n : ℕ} {q : Place} → q ≡ Refused k at → q ≡ At n → ⊥
 clash e f = let d = sym e ∙ f in let z : _≡_ {A = ℕ} 0 1 = cc d in omega arith
 
 -- refused once measured: the output is as it was
-written-not : {fs : Layout} {lent o : List ℕ} {vs : List Value} {p e q : Place} {k : Refusal} → Measured fs lent vs p e → Settled e (length o) q → q ≡ Refused k
+written-not : {fs : Layout} {lent o : List ℕ} {vs : List Value} {p e q : Place} {k : Refusal} {i : ℕ} → Measured fs lent vs p e → Settled e (length o) q → q ≡ Refused k i
     → Written fs lent vs o p o q
-written-not {fs} {lent} {o} {vs} {p} {e} {q} {k} c s h = go p (s .is ∙ ap (λ x. settledAt x (length o)) (c .is))
+written-not {fs} {lent} {o} {vs} {p} {e} {q} {k} {i} c s h = go p (s .is ∙ ap (λ x. settledAt x (length o)) (c .is))
   where
     at : (a : ℕ) → q ≡ settledAt (checkFields fs lent vs (At a)) (length o) → (m : Result (List Item)) → shows fs lent vs ≡ m → Written fs lent vs o (At a) o q
-    at a d (bad j) m = record { bytes = rw m; next = d ∙ rw (failed fs lent vs a m, m) }
+    at a d (bad j b) m = record { bytes = rw m; next = d ∙ rw (failed fs lent vs a m, m) }
     at a d (ok is r) m =
         let w = reaches fs lent vs a m in
         let g = d ∙ ap (λ x. settledAt x (length o)) (w .is) in
@@ -129,7 +129,7 @@ written-not {fs} {lent} {o} {vs} {p} {e} {q} {k} c s h = go p (s .is ∙ ap (λ 
         (λ n. rw (settled-full (w .at) (length o) g l n) (no-room fs lent vs o a m (omega arith) (omega arith))))
 
     go : (p' : Place) → q ≡ settledAt (checkFields fs lent vs p') (length o) → Written fs lent vs o p' o q
-    go (Refused j) d = record { bytes = refl; next = d ∙ rw (stays fs lent vs j) }
+    go (Refused j b) d = record { bytes = refl; next = d ∙ rw (stays fs lent vs j b) }
     go (At a) d = at a d (shows fs lent vs) refl
 
 -- settled, and put
@@ -140,7 +140,7 @@ written-put {fs} {lent} {o} {o2} {vs} {p} {e} {q} {r} {n} b c s h l =
   where
     at : (a : ℕ) → q ≡ settledAt (checkFields fs lent vs (At a)) (length o) → (m : Result (List Item)) → shows fs lent vs ≡ m
         → Written fs lent vs o (At a) (putFields fs lent vs o (At a)) (pastPutFields fs lent vs o (At a))
-    at a d (bad j) m = absurd (clash {k = j} (d ∙ rw (failed fs lent vs a m)) h)
+    at a d (bad j x) m = absurd (clash {k = j} {at = x} (d ∙ rw (failed fs lent vs a m)) h)
     at a d (ok is r) m =
         let w = reaches fs lent vs a m in
         let g = d ∙ ap (λ x. settledAt x (length o)) (w .is) in
@@ -150,33 +150,33 @@ written-put {fs} {lent} {o} {o2} {vs} {p} {e} {q} {r} {n} b c s h l =
         or-else (w .at) (length o) (λ n. in-place fs lent vs o a m b (omega arith) (omega arith)) (λ n. absurd (clash (settled-full (w .at) (length o) g l n) h)))
 
     go : (p' : Place) → q ≡ settledAt (checkFields fs lent vs p') (length o) → Written fs lent vs o p' (putFields fs lent vs o p') (pastPutFields fs lent vs o p')
-    go (Refused j) d = absurd (clash {k = j} (d ∙ rw (stays fs lent vs j)) h)
+    go (Refused j x) d = absurd (clash {k = j} {at = x} (d ∙ rw (stays fs lent vs j x)) h)
     go (At a) d = at a d (shows fs lent vs) refl
 
 -- ---- both
 
-put-stays-out : (f : Field) (lent : List ℕ) (v : Value) (o : List ℕ) (k : Refusal) → putField f lent v o (Refused k) ≡ o
+put-stays-out : (f : Field) (lent : List ℕ) (v : Value) (o : List ℕ) (k : Refusal) (n : ℕ) → putField f lent v o (Refused k n) ≡ o
 unfolding putField putAt pastPut
-put-stays-out (num w) lent v o k = refl
-put-stays-out str lent v o k = refl
-put-stays-out dat lent v o k = refl
-put-stays-out strs lent v o k = refl
-put-stays-out quids lent v o k = refl
+put-stays-out (num w) lent v o k n = refl
+put-stays-out str lent v o k n = refl
+put-stays-out dat lent v o k n = refl
+put-stays-out strs lent v o k n = refl
+put-stays-out quids lent v o k n = refl
 
-put-stays-refused : (f : Field) (lent : List ℕ) (v : Value) (o : List ℕ) (k : Refusal) → pastPutField f lent v o (Refused k) ≡ Refused k
+put-stays-refused : (f : Field) (lent : List ℕ) (v : Value) (o : List ℕ) (k : Refusal) (n : ℕ) → pastPutField f lent v o (Refused k n) ≡ Refused k n
 unfolding pastPutField putAt pastPut
-put-stays-refused (num w) lent v o k = refl
-put-stays-refused str lent v o k = refl
-put-stays-refused dat lent v o k = refl
-put-stays-refused strs lent v o k = refl
-put-stays-refused quids lent v o k = refl
+put-stays-refused (num w) lent v o k n = refl
+put-stays-refused str lent v o k n = refl
+put-stays-refused dat lent v o k n = refl
+put-stays-refused strs lent v o k n = refl
+put-stays-refused quids lent v o k n = refl
 
 -- at a refused place nothing is put
-nothing-put : (fs : Layout) (lent : List ℕ) (vs : List Value) (o : List ℕ) (k : Refusal) → (putFields fs lent vs o (Refused k) ≡ o) × (pastPutFields fs lent vs o (Refused k) ≡ Refused k)
+nothing-put : (fs : Layout) (lent : List ℕ) (vs : List Value) (o : List ℕ) (k : Refusal) (n : ℕ) → (putFields fs lent vs o (Refused k n) ≡ o) × (pastPutFields fs lent vs o (Refused k n) ≡ Refused k n)
 unfolding putFields pastPutFields
-nothing-put [] lent vs o k = (refl, refl)
-nothing-put (f ∷ fs) lent vs o k =
-    rw (put-stays-out f lent (firstOf vs) o k, put-stays-refused f lent (firstOf vs) o k) (nothing-put fs lent (othersOf vs) o k)
+nothing-put [] lent vs o k n = (refl, refl)
+nothing-put (f ∷ fs) lent vs o k n =
+    rw (put-stays-out f lent (firstOf vs) o k n, put-stays-refused f lent (firstOf vs) o k n) (nothing-put fs lent (othersOf vs) o k n)
 
 -- put from where measuring lets it begin
 pub written : {fs : Layout} {lent o o2 : List ℕ} {vs : List Value} {p e q r : Place} → Bytes lent → Measured fs lent vs p e → Begun p e (length o) q → PutAll fs lent vs o q o2 r
@@ -185,10 +185,10 @@ written {fs} {lent} {o} {o2} {vs} {p} {e} {q} {r} b c s l = go (settledAt e (len
   where
     go : (x : Place) → settledAt e (length o) ≡ x → Written fs lent vs o p o2 r
     go (At n) f = let g : q ≡ p = s .is ∙ ap (begunAt p) f in written-put b c (record { is = sym f }) refl (rw g at l)
-    go (Refused k) f =
-        let g : q ≡ Refused k = s .is ∙ ap (begunAt p) f in
-        let h : PutAll fs lent vs o (Refused k) o2 r = rw g at l in
-        let n = nothing-put fs lent vs o k in
+    go (Refused k at) f =
+        let g : q ≡ Refused k at = s .is ∙ ap (begunAt p) f in
+        let h : PutAll fs lent vs o (Refused k at) o2 r = rw g at l in
+        let n = nothing-put fs lent vs o k at in
         rw (h .bytes ∙ n .0, h .next ∙ n .1) (written-not c (record { is = sym f }) refl)
 
 -- the output keeps its length
@@ -200,8 +200,8 @@ written-length {fs} {lent} {o} {o'} {vs} {p} w = ap length (w .bytes) ∙ go (sh
     kept false bs a = refl
 
     go : (m : Result (List Item)) (p' : Place) → length (writtenOut m o p') ≡ length o
-    go m (Refused k) = refl
-    go (bad k) (At a) = refl
+    go m (Refused k at) = refl
+    go (bad k at) (At a) = refl
     go (ok is r) (At a) = kept (ltb (a + length (itemsBytes is)) limit) (itemsBytes is) a
 
 -- of no fields there is nothing to put, but the place must be one

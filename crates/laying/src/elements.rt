@@ -9,10 +9,10 @@ ghost use Rattle.fields.specs.Layouts.{strs, quids};
 ghost use Rattle.fields.specs.Values.{part};
 ghost use Rattle.laying.specs.Elements.{ElementAsked, elementAt, viewElement};
 
-// Where an element stands among the lent bytes, or why it can't be given.
+// Where an element stands among the lent bytes; or why it can't be given, and where.
 pub enum Element {
     Found(Span),
-    Refused(Refusal),
+    Refused(Refusal, usize),
 }
 
 // What comes before the elements are looked at: 17, then 9, then 15.
@@ -26,7 +26,7 @@ fn asked(lent: &[u8], v: Part, i: usize) -> Place
     if i < v.count as usize {
         return q;
     }
-    Place::Refused(Refusal::NoSuchElement)
+    Place::Refused(Refusal::NoSuchElement, 0)
 }
 
 // Name `i` of a vector of strings, without its count: 17, then 9, then 15, then the whole part as the writer checks it.
@@ -45,7 +45,7 @@ pub fn name_at(lent: &[u8], v: Part, i: usize) -> Element
             let found = name.value;
             Element::Found(found)
         }
-        Place::Refused(k) => Element::Refused(k),
+        Place::Refused(k, n) => Element::Refused(k, n),
     }
 }
 
@@ -62,6 +62,6 @@ pub fn qid_at(lent: &[u8], v: Part, i: usize) -> Element
             let found = Span { start, len: 13 };
             Element::Found(found)
         }
-        Place::Refused(k) => Element::Refused(k),
+        Place::Refused(k, n) => Element::Refused(k, n),
     }
 }

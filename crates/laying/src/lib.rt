@@ -55,9 +55,9 @@ fn filled(end: Place, stop: usize, p: Place) -> Place
             if n == stop {
                 return p;
             }
-            Place::Refused(Refusal::PartMalformed)
+            Place::Refused(Refusal::PartMalformed, 0)
         }
-        Place::Refused(k) => Place::Refused(cut_off(k)),
+        Place::Refused(k, n) => Place::Refused(cut_off(k), n),
     }
 }
 
@@ -106,7 +106,7 @@ pub fn check_qids(lent: &[u8], v: Part, p: Place) -> Place
     if elements.len == 13 * (v.count as usize) {
         return q;
     }
-    Place::Refused(Refusal::PartMalformed)
+    Place::Refused(Refusal::PartMalformed, 0)
 }
 
 // A vector of strings at a place, checked; then the place after its count and its elements.
@@ -135,10 +135,10 @@ pub fn settled(end: Place, len: usize) -> Place
         return end;
     };
     if 4294967296 <= n {
-        return Place::Refused(Refusal::FrameTooLong);
+        return Place::Refused(Refusal::FrameTooLong, 0);
     }
     if len < n {
-        return Place::Refused(Refusal::NoRoom);
+        return Place::Refused(Refusal::NoRoom, 0);
     }
     end
 }

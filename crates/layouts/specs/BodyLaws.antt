@@ -30,7 +30,7 @@ no-row [] N ty h = (refl, h)
 no-row (row k l ∷ rs) N ty h =
     let r = no-row rs (N × (ty ≡ k → ⊥)) ty h in (rw (ne-eqb k ty (λ e. r .1 .1 (sym e)), lookup) (r .0), r .1 .0)
 
-pub unknown-body : (rs : List Row) (ty : ℕ) (s : List ℕ) (p : Place) → Nots (Unit {0}) rs ty → refused R.UnknownType ≡ readBody rs ty s p
+pub unknown-body : (rs : List Row) (ty : ℕ) (s : List ℕ) (p : Place) → Nots (Unit {0}) rs ty → refused R.UnknownType 0 ≡ readBody rs ty s p
 unknown-body rs ty s p h = rw (no-row rs (Unit {0}) ty h .0)
 
 -- ---- at a place as in the definition
@@ -38,10 +38,10 @@ unknown-body rs ty s p h = rw (no-row rs (Unit {0}) ty h .0)
 pub body-is : (rs : List Row) (ty : ℕ) (s : List ℕ) (a : ℕ) → Bytes s → a ≤ length s → readBody rs ty s (At a) ≡ bodyOf (lookup rs ty) ty a (drop a s)
 body-is rs ty s a b h = go (lookup rs ty)
   where
-    read : (l : Layout) (m : Result (List Item)) → readFields l (drop a s) ≡ m → finishAt ty (valuesAt l s (At a)) (pastFields l s (At a)) ≡ itemsAt ty a m
+    read : (l : Layout) (m : Result (List Item)) → readFields l a (drop a s) ≡ m → finishAt ty (valuesAt l s (At a)) (pastFields l s (At a)) ≡ itemsAt ty a m
     read l (ok is r) e = let k = fields-accepted l s a b h e in rw (k .values, k .next)
-    read l (bad k) e = rw (fields-refused l s a b h e)
+    read l (bad k at) e = rw (fields-refused l s a b h e)
 
     go : (o : Option Layout) → bodyAt o ty s (At a) ≡ bodyOf o ty a (drop a s)
     go none = refl
-    go (some l) = read l (readFields l (drop a s)) refl
+    go (some l) = read l (readFields l a (drop a s)) refl

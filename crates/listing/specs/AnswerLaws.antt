@@ -21,7 +21,7 @@ module _ {c : Body} where
   unfolding viewBody viewT
   number-of-request e f = rw (e, f)
 
-  pub number-of-no-request : {b : Tbody} {k : Refusal} {x : ℕ} → c ≡ B.Request b → b ≡ T.Refused k → x ≡ numberOf k → x ≡ answerNumber (viewBody c)
+  pub number-of-no-request : {b : Tbody} {k : Refusal} {at : ℕ} {x : ℕ} → c ≡ B.Request b → b ≡ T.Refused k at → x ≡ numberOf k → x ≡ answerNumber (viewBody c)
   unfolding viewBody viewT
   number-of-no-request e f h = rw (e, f) h
 
@@ -29,6 +29,6 @@ module _ {c : Body} where
   unfolding viewBody viewR
   number-of-reply e f = rw (e, f)
 
-  pub number-of-no-reply : {b : Rbody} {k : Refusal} {x : ℕ} → c ≡ B.Reply b → b ≡ Q.Refused k → x ≡ numberOf k → x ≡ answerNumber (viewBody c)
+  pub number-of-no-reply : {b : Rbody} {k : Refusal} {at : ℕ} {x : ℕ} → c ≡ B.Reply b → b ≡ Q.Refused k at → x ≡ numberOf k → x ≡ answerNumber (viewBody c)
   unfolding viewBody viewR
   number-of-no-reply e f h = rw (e, f) h

@@ -66,11 +66,11 @@ number-most R.TooManyElements = lit< tt
 
 answer-most : (a : Answer) → answerNumber a < 10 ^ 2
 answer-most (accepted ty vs used) = lit< tt
-answer-most (refused k) = number-most k
+answer-most (refused k at) = number-most k
 
 tail-within : (size : ℕ) (a : Answer) → tailIn size a ≤ size
 tail-within size (accepted ty vs used) = omega arith
-tail-within size (refused k) = omega arith
+tail-within size (refused k at) = omega arith
 
 -- the number that w bytes hold
 taken-most : (w : ℕ) (xs : List ℕ) → Bytes xs → fromLE (take w xs) < 256 ^ w
@@ -187,7 +187,7 @@ report-fits {s} {o} b l r =
     let w = all-fits (report tableT tableR s) o 0 (omega arith) in
     (r .is .bytes ∙ w .bytes, r .is .next ∙ w .next ∙ ap At (omega arith))
 
-pub no-position : {X : Type 0} {q : Place} {k : Refusal} → q ≡ Refused k → HasPosition q → X
+pub no-position : {X : Type 0} {q : Place} {k : Refusal} {at : ℕ} → q ≡ Refused k at → HasPosition q → X
 no-position e h = absurd (rw e at h)
 
 pub has-position : {q : Place} {n : ℕ} → q ≡ At n → HasPosition q

@@ -61,7 +61,7 @@ fieldPieces n next = decimal n ∷ next ∷ []
 -- 0 or the refusal's number (F8.5)
 abbrev pub answerNumber : Answer → ℕ
 answerNumber (accepted ty vs used) = 0
-answerNumber (refused k) = numberOf k
+answerNumber (refused k at) = numberOf k
 
 -- `-` where the frame is refused (F8.5)
 abbrev pub tailPieces : ℕ → ℕ → List (List ℕ)
@@ -130,7 +130,7 @@ pub record ReportPut (s o o' : List ℕ) (q : Place) : Type 0 where
 -- a place that is not refused
 abbrev pub HasPosition : Place → Type 0
 HasPosition (At n) = Unit {0}
-HasPosition (Refused k) = ⊥
+HasPosition (Refused k at) = ⊥
 
 -- ---- what the lister promises
 

@@ -47,11 +47,11 @@ fn answer_of(body: Body) -> u8
     match body {
         Body::Request(b) => match b {
             Tbody::Message(_, _) => 0,
-            Tbody::Refused(k) => numbers::number(k),
+            Tbody::Refused(k, _) => numbers::number(k),
         },
         Body::Reply(b) => match b {
             Rbody::Message(_, _) => 0,
-            Rbody::Refused(k) => numbers::number(k),
+            Rbody::Refused(k, _) => numbers::number(k),
         },
     }
 }
@@ -139,7 +139,7 @@ fn position(p: Place) -> usize
 {
     match p {
         Place::At(n) => n,
-        Place::Refused(_) => 0,
+        Place::Refused(_, _) => 0,
     }
 }
 

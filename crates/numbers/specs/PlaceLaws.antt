@@ -56,11 +56,11 @@ put-one a b = (one-answer (a .bytes) (b .bytes), one-answer (a .next) (b .next))
 
 -- ---- the ways that a number's reading goes
 
-pub num-stays : {w : ℕ} {s : List ℕ} {p : Place} {k : Refusal} → p ≡ Refused k → NumRead w s p 0 p
+pub num-stays : {w : ℕ} {s : List ℕ} {p : Place} {k : Refusal} {j : ℕ} → p ≡ Refused k j → NumRead w s p 0 p
 unfolding numAt pastNum
 num-stays e = record { value = rw e; next = rw e }
 
-pub short-num : (w a : ℕ) (s : List ℕ) → 0 < w → length s < a + w → readNum w (drop a s) ≡ bad Short
+pub short-num : (w a : ℕ) (s : List ℕ) → 0 < w → length s < a + w → readNum w (drop a s) ≡ bad Short 0
 unfolding readNum
 short-num w a s o h = rw (raw-short w (drop a s) (simp length-drop (omega arith)))
 
@@ -68,7 +68,7 @@ pub held-num : (w a : ℕ) (s : List ℕ) → a + w ≤ length s → readNum w (
 unfolding readNum raw
 held-num w a s h = rw (le-leb w (length (drop a s)) (simp length-drop (omega arith)), drop-drop)
 
-pub num-short : {w a : ℕ} {s : List ℕ} {p : Place} {t : Bool} → 0 < w → p ≡ At a → Within a w (length s) t → t ≡ false → NumRead w s p 0 (Refused Short)
+pub num-short : {w a : ℕ} {s : List ℕ} {p : Place} {t : Bool} → 0 < w → p ≡ At a → Within a w (length s) t → t ≡ false → NumRead w s p 0 (Refused Short 0)
 unfolding numAt pastNum
 num-short {w} {a} {s} o e i h = let f = short-num w a s o (outside i h) in record { value = rw (e, f); next = rw (e, f) }
 
@@ -89,15 +89,15 @@ pub record Held (w : ℕ) (s : List ℕ) (p : Place) (x e : ℕ) : Type 0 where
   pub reads : readNum w (drop at s) ≡ ok x (drop e s)
 
 -- and of one that was refused
-pub record Refuses (w : ℕ) (s : List ℕ) (p : Place) (k : Refusal) : Type 0 where
-  pub reads : readAt (readNum w) s p ≡ bad k
+pub record Refuses (w : ℕ) (s : List ℕ) (p : Place) (k : Refusal) (j : ℕ) : Type 0 where
+  pub reads : readAt (readNum w) s p ≡ bad k j
 
 pub num-holds : {w x e : ℕ} {s : List ℕ} {p q : Place} → 0 < w → NumRead w s p x q → q ≡ At e → Held w s p x e
 unfolding numAt pastNum
 num-holds {w} {x} {e} {s} {p} o r h = go p refl (r .value) (sym (r .next) ∙ h)
   where
     go : (p' : Place) → p ≡ p' → x ≡ numberIn (readAt (readNum w) s p') → restAt (length s) (readAt (readNum w) s p') ≡ At e → Held w s p x e
-    go (Refused k) f v n = absurd (let z : _≡_ {A = ℕ} 0 1 = cc n in omega arith)
+    go (Refused k j) f v n = absurd (let z : _≡_ {A = ℕ} 0 1 = cc n in omega arith)
     go (At a) f v n =
         or-else (a + w) (length s)
         (λ l.
@@ -109,38 +109,38 @@ num-holds {w} {x} {e} {s} {p} o r h = go p refl (r .value) (sym (r .next) ∙ h)
         (λ l. absurd (let u = rw (short-num w a s o l) at n in let z : _≡_ {A = ℕ} 0 1 = cc u in omega arith))
 
 -- a refused number is refused as the reader refuses it
-pub num-refused : {w x : ℕ} {s : List ℕ} {p q : Place} {k : Refusal} → NumRead w s p x q → q ≡ Refused k → Refuses w s p k
+pub num-refused : {w x : ℕ} {s : List ℕ} {p q : Place} {k : Refusal} {j : ℕ} → NumRead w s p x q → q ≡ Refused k j → Refuses w s p k j
 unfolding pastNum
-num-refused {w} {x} {s} {p} {q} {k} r h = record { reads = go (readAt (readNum w) s p) (sym (r .next) ∙ h) }
+num-refused {w} {x} {s} {p} {q} {k} {j} r h = record { reads = go (readAt (readNum w) s p) (sym (r .next) ∙ h) }
   where
-    go : (m : Result ℕ) → restAt (length s) m ≡ Refused k → m ≡ bad k
+    go : (m : Result ℕ) → restAt (length s) m ≡ Refused k j → m ≡ bad k j
     go (ok a r) e = absurd (let z : _≡_ {A = ℕ} 0 1 = cc e in omega arith)
-    go (bad j) e = let f : j ≡ k = cc e in ap bad f
+    go (bad i n) e = let f : i ≡ k = cc e in let g : n ≡ j = cc e in rw (f, g) refl
 
 -- a number that is read fits its width
 fits-num : (w : ℕ) (xs : List ℕ) → Bytes xs → numberIn (readNum w xs) < 256 ^ w
 unfolding readNum raw
 fits-num w xs h = go (leb w (length xs)) refl
   where
-    go : (t : Bool) → leb w (length xs) ≡ t → numberIn (after (cond t (ok (take w xs) (drop w xs)) (bad Short)) (λ bs r. ok (fromLE bs) r)) < 256 ^ w
+    go : (t : Bool) → leb w (length xs) ≡ t → numberIn (after (cond t (ok (take w xs) (drop w xs)) (bad Short 0)) (λ bs r. ok (fromLE bs) r)) < 256 ^ w
     go true e = subst (λ (n : ℕ). fromLE (take w xs) < 256 ^ n) (length-take-le w xs (leb-true w (length xs) e)) (from-bound (take w xs) (bytes-take w xs h))
     go false e = one-le-pow w 256 (lit< tt)
 
 fits-at : (w : ℕ) (s : List ℕ) (p : Place) → Bytes s → numAt w s p < 256 ^ w
 unfolding numAt
 fits-at w s (At a) h = fits-num w (drop a s) (bytes-drop a s h)
-fits-at w s (Refused k) h = one-le-pow w 256 (lit< tt)
+fits-at w s (Refused k j) h = one-le-pow w 256 (lit< tt)
 
 pub num-fits : {w x : ℕ} {s : List ℕ} {p q : Place} → Bytes s → NumRead w s p x q → x < 256 ^ w
 num-fits {w} {x} {s} {p} h a = rw (a .value) (fits-at w s p h)
 
 -- ---- the ways that a put goes
 
-pub put-stays : {bs o : List ℕ} {p : Place} {k : Refusal} → p ≡ Refused k → Put bs o p o p
+pub put-stays : {bs o : List ℕ} {p : Place} {k : Refusal} {j : ℕ} → p ≡ Refused k j → Put bs o p o p
 unfolding putAt pastPut
 put-stays e = record { bytes = rw e; next = rw e }
 
-pub put-full : {bs o : List ℕ} {n a : ℕ} {p : Place} {t : Bool} → length bs ≡ n → p ≡ At a → Within a n (length o) t → t ≡ false → Put bs o p o (Refused NoRoom)
+pub put-full : {bs o : List ℕ} {n a : ℕ} {p : Place} {t : Bool} → length bs ≡ n → p ≡ At a → Within a n (length o) t → t ≡ false → Put bs o p o (Refused NoRoom 0)
 unfolding putAt pastPut
 put-full {bs} {o} {n} {a} l e i h = let f = lt-leb (a + length bs) (length o) (let k = outside i h in omega arith) in record { bytes = rw (e, f); next = rw (e, f) }
 
@@ -162,7 +162,7 @@ put-same false o a bs e = refl
 pub length-put : (bs o : List ℕ) (p : Place) → length (putAt bs o p) ≡ length o
 unfolding putAt
 length-put bs o (At a) = put-same (leb (a + length bs) (length o)) o a bs refl
-length-put bs o (Refused k) = refl
+length-put bs o (Refused k j) = refl
 
 pub put-length : {bs o o' : List ℕ} {p q : Place} → Put bs o p o' q → length o' ≡ length o
 put-length {bs} {o} {o'} {p} a = ap length (a .bytes) ∙ length-put bs o p

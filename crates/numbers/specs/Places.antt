@@ -24,17 +24,22 @@ pub record Within (at n len : ℕ) (r : Bool) : Type 0 where
 -- a reader at a place of s: it takes the bytes from there on. A refused place stays refused
 abbrev pub readAt : {A : Type 0} → (List ℕ → Result A) → List ℕ → Place → Result A
 readAt d s (At a) = d (drop a s)
-readAt d s (Refused k) = bad k
+readAt d s (Refused k n) = bad k n
+
+-- one that is told the position too, from which it counts
+abbrev pub readFrom : {A : Type 0} → (ℕ → List ℕ → Result A) → List ℕ → Place → Result A
+readFrom d s (At a) = d a (drop a s)
+readFrom d s (Refused k n) = bad k n
 
 -- the place where the rest of n bytes begins
 abbrev pub restAt : {A : Type 0} → ℕ → Result A → Place
-restAt n (ok a r) = At (n - length r)
-restAt n (bad k) = Refused k
+restAt l (ok a r) = At (l - length r)
+restAt l (bad k n) = Refused k n
 
 -- the number, 0 where there is none
 abbrev pub numberIn : Result ℕ → ℕ
 numberIn (ok x r) = x
-numberIn (bad k) = 0
+numberIn (bad k n) = 0
 
 unfoldable pub numAt : ℕ → List ℕ → Place → ℕ
 numAt w s p = numberIn (readAt (readNum w) s p)
@@ -56,12 +61,12 @@ over o a bs = take a o ++ bs ++ drop (a + length bs) o
 -- the output afterwards: with bs over it if there is room for all of them; else as it was
 unfoldable pub putAt : List ℕ → List ℕ → Place → List ℕ
 putAt bs o (At a) = cond (leb (a + length bs) (length o)) (over o a bs) o
-putAt bs o (Refused k) = o
+putAt bs o (Refused k n) = o
 
 -- the place after them; 11 where there is no room. A refused place stays refused
 unfoldable pub pastPut : List ℕ → List ℕ → Place → Place
-pastPut bs o (At a) = cond (leb (a + length bs) (length o)) (At (a + length bs)) (Refused R.NoRoom)
-pastPut bs o (Refused k) = Refused k
+pastPut bs o (At a) = cond (leb (a + length bs) (length o)) (At (a + length bs)) (Refused R.NoRoom 0)
+pastPut bs o (Refused k n) = Refused k n
 
 -- what putting bs at p of the output o leaves and answers
 pub record Put (bs o : List ℕ) (p : Place) (o' : List ℕ) (q : Place) : Type 0 where

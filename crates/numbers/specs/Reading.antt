@@ -1,4 +1,5 @@
--- Reading: a reader takes the bytes that are left and answers a value with the rest of them, or a refusal.
+-- Reading: a reader takes the bytes that are left and answers a value with the rest of them, or a refusal with its place, which is 0 but where
+-- a text is refused (F2.7).
 use Prim.Native.Nat.{ℕ}
 use mathlib.Core.Bool.{cond}
 use mathlib.Core.List.{List}
@@ -10,16 +11,16 @@ use Rattle.numbers.specs.declared.Refusal.the-variants as R
 
 pub data Result (A : Type 0) : Type 0 where
   ok : A → List ℕ → Result A
-  bad : Refusal → Result A
+  bad : Refusal → ℕ → Result A
 
 -- the first step that fails answers (F4.2): the next reader goes on with the rest, unless the first is refused
 abbrev pub after : {A B : Type 0} → Result A → (A → List ℕ → Result B) → Result B
 after (ok a r) k = k a r
-after (bad n) k = bad n
+after (bad n m) k = bad n m
 
 -- n bytes as they stand; 1 where there are fewer (F9.1)
 unfoldable pub raw : ℕ → List ℕ → Result (List ℕ)
-raw n xs = cond (leb n (length xs)) (ok (take n xs) (drop n xs)) (bad R.Short)
+raw n xs = cond (leb n (length xs)) (ok (take n xs) (drop n xs)) (bad R.Short 0)
 
 -- a number of w bytes
 unfoldable pub readNum : ℕ → List ℕ → Result ℕ

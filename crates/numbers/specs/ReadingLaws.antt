@@ -23,19 +23,19 @@ or-else a b f g = elim (decLe a b) [ yes h ↦ f h | no h ↦ g (lt-of-not-le h)
 pub after-inv : {A B X : Type 0} (m : Result A) (k : A → List ℕ → Result B) {b : B} {r : List ℕ} → after m k ≡ ok b r
     → ((a : A) (s : List ℕ) → m ≡ ok a s → k a s ≡ ok b r → X) → X
 after-inv (ok a s) k e f = f a s refl e
-after-inv (bad n) k e f = absurd (let z : _≡_ {A = ℕ} 0 1 = cc in omega arith)
+after-inv (bad n m) k e f = absurd (let z : _≡_ {A = ℕ} 0 1 = cc in omega arith)
 
 -- an accepted run passed its test
-pub cond-inv : {A : Type 0} (t : Bool) (m : Result A) (n : Refusal) {a : A} {r : List ℕ} → cond t m (bad n) ≡ ok a r → (t ≡ true) × (m ≡ ok a r)
-cond-inv true m n e = (refl, e)
-cond-inv false m n e = absurd (let z : _≡_ {A = ℕ} 0 1 = cc in omega arith)
+pub cond-inv : {A : Type 0} (t : Bool) (m : Result A) (n : Refusal) (j : ℕ) {a : A} {r : List ℕ} → cond t m (bad n j) ≡ ok a r → (t ≡ true) × (m ≡ ok a r)
+cond-inv true m n j e = (refl, e)
+cond-inv false m n j e = absurd (let z : _≡_ {A = ℕ} 0 1 = cc in omega arith)
 
 -- ---- reading after writing, and a cut
 
 -- The reader d takes exactly x, as a, whatever stands after it; and x cut short is refused as short.
 pub record Reads {A : Type 0} (d : List ℕ → Result A) (x : List ℕ) (a : A) : Type 0 where
   pub back : (r : List ℕ) → d (x ++ r) ≡ ok a r
-  pub cut : (j : ℕ) → j < length x → d (take j x) ≡ bad Short
+  pub cut : (j : ℕ) → j < length x → d (take j x) ≡ bad Short 0
 
 pub reads-nil : {A : Type 0} (d : List ℕ → Result A) (a : A) → ((r : List ℕ) → d r ≡ ok a r) → Reads d [] a
 reads-nil d a e = record { back = e; cut = λ j h. absurd (not-suc-le-zero h) }
@@ -45,7 +45,7 @@ unfolding raw
 raw-back bs r =
     rw (le-leb (length bs) (length (bs ++ r)) (simp length-append (omega arith)), take-append-seam, drop-append-seam)
 
-pub raw-short : (n : ℕ) (xs : List ℕ) → length xs < n → raw n xs ≡ bad Short
+pub raw-short : (n : ℕ) (xs : List ℕ) → length xs < n → raw n xs ≡ bad Short 0
 unfolding raw
 raw-short n xs h = rw (lt-leb n (length xs))
 
@@ -57,7 +57,7 @@ reads-raw n bs h = record {
 
 -- x and y cut short: the cut is in x, and x is refused; or x is read, and y is cut
 pub cutting : {X A : Type 0} {d : List ℕ → Result A} {x : List ℕ} {a : A} → Reads d x a → (y : List ℕ) (j : ℕ) → j < length (x ++ y)
-    → (d (take j (x ++ y)) ≡ bad Short → X) → ((m : ℕ) → m < length y → d (take j (x ++ y)) ≡ ok a (take m y) → X) → X
+    → (d (take j (x ++ y)) ≡ bad Short 0 → X) → ((m : ℕ) → m < length y → d (take j (x ++ y)) ≡ ok a (take m y) → X) → X
 cutting {x = x} R y j h f g =
     or-else (length x) j (λ l. g (j - length x) (let q = length-append x y in omega arith) (rw (cong l) (R .back (take (j - length x) y))))
     (λ l. f (rw (take-append-le j x y (le-of-lt l)) (R .cut j l)))
@@ -78,7 +78,7 @@ module _ {A B : Type 0} {d : List ℕ → Result A} {x : List ℕ} {a : A} where
       back : (r : List ℕ) → after (d (x ++ y ++ r)) k ≡ ok b r
       back r = rw (append-assoc x y r, R .back (y ++ r)) (S .back r)
 
-      cut : (j : ℕ) → j < length (x ++ y) → after (d (take j (x ++ y))) k ≡ bad Short
+      cut : (j : ℕ) → j < length (x ++ y) → after (d (take j (x ++ y))) k ≡ bad Short 0
       cut j h = cutting R y j h (λ e. rw e) (λ m l e. rw e (S .cut m l))
 
 pub reads-cond : {A : Type 0} {d : List ℕ → Result A} {x : List ℕ} {a : A} {t : Bool} (e : Result A) → t ≡ true → Reads d x a
@@ -112,7 +112,7 @@ raw-forth : (n : ℕ) (xs : List ℕ) {bs r : List ℕ} → raw n xs ≡ ok bs r
 unfolding raw
 raw-forth n xs {bs} {r} e = go (leb n (length xs)) refl e
   where
-    go : (t : Bool) → leb n (length xs) ≡ t → cond t (ok (take n xs) (drop n xs)) (bad Short) ≡ ok bs r → (xs ≡ bs ++ r) × (length bs ≡ n)
+    go : (t : Bool) → leb n (length xs) ≡ t → cond t (ok (take n xs) (drop n xs)) (bad Short 0) ≡ ok bs r → (xs ≡ bs ++ r) × (length bs ≡ n)
     go true h e =
         let a : take n xs ≡ bs = cc in
         let b : drop n xs ≡ r = cc in

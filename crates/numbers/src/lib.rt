@@ -54,10 +54,11 @@ pub fn number(k: Refusal) -> u8
 }
 
 // Where a reading or a writing stands: at a position, or refused. It goes through the fields by value, so that a record's
-// reader is one straight line: whatever is asked at a refused place answers the same refusal.
+// reader is one straight line: whatever is asked at a refused place answers the same refusal. The number beside that says where a text
+// breaks (F2.7); with any other refusal it is 0.
 pub enum Place {
     At(usize),
-    Refused(Refusal),
+    Refused(Refusal, usize),
 }
 
 pub fn min(a: usize, b: usize) -> usize
@@ -150,7 +151,7 @@ fn read_num(s: &[u8], p: Place, width: usize) -> Read64
     }
     Read64 {
         value: 0,
-        next: Place::Refused(Refusal::Short),
+        next: Place::Refused(Refusal::Short, 0),
     }
 }
 
@@ -213,7 +214,7 @@ pub fn put_num(out: &mut [u8], p: Place, x: u64, width: usize) -> Place
         let end = at + width;
         return Place::At(end);
     }
-    Place::Refused(Refusal::NoRoom)
+    Place::Refused(Refusal::NoRoom, 0)
 }
 
 pub fn put_u8(out: &mut [u8], p: Place, x: u8) -> Place

@@ -33,7 +33,7 @@ pub record Numbered (n : ℕ) (k : Refusal) : Type 0 where
 -- a position; refused by the number, where it is marked
 abbrev pub Places : ℕ → Bool → Place → Type 0
 Places n false p = p ≡ At n
-Places n true (Refused k) = Numbered n k
+Places n true (Refused k at) = Numbered n k × (at ≡ 0)
 Places n true (At a) = ⊥
 
 pub record Placed (n : ℕ) (marked : Bool) (p : Place) : Type 0 where

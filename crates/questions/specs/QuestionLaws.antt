@@ -1,6 +1,6 @@
 -- One answer for each line and each place.
 use Prim.Native.Nat.{ℕ}
-use mathlib.Core.Path.{_≡_, ap}
+use mathlib.Core.Path.{_≡_, sym, ap₂, _∙_}
 use mathlib.Core.Bool.{Bool, true, false}
 use mathlib.Core.List.{List}
 use Rattle.numbers.specs.PlaceLaws.{one-answer}
@@ -18,8 +18,8 @@ taken-one a b = (one-answer (a .answer) (b .answer), one-answer (a .bytes .out) 
 -- a number, marked or not, is one place
 places-one : (n : ℕ) (m : Bool) (p q : Place) → Places n m p → Places n m q → p ≡ q
 places-one n false p q a b = one-answer a b
-places-one n true (Refused j) (Refused k) a b = ap Refused (number-one (one-answer (a .is) (b .is)))
-places-one n true (Refused j) (At y) a b = absurd b
+places-one n true (Refused j x) (Refused k y) (a, c) (b, d) = ap₂ Refused (number-one (one-answer (a .is) (b .is))) (c ∙ sym d)
+places-one n true (Refused j x) (At y) a b = absurd b
 places-one n true (At x) q a b = absurd a
 
 pub placed-one : {n : ℕ} {m : Bool} {p q : Place} → Placed n m p → Placed n m q → p ≡ q

@@ -307,7 +307,7 @@ pub fn place(n: u64, marked: bool) -> Place
     ensures { λ r. ⌜ Placed n marked r ⌝ }
 {
     if marked {
-        return Place::Refused(refusal(n));
+        return Place::Refused(refusal(n), 0);
     }
     Place::At(n as usize)
 }
@@ -358,7 +358,7 @@ pub fn at(refusal: u8, n: usize) {
 pub fn placed(p: Place) {
     match p {
         Place::At(n) => at(0, n),
-        Place::Refused(k) => at(numbers::number(k), 0),
+        Place::Refused(k, _) => at(numbers::number(k), 0),
     }
 }
 
@@ -425,7 +425,7 @@ pub fn again(out: &[u8], p: Place) {
             end = n;
             print(part(out, 0, n));
         }
-        Place::Refused(k) => figure(numbers::number(k) as u64),
+        Place::Refused(k, _) => figure(numbers::number(k) as u64),
     }
     if !check::same(part(out, end, 1024), part(&kept, end, 1024)) {
         word(b" and more");

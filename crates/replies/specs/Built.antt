@@ -168,12 +168,12 @@ one-message m m' e f = sym (rebuilt m) ∙ ap₂ built e f ∙ rebuilt m'
 -- the body that an answer stands for
 unfoldable pub bodyIn : Answer → Rbody
 bodyIn (accepted ty vs n) = B.Message (built ty vs) n
-bodyIn (refused k) = B.Refused k
+bodyIn (refused k at) = B.Refused k at
 
 rebodied : (r : Rbody) → bodyIn (viewR r) ≡ r
 unfolding bodyIn viewR
 rebodied (B.Message m n) = ap (λ (x : Rmessage). B.Message x n) (rebuilt m)
-rebodied (B.Refused k) = refl
+rebodied (B.Refused k at) = refl
 
 pub one-body : (r r' : Rbody) → viewR r ≡ viewR r' → r ≡ r'
 one-body r r' e = sym (rebodied r) ∙ ap bodyIn e ∙ rebodied r'

@@ -110,4 +110,4 @@ valuesR (M.Lerror m) = rlerror m
 -- a body seen as its number, its values and where it ends; or its refusal
 unfoldable pub viewR : Rbody → Answer
 viewR (B.Message m n) = accepted (typeR m) (valuesR m) n
-viewR (B.Refused k) = refused k
+viewR (B.Refused k at) = refused k at

@@ -60,10 +60,10 @@ pub enum Rmessage {
     Lerror(Rlerror),
 }
 
-// A body that was read: the message and the position after its fields; or why it is refused.
+// A body that was read: the message and the position after its fields; or why it is refused, and where.
 pub enum Rbody {
     Message(Rmessage, usize),
-    Refused(Refusal),
+    Refused(Refusal, usize),
 }
 
 fn finish(m: Rmessage, end: Place) -> Rbody
@@ -71,7 +71,7 @@ fn finish(m: Rmessage, end: Place) -> Rbody
 {
     match end {
         Place::At(n) => Rbody::Message(m, n),
-        Place::Refused(k) => Rbody::Refused(k),
+        Place::Refused(k, n) => Rbody::Refused(k, n),
     }
 }
 
@@ -204,7 +204,7 @@ pub fn read_rmessage(s: &[u8], ty: u8, p: Place) -> Rbody
         }
         121 => finish(Rmessage::Clunk, p),
         123 => finish(Rmessage::Remove, p),
-        _ => Rbody::Refused(Refusal::UnknownType),
+        _ => Rbody::Refused(Refusal::UnknownType, 0),
     }
 }
 

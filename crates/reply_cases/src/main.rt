@@ -16,7 +16,7 @@ fn body(out: &mut [u8], ty: u8, p: Place, s: &[u8]) -> Place {
             questions::at(0, end);
             replies::write_rmessage(out, p, s, m)
         }
-        Rbody::Refused(k) => Place::Refused(k),
+        Rbody::Refused(k, n) => Place::Refused(k, n),
     }
 }
 
@@ -29,7 +29,7 @@ fn reply(s: &[u8], ty: u8, out: &mut [u8]) -> Place {
             questions::head(0, ty, tag.0, true, used);
             frames::write_rframe(out, s, f)
         }
-        ReadRframe::Refused(k) => {
+        ReadRframe::Refused(k, _) => {
             questions::head(numbers::number(k), 0, 0, false, 0);
             Place::At(0)
         }

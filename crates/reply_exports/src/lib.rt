@@ -26,7 +26,7 @@ pub extern "C" fn sheafsledge_read_rframe(bytes: &[u8], values: &mut [u64; WIDTH
             };
             exports::outcome_of(ty, tag, true, next)
         }
-        Head::Refused(k) => exports::ended(Place::Refused(k)),
+        Head::Refused(k) => exports::ended(Place::Refused(k, 0)),
     }
 }
 
@@ -43,7 +43,7 @@ pub extern "C" fn sheafsledge_write_rframe(
     ensures { λ r. ⌜ FlatWrote tableR refusal ty (tag .0) (now (values .entry)) (now (lent .entry)) (now (out .entry)) (now (out .exit)) r ⌝ }
 {
     if refusal != 0 {
-        return exports::ended(Place::Refused(Refusal::HoldsRefusal));
+        return exports::ended(Place::Refused(Refusal::HoldsRefusal, 0));
     }
     let end = flat_replies::write_flat(out, Place::At(framing::BODY), lent, ty, values);
     exports::ended(framing::put_header(out, end, ty, tag.0))

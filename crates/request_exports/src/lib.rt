@@ -24,7 +24,7 @@ pub extern "C" fn sheafsledge_read_tframe(bytes: &[u8], values: &mut [u64; WIDTH
             let next = flat_requests::read_flat(&bytes[..n], ty, Place::At(framing::BODY), values);
             exports::outcome_of(ty, tag, true, next)
         }
-        Head::Refused(k) => exports::ended(Place::Refused(k)),
+        Head::Refused(k) => exports::ended(Place::Refused(k, 0)),
     }
 }
 
@@ -42,7 +42,7 @@ pub extern "C" fn sheafsledge_write_tframe(
     ensures { λ r. ⌜ FlatWrote tableT refusal ty (tag .0) (now (values .entry)) (now (lent .entry)) (now (out .entry)) (now (out .exit)) r ⌝ }
 {
     if refusal != 0 {
-        return exports::ended(Place::Refused(Refusal::HoldsRefusal));
+        return exports::ended(Place::Refused(Refusal::HoldsRefusal, 0));
     }
     let end = flat_requests::write_flat(out, Place::At(framing::BODY), lent, ty, values);
     exports::ended(framing::put_header(out, end, ty, tag.0))

@@ -163,12 +163,12 @@ one-message m m' e f = sym (rebuilt m) ∙ ap₂ built e f ∙ rebuilt m'
 -- the body that an answer stands for
 unfoldable pub bodyIn : Answer → Tbody
 bodyIn (accepted ty vs n) = B.Message (built ty vs) n
-bodyIn (refused k) = B.Refused k
+bodyIn (refused k at) = B.Refused k at
 
 rebodied : (r : Tbody) → bodyIn (viewT r) ≡ r
 unfolding bodyIn viewT
 rebodied (B.Message m n) = ap (λ (x : Tmessage). B.Message x n) (rebuilt m)
-rebodied (B.Refused k) = refl
+rebodied (B.Refused k at) = refl
 
 pub one-body : (r r' : Tbody) → viewT r ≡ viewT r' → r ≡ r'
 one-body r r' e = sym (rebodied r) ∙ ap bodyIn e ∙ rebodied r'

@@ -107,4 +107,4 @@ valuesT (M.UnlinkAt m) = tunlinkat m
 -- a body seen as its number, its values and where it ends; or its refusal
 unfoldable pub viewT : Tbody → Answer
 viewT (B.Message m n) = accepted (typeT m) (valuesT m) n
-viewT (B.Refused k) = refused k
+viewT (B.Refused k at) = refused k at

@@ -68,10 +68,10 @@ pub enum Tmessage {
     UnlinkAt(Tunlinkat),
 }
 
-// A body that was read: the message and the position after its fields; or why it is refused.
+// A body that was read: the message and the position after its fields; or why it is refused, and where.
 pub enum Tbody {
     Message(Tmessage, usize),
-    Refused(Refusal),
+    Refused(Refusal, usize),
 }
 
 fn finish(m: Tmessage, end: Place) -> Tbody
@@ -79,7 +79,7 @@ fn finish(m: Tmessage, end: Place) -> Tbody
 {
     match end {
         Place::At(n) => Tbody::Message(m, n),
-        Place::Refused(k) => Tbody::Refused(k),
+        Place::Refused(k, n) => Tbody::Refused(k, n),
     }
 }
 
@@ -256,7 +256,7 @@ pub fn read_tmessage(s: &[u8], ty: u8, p: Place) -> Tbody
             let e = r.next;
             finish(Tmessage::Remove(m), e)
         }
-        _ => Tbody::Refused(Refusal::UnknownType),
+        _ => Tbody::Refused(Refusal::UnknownType, 0),
     }
 }
 

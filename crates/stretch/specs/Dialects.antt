@@ -125,7 +125,7 @@ module _ (d : Direction) where
         (w .bytes ∙ y .0 ∙ ap (over o 0) (resized-again used s (stripped-length (d .rows) s is)), w .next ∙ y .1)
 
     -- 4. cut
-    pub cut : (j : ℕ) → j < used → (r : d .Read) → Reads (cutAt j s) r → answerIn (d .view r) ≡ refused R.Short
+    pub cut : (j : ℕ) → j < used → (r : d .Read) → Reads (cutAt j s) r → answerIn (d .view r) ≡ refused R.Short 0
     cut j h r e = ap answerIn e ∙ d .same (readFrame (d .rows) (cutAt j s)) ∙ cut-short (d .rows) s is j h
 
   -- 3. read back

@@ -93,14 +93,14 @@ requests =
     }
 
 pub reply-good : (x : Frame) (tag ty n : ℕ) (vs : List Value) → refusedWhole x ≡ framed tag (accepted ty vs n) → x ≡ framed tag (accepted ty vs n)
-reply-good (headless k) tag ty n vs e = absurd (let z : _≡_ {A = ℕ} 0 1 = cc e in omega arith)
+reply-good (headless k at) tag ty n vs e = absurd (let z : _≡_ {A = ℕ} 0 1 = cc e in omega arith)
 reply-good (framed g (accepted t us m)) tag ty n vs e = e
-reply-good (framed g (refused k)) tag ty n vs e = absurd (let z : _≡_ {A = ℕ} 0 1 = cc e in omega arith)
+reply-good (framed g (refused k at)) tag ty n vs e = absurd (let z : _≡_ {A = ℕ} 0 1 = cc e in omega arith)
 
 pub same-answer : (x : Frame) → answerIn (refusedWhole x) ≡ answerIn x
-same-answer (headless k) = refl
+same-answer (headless k at) = refl
 same-answer (framed g (accepted ty vs n)) = refl
-same-answer (framed g (refused k)) = refl
+same-answer (framed g (refused k at)) = refl
 
 abbrev pub replies : Direction
 replies =
@@ -146,7 +146,7 @@ module _ (s : List ℕ) (f : Tframe) (m : Tmessage) {used : ℕ} (b : Bytes s) (
   stripped-request-written-again h w = written-again requests s (T.Frame f) m (f .tag .0) used b request c h (sent f m k w)
 
   -- 4. cut
-  pub cut-request : (j : ℕ) → j < used → (r : ReadTframe) → viewTframe r ≡ readFrame tableT (cutAt j s) → answerIn (viewTframe r) ≡ refused R.Short
+  pub cut-request : (j : ℕ) → j < used → (r : ReadTframe) → viewTframe r ≡ readFrame tableT (cutAt j s) → answerIn (viewTframe r) ≡ refused R.Short 0
   cut-request = cut requests s (T.Frame f) m (f .tag .0) used b request c
 
 -- ---- replies
@@ -171,7 +171,7 @@ module _ (s : List ℕ) (f : Rframe) {used : ℕ} (b : Bytes s) (c : viewRframe 
   stripped-reply-written-again = written-again replies s (Q.Frame f used) (f .msg) (f .tag .0) used b reply c
 
   -- 4. cut
-  pub cut-reply : (j : ℕ) → j < used → (r : ReadRframe) → viewRframe r ≡ refusedWhole (readFrame tableR (cutAt j s)) → answerIn (viewRframe r) ≡ refused R.Short
+  pub cut-reply : (j : ℕ) → j < used → (r : ReadRframe) → viewRframe r ≡ refusedWhole (readFrame tableR (cutAt j s)) → answerIn (viewRframe r) ≡ refused R.Short 0
   cut-reply = cut replies s (Q.Frame f used) (f .msg) (f .tag .0) used b reply c
 
 -- ---- 3. read back

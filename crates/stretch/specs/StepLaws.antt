@@ -57,7 +57,7 @@ module _ {size : ℕ} {c : Body} where
   unfolding viewBody viewT
   leaves-request e f = record { is = rw (e, f) }
 
-  pub leaves-no-request : {b : Tbody} {k : Refusal} → c ≡ B.Request b → b ≡ T.Refused k → Leaves size (viewBody c) size
+  pub leaves-no-request : {b : Tbody} {k : Refusal} {at : ℕ} → c ≡ B.Request b → b ≡ T.Refused k at → Leaves size (viewBody c) size
   unfolding viewBody viewT
   leaves-no-request e f = record { is = rw (e, f) (omega arith) }
 
@@ -65,7 +65,7 @@ module _ {size : ℕ} {c : Body} where
   unfolding viewBody viewR
   leaves-reply e f = record { is = rw (e, f) }
 
-  pub leaves-no-reply : {b : Rbody} {k : Refusal} → c ≡ B.Reply b → b ≡ Q.Refused k → Leaves size (viewBody c) size
+  pub leaves-no-reply : {b : Rbody} {k : Refusal} {at : ℕ} → c ≡ B.Reply b → b ≡ Q.Refused k at → Leaves size (viewBody c) size
   unfolding viewBody viewR
   leaves-no-reply e f = record { is = rw (e, f) (omega arith) }
 

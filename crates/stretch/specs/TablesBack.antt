@@ -207,10 +207,10 @@ qids-one t t' g h e =
     let a = qids-length t in
     let b = qids-length t' in
     let c = ap length e in
-    let R = reads-fields (qidItems t) (qids-good t g) .back [] in
-    let S = reads-fields (qidItems t') (qids-good t' h) .back [] in
+    let R = reads-fields 0 (qidItems t) (qids-good t g) .back [] in
+    let S = reads-fields 0 (qidItems t') (qids-good t' h) .back [] in
     let k = qids-kinds t t' (omega arith) in
-    let d : ok (qidItems t) [] ≡ ok (qidItems t') [] = sym R ∙ ap₂ (λ l (x : List ℕ). readFields l (x ++ [])) k e ∙ S in
+    let d : ok (qidItems t) [] ≡ ok (qidItems t') [] = sym R ∙ ap₂ (λ l (x : List ℕ). readFields l 0 (x ++ [])) k e ∙ S in
     qids-of-items t t' (cc d)
 
 -- one output is the Rwalk of one table

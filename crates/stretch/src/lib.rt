@@ -50,11 +50,11 @@ fn used_of(size: usize, body: Body) -> usize
     match body {
         Body::Request(b) => match b {
             Tbody::Message(_, used) => used,
-            Tbody::Refused(_) => size,
+            Tbody::Refused(_, _) => size,
         },
         Body::Reply(b) => match b {
             Rbody::Message(_, used) => used,
-            Rbody::Refused(_) => size,
+            Rbody::Refused(_, _) => size,
         },
     }
 }

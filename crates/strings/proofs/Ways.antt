@@ -12,15 +12,16 @@ use borrow.Author.Tests.{le-leb, lt-leb, leb-true}
 use Rattle.numbers.specs.Numbers.{toLE, length-toLE}
 use Rattle.numbers.specs.Reading.{Result, ok, bad, after, raw, readNum}
 use Rattle.numbers.specs.ReadingLaws.{or-else, after-inv, cond-inv, raw-short}
-use Rattle.numbers.specs.Places.{Within, readAt, restAt, NumRead, over, Put}
+use Rattle.numbers.specs.Places.{Within, readFrom, restAt, NumRead, over, Put}
 use Rattle.numbers.specs.PlaceLaws.{inside, outside, Held, num-holds, num-refused, put-stays, put-full, put-done, put-then, over-then}
 use Rattle.numbers.specs.declared.Refusal.{Refusal}
 use Rattle.numbers.specs.declared.Refusal.the-variants as R
 use Rattle.numbers.specs.declared.Place.{Place}
 use Rattle.numbers.specs.declared.Place.the-variants.{At, Refused}
-use Rattle.utf8.specs.Utf8.{utf8, noZero}
+use Rattle.utf8.specs.Utf8.{utf8, soundStart, noZero, zeroAt}
+use Rattle.utf8.specs.StartLaws.{zero-in}
 use Rattle.strings.specs.Strings.{okText, readString, stringBytes}
-use Rattle.strings.specs.SpanLaws.{first-refuses, shown-in, shown-out, shown-length, passed, string-passed, passing, string-at, start-bad, string-held, string-short, text-refused, text-passed}
+use Rattle.strings.specs.SpanLaws.{first-refuses, shown-in, shown-out, shown-length, passed, string-passed, passing, string-cut, start-bad, string-held, string-short, text-refused, text-passed}
 use Rattle.strings.specs.Spans.{bytesIn, showSpan, showString, checkAt, Shown, TextCheck, SpanCheck, StrCheck, startIn, strStart, strLen, pastStr, StrRead, SpanPut, StrPut}
 
 -- ---- a string's bytes, cut out to be looked at
@@ -28,20 +29,32 @@ use Rattle.strings.specs.Spans.{bytesIn, showSpan, showString, checkAt, 
 abbrev between : ℕ → ℕ → List ℕ → List ℕ
 between x e s = take (e - x) (drop x s)
 
-module _ {s : List ℕ} {x y a : ℕ} {p : Place} where
-  pub text-bad : p ≡ At a → utf8 (between x (x + y) s) ≡ false → TextCheck s x y p (Refused R.NotUtf8)
-  text-bad e u =
+-- the first zero byte of a part lies within it, or is its end
+pub zero-lies : (s : List ℕ) (x y : ℕ) {i : ℕ} → x + y ≤ length s → i ≡ zeroAt (between x (x + y) s) → x + i ≤ length s
+zero-lies s x y h e =
+    let n : x + y - x ≡ y = omega arith in
+    let l = zero-in (between x (x + y) s) e in
+    let k : length (between x (x + y) s) ≡ y = rw n (shown-length s x y h) in
+    omega arith
+
+module _ {s : List ℕ} {x y a i : ℕ} {p : Place} where
+  pub text-bad : p ≡ At a → utf8 (between x (x + y) s) ≡ false → i ≡ soundStart (between x (x + y) s) → TextCheck s x y p (Refused R.NotUtf8 (x + i))
+  text-bad e u h =
       let n : x + y - x ≡ y = omega arith in
       let v = rw n at u in
-      record { is = rw (e, v) }
+      let g = rw n at h in
+      record { is = rw (e, v, g) }
 
-  pub text-zero : p ≡ At a → utf8 (between x (x + y) s) ≡ true → noZero (between x (x + y) s) ≡ false → TextCheck s x y p (Refused R.ZeroByte)
-  text-zero e u z =
+  pub text-zero : p ≡ At a → utf8 (between x (x + y) s) ≡ true → noZero (between x (x + y) s) ≡ false → i ≡ zeroAt (between x (x + y) s)
+      → TextCheck s x y p (Refused R.ZeroByte (x + i))
+  text-zero e u z h =
       let n : x + y - x ≡ y = omega arith in
       let v = rw n at u in
       let w = rw n at z in
-      record { is = rw (e, v, w) }
+      let g = rw n at h in
+      record { is = rw (e, v, w, g) }
 
+module _ {s : List ℕ} {x y a : ℕ} {p : Place} where
   pub text-fine : p ≡ At a → utf8 (between x (x + y) s) ≡ true → noZero (between x (x + y) s) ≡ true → TextCheck s x y p p
   text-fine e u z =
       let n : x + y - x ≡ y = omega arith in
@@ -61,17 +74,17 @@ module _ {lent : List ℕ} {x y : ℕ} {t : Bool} where
   pub span-in : {p : Place} {a : ℕ} → p ≡ At a → Within x y (length lent) t → t ≡ true → SpanCheck lent x y p p
   span-in e i h = record { is = rw (e, shown-in lent x y (inside i h)) }
 
-  pub span-out : {p : Place} {a : ℕ} → p ≡ At a → Within x y (length lent) t → t ≡ false → SpanCheck lent x y p (Refused R.SpanOutside)
+  pub span-out : {p : Place} {a : ℕ} → p ≡ At a → Within x y (length lent) t → t ≡ false → SpanCheck lent x y p (Refused R.SpanOutside 0)
   span-out e i h = record { is = rw (e, shown-out lent x y (outside i h)) }
 
 -- ---- a lent string
 
 module _ {lent : List ℕ} {x y : ℕ} {p q : Place} where
-  pub str-span : {k : Refusal} → SpanCheck lent x y p q → q ≡ Refused k → StrCheck lent x y p q
+  pub str-span : {k : Refusal} {at : ℕ} → SpanCheck lent x y p q → q ≡ Refused k at → StrCheck lent x y p q
   unfolding showString
   str-span c e = record { is = e ∙ sym (first-refuses (showSpan lent x y) _ p (sym (c .is) ∙ e)) }
 
-  pub str-long : {a : ℕ} → SpanCheck lent x y p q → q ≡ At a → 65535 < y → StrCheck lent x y p (Refused R.StringTooLong)
+  pub str-long : {a : ℕ} → SpanCheck lent x y p q → q ≡ At a → 65535 < y → StrCheck lent x y p (Refused R.StringTooLong 0)
   unfolding showString
   str-long c e h = let k = passed c e in record { is = rw (k .place, k .shows, lt-leb y 65535 h) }
 
@@ -82,18 +95,18 @@ module _ {lent : List ℕ} {x y : ℕ} {p q : Place} where
 -- ---- a string that is read
 
 module _ {s : List ℕ} {p q : Place} where
-  refused-str : {k : Refusal} → readAt readString s p ≡ bad k → q ≡ Refused k → StrRead s p 0 0 q
+  refused-str : {k : Refusal} {at : ℕ} → readFrom readString s p ≡ bad k at → q ≡ Refused k at → StrRead s p 0 0 q
   unfolding strStart strLen pastStr
-  refused-str {k} f e = record { start = rw f (sym (start-bad 2 p k)); len = rw f; next = rw f e }
+  refused-str {k} {at} f e = record { start = rw f (sym (start-bad 2 p k at)); len = rw f; next = rw f e }
 
-  pub str-cut : {n : ℕ} {k : Refusal} → NumRead 2 s p n q → q ≡ Refused k → StrRead s p 0 0 q
-  str-cut r e = refused-str (string-at s p ∙ rw (num-refused r e .reads)) e
+  pub str-cut : {n : ℕ} {k : Refusal} {at : ℕ} → NumRead 2 s p n q → q ≡ Refused k at → StrRead s p 0 0 q
+  str-cut r e = refused-str (string-cut s p (num-refused r e .reads)) e
 
 module _ {s : List ℕ} {p a : Place} {n e : ℕ} {t : Bool} where
-  pub str-short : NumRead 2 s p n a → a ≡ At e → Within e n (length s) t → t ≡ false → StrRead s p 0 0 (Refused R.Short)
+  pub str-short : NumRead 2 s p n a → a ≡ At e → Within e n (length s) t → t ≡ false → StrRead s p 0 0 (Refused R.Short 0)
   str-short r f i h = refused-str (string-short (num-holds (omega arith) r f) (outside i h)) refl
 
-  pub str-bad : {q : Place} {k : Refusal} → NumRead 2 s p n a → a ≡ At e → Within e n (length s) t → t ≡ true → TextCheck s e n (At (e + n)) q → q ≡ Refused k → StrRead s p 0 0 q
+  pub str-bad : {q : Place} {k : Refusal} {at : ℕ} → NumRead 2 s p n a → a ≡ At e → Within e n (length s) t → t ≡ true → TextCheck s e n (At (e + n)) q → q ≡ Refused k at → StrRead s p 0 0 q
   str-bad r f i h c g = refused-str (string-held (num-holds (omega arith) r f) (inside i h) ∙ text-refused c (drop (e + n) s) g) g
 
   pub str-good : {q : Place} {g : ℕ} → NumRead 2 s p n a → a ≡ At e → Within e n (length s) t → t ≡ true → TextCheck s e n (At (e + n)) q → q ≡ At g → StrRead s p e n q
@@ -150,10 +163,10 @@ copy-more o0 lent at start len done n h k l e f =
 -- ---- bytes that are put
 
 module _ {lent o : List ℕ} {x y : ℕ} {p q : Place} where
-  pub bytes-refused : {k : Refusal} → SpanCheck lent x y p q → q ≡ Refused k → SpanPut lent x y o p o q
+  pub bytes-refused : {k : Refusal} {at : ℕ} → SpanCheck lent x y p q → q ≡ Refused k at → SpanPut lent x y o p o q
   bytes-refused c e = record { put = rw (← (c .is)) (put-stays e) }
 
-  pub bytes-full : {a : ℕ} {t : Bool} → SpanCheck lent x y p q → q ≡ At a → Within a y (length o) t → t ≡ false → SpanPut lent x y o p o (Refused R.NoRoom)
+  pub bytes-full : {a : ℕ} {t : Bool} → SpanCheck lent x y p q → q ≡ At a → Within a y (length o) t → t ≡ false → SpanPut lent x y o p o (Refused R.NoRoom 0)
   bytes-full c e i h = let k = passed c e in record { put = rw (← (c .is), k .shows) (put-full (shown-length lent x y (k .lies)) e i h) }
 
   pub bytes-done : {a : ℕ} {t : Bool} {o' : List ℕ} → SpanCheck lent x y p q → q ≡ At a → Within a y (length o) t → t ≡ true → o' ≡ over o a (take y (drop x lent))
@@ -171,10 +184,10 @@ pub string-small : {lent : List ℕ} {x y a : ℕ} {p q : Place} → StrCheck le
 string-small c e = string-passed c e .small
 
 module _ {lent o : List ℕ} {x y : ℕ} {p q : Place} where
-  pub string-refused : {k : Refusal} → StrCheck lent x y p q → q ≡ Refused k → StrPut lent x y o p o q
+  pub string-refused : {k : Refusal} {at : ℕ} → StrCheck lent x y p q → q ≡ Refused k at → StrPut lent x y o p o q
   string-refused c e = record { put = rw (← (c .is)) (put-stays e) }
 
-  pub string-full : {a : ℕ} {t : Bool} → StrCheck lent x y p q → q ≡ At a → Within a (y + 2) (length o) t → t ≡ false → StrPut lent x y o p o (Refused R.NoRoom)
+  pub string-full : {a : ℕ} {t : Bool} → StrCheck lent x y p q → q ≡ At a → Within a (y + 2) (length o) t → t ≡ false → StrPut lent x y o p o (Refused R.NoRoom 0)
   string-full c e i h = let k = string-passed c e in record { put = rw (← (c .is), k .shows) (put-full (string-length lent x y (k .lies)) e i h) }
 
   pub string-done : {a : ℕ} {t : Bool} {o1 o2 : List ℕ} {m r : Place} → StrCheck lent x y p q → q ≡ At a → Within a (y + 2) (length o) t → t ≡ true → Put (toLE 2 y) o (At a) o1 m

@@ -15,26 +15,26 @@ use Rattle.strings.specs.Strings.{okText, readString, stringBytes, GoodT
 use Rattle.strings.specs.Spans.{TextCheck, Shown, SpanCheck, StrCheck, StrRead}
 
 -- read after put, and a string cut anywhere is short
-pub reads-string : (bs : List ℕ) → GoodText bs → Reads readString (stringBytes bs) bs
+pub reads-string : (a : ℕ) (bs : List ℕ) → GoodText bs → Reads (readString a) (stringBytes bs) bs
 unfolding readString stringBytes
-reads-string bs g =
-    reads-after _ (reads-num 2 (length bs) (g .short)) (reads-then okText (λ r. rw (g .form, g .full)) (reads-raw (length bs) bs refl))
+reads-string a bs g =
+    reads-after _ (reads-num 2 (length bs) (g .short)) (reads-then (okText (a + 2)) (λ r. rw (g .form, g .full)) (reads-raw (length bs) bs refl))
 
 -- put after read
-pub took-string : (xs : List ℕ) {bs r : List ℕ} → Bytes xs → readString xs ≡ ok bs r → Took xs (stringBytes bs) r (GoodText bs)
+pub took-string : (a : ℕ) (xs : List ℕ) {bs r : List ℕ} → Bytes xs → readString a xs ≡ ok bs r → Took xs (stringBytes bs) r (GoodText bs)
 unfolding readString stringBytes
-took-string xs {bs} {r} h e =
+took-string a xs {bs} {r} h e =
     after-inv (readNum 2 xs) _ e
-    (λ n s e1 e2. after-inv (raw n s) okText e2
+    (λ n s e1 e2. after-inv (raw n s) (okText (a + 2)) e2
     (λ cs t e3 e4.
     let p = took-num 2 xs h e1 in
     let q = took-raw n s (p .rest) e3 in
-    let u = cond-inv (utf8 cs) _ R.NotUtf8 e4 in
-    let v = cond-inv (noZero cs) _ R.ZeroByte (u .1) in
+    let u = cond-inv (utf8 cs) _ R.NotUtf8 _ e4 in
+    let v = cond-inv (noZero cs) _ R.ZeroByte _ (u .1) in
     let w = v .1 in
     let en : cs ≡ bs = cc in
     let er : t ≡ r = cc in
-    rw (← en, ← er, q .good .0) (took-then p q (λ a b. record { short = rw (b .0) a; form = u .0; full = v .0 }))))
+    rw (← en, ← er, q .good .0) (took-then p q (λ y b. record { short = rw (b .0) y; form = u .0; full = v .0 }))))
 
 -- ---- one answer for each question
 

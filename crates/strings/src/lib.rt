@@ -43,11 +43,11 @@ pub fn check_span(lent: &[u8], v: Span, p: Place) -> Place
     if numbers::within(v.start, v.len, lent.len()) {
         return p;
     }
-    Place::Refused(Refusal::SpanOutside)
+    Place::Refused(Refusal::SpanOutside, 0)
 }
 
-// The check of a string's bytes, a part of some bytes: the place itself; or 5, then 6. It is lent all of them, and not the part cut out,
-// so that a position in the text counts as the span does.
+// The check of a string's bytes, a part of some bytes: the place itself; or 5, then 6, each with where in these bytes the text breaks. It is
+// lent all of them, and not the part cut out, so that a position in the text counts as the span does.
 fn check_text(s: &[u8], v: Span, p: Place) -> Place
     requires { ⌜ v .start + v .len ≤ length (now s) ⌝ }
     ensures { λ r. ⌜ TextCheck (now (s .entry)) (v .start) (v .len) p r ⌝ }
@@ -60,13 +60,16 @@ fn check_text(s: &[u8], v: Span, p: Place) -> Place
     let text = &s[start..end];
     let e = utf8::extremes_of(text);
     if 128 <= e.high {
-        let well_formed = utf8::all_characters(text);
-        if !well_formed {
-            return Place::Refused(Refusal::NotUtf8);
+        let n = utf8::sound_start(text);
+        if n < text.len() {
+            let at = start + n;
+            return Place::Refused(Refusal::NotUtf8, at);
         }
     }
     if e.low == 0 {
-        return Place::Refused(Refusal::ZeroByte);
+        let n = utf8::zero_at(text);
+        let at = start + n;
+        return Place::Refused(Refusal::ZeroByte, at);
     }
     p
 }
@@ -80,7 +83,7 @@ pub fn check_str(lent: &[u8], v: Span, p: Place) -> Place
         return q;
     };
     if 65535 < v.len {
-        return Place::Refused(Refusal::StringTooLong);
+        return Place::Refused(Refusal::StringTooLong, 0);
     }
     check_text(lent, v, q)
 }
@@ -116,7 +119,7 @@ pub fn read_str(s: &[u8], p: Place) -> ReadSpan
     }
     ReadSpan {
         value: none,
-        next: Place::Refused(Refusal::Short),
+        next: Place::Refused(Refusal::Short, 0),
     }
 }
 
@@ -171,7 +174,7 @@ pub fn put_bytes(out: &mut [u8], p: Place, lent: &[u8], v: Span) -> Place
         let end = at + len;
         return Place::At(end);
     }
-    Place::Refused(Refusal::NoRoom)
+    Place::Refused(Refusal::NoRoom, 0)
 }
 
 // A string of the lent bytes, put at a place as n[2] and its bytes: 9, 7, 5, 6, 11. The room is tested once, for both.
@@ -188,5 +191,5 @@ pub fn put_str(out: &mut [u8], p: Place, lent: &[u8], v: Span) -> Place
         let text = numbers::put_u16(out, q, len as u16);
         return put_bytes(out, text, lent, v);
     }
-    Place::Refused(Refusal::NoRoom)
+    Place::Refused(Refusal::NoRoom, 0)
 }

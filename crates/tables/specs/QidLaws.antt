@@ -102,7 +102,7 @@ head-count n tag {o} {o1} l a b =
 
 -- where the frame ends
 
-pub past-long : (room n : ℕ) {p : Place} {k : Refusal} → CountCheck n (At 9) p → p ≡ Refused k → p ≡ rwalkPast room n
+pub past-long : (room n : ℕ) {p : Place} {k : Refusal} {at : ℕ} → CountCheck n (At 9) p → p ≡ Refused k at → p ≡ rwalkPast room n
 past-long room n c e =
     let f = lt-leb n 16 (count-refused c e) in
     let g = rw f at (c .is) in
@@ -113,7 +113,7 @@ module _ (room n : ℕ) {p : Place} {a : ℕ} (c : CountCheck n (At 9) p) (e : p
   pub past-head : (n ≤ 16) × (9 ≡ a)
   past-head = let h = count-passed c e in (h .0, cc (h .1))
 
-  pub past-full : room < a + 13 * n → Refused R.NoRoom ≡ rwalkPast room n
+  pub past-full : room < a + 13 * n → Refused R.NoRoom 0 ≡ rwalkPast room n
   past-full l = let h = past-head in rw (le-leb n 16 (h .0), lt-ltb room (9 + 13 * n) (rw (← (h .1)) at l))
 
   pub past-room : a + 13 * n ≤ room → At (a + 13 * n) ≡ rwalkPast room n
@@ -135,7 +135,7 @@ fitting room n {e} f =
     (λ l. absurd (let d = rw (c, lt-ltb room (9 + 13 * n) l) at f in let z : _≡_ {A = ℕ} 0 1 = cc d in omega arith)))
     (λ h. absurd (let d = rw (lt-leb n 16 h) at f in let z : _≡_ {A = ℕ} 0 1 = cc d in omega arith))
 
-pub head-none : (n tag : ℕ) (o : List ℕ) {p : Place} {k : Refusal} → p ≡ rwalkPast (length o) n → p ≡ Refused k → (0 ≡ toFollow (length o) n) × (o ≡ headed o tag n)
+pub head-none : (n tag : ℕ) (o : List ℕ) {p : Place} {k : Refusal} {at : ℕ} → p ≡ rwalkPast (length o) n → p ≡ Refused k at → (0 ≡ toFollow (length o) n) × (o ≡ headed o tag n)
 head-none n tag o f g = let d = sym f ∙ g in (ap (λ p. allOf n p) (sym d), ap (λ p. headAt o tag n p) (sym d))
 
 pub head-put : (n tag : ℕ) (o : List ℕ) {e : ℕ} {o1 o2 : List ℕ} {p q r : Place} → p ≡ rwalkPast (length o) n → p ≡ At e → HeadPut 111 tag p o o1 q → Put (toLE 2 n) o1 (At 7) o2 r

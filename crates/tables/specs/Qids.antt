@@ -32,8 +32,8 @@ placed l at t (suc k) = putQid (placed l at t k) at k (getD t k noQid)
 
 -- where the frame ends: 17, then 11, else its length
 abbrev roomFor : ℕ → Place → Place
-roomFor room (At n) = cond (ltb room n) (Refused R.NoRoom) (At n)
-roomFor room (Refused k) = Refused k
+roomFor room (At n) = cond (ltb room n) (Refused R.NoRoom 0) (At n)
+roomFor room (Refused k at) = Refused k at
 
 abbrev pub rwalkPast : ℕ → ℕ → Place
 rwalkPast room n = roomFor room (checkAt (okCount n) (At (9 + 13 * n)))
@@ -41,7 +41,7 @@ rwalkPast room n = roomFor room (checkAt (okCount n) (At (9 + 13 * n)))
 -- how many qids are to follow the head: all, or none where the frame is refused
 abbrev pub allOf : ℕ → Place → ℕ
 allOf n (At e) = n
-allOf n (Refused k) = 0
+allOf n (Refused k at) = 0
 
 abbrev pub toFollow : ℕ → ℕ → ℕ
 toFollow room n = allOf n (rwalkPast room n)
@@ -49,7 +49,7 @@ toFollow room n = allOf n (rwalkPast room n)
 -- the header and the count; or nothing where the frame is refused
 abbrev pub headAt : List ℕ → ℕ → ℕ → Place → List ℕ
 headAt l tag n (At e) = over l 0 (headBytes e 111 tag ++ toLE 2 n)
-headAt l tag n (Refused k) = l
+headAt l tag n (Refused k at) = l
 
 abbrev pub headed : List ℕ → ℕ → ℕ → List ℕ
 headed l tag n = headAt l tag n (rwalkPast (length l) n)

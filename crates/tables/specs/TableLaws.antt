@@ -69,7 +69,7 @@ walk-put t f g h l = put-number f (put-number g (put-number h l))
 -- ---- the frame
 
 module _ {tag fid newfid : ℕ} {lent : List ℕ} {t : List (List ℕ)} {o : List ℕ} where
-  pub twalk-long : {p : Place} {k : Refusal} → CountCheck (length t) (At 7) p → p ≡ Refused k → TwalkWritten tag fid newfid lent t o o p
+  pub twalk-long : {p : Place} {k : Refusal} {at : ℕ} → CountCheck (length t) (At 7) p → p ≡ Refused k at → TwalkWritten tag fid newfid lent t o o p
   unfolding frameOut framePast
   twalk-long c e =
       let f = lt-leb (length t) 16 (count-refused c e) in

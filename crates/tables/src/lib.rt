@@ -122,7 +122,7 @@ fn rwalk_past(room: usize, count: usize) -> Place
     };
     let size = head + 13 * count;
     if room < size {
-        return Place::Refused(Refusal::NoRoom);
+        return Place::Refused(Refusal::NoRoom, 0);
     }
     Place::At(size)
 }

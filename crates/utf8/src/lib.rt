@@ -4,7 +4,7 @@ ghost use mathlib.Core.Path.{_≡_};
 ghost use mathlib.Core.List.{[], _∷_};
 ghost use Prim.Native.Nat.{_<_, min, max};
 ghost use lib.ListN.{length};
-ghost use Rattle.utf8.specs.Utf8.{_to_, inRange, CharAt, utf8};
+ghost use Rattle.utf8.specs.Utf8.{_to_, inRange, CharAt, utf8, soundStart, zeroAt};
 ghost use Rattle.utf8.specs.Utf8Laws.{Rest, leastOf, greatestOf};
 
 // ---- The rows of RFC 3629, section 4, in their order (F2.1): an arm a row, with the range of each of its octets
@@ -94,10 +94,10 @@ fn four(s: &[u8], i: usize, q: Octets, r: Octets, t: Octets) -> usize
 
 // ---- A text as a whole, with short cuts, since most text is plain: each says why it answers as the rows do
 
-// UTF8-octets = *( UTF8-char ): whether the bytes are characters to their end. Short cut: a byte below 128 is passed over, and no row is
-// asked for. It is UTF8-1, for which `char_at` answers 1.
-pub fn all_characters(s: &[u8]) -> bool
-    ensures { λ r. ⌜ r ≡ utf8 (now (s .entry)) ⌝ }
+// UTF8-octets = *( UTF8-char ): how many bytes the longest start has that is characters (F2.7). Short cut: a byte below 128 is passed over,
+// and no row is asked for. It is UTF8-1, for which `char_at` answers 1.
+pub fn sound_start(s: &[u8]) -> usize
+    ensures { λ r. ⌜ r ≡ soundStart (now (s .entry)) ⌝ }
 {
     let mut i = 0;
     while i < s.len() {
@@ -107,15 +107,15 @@ pub fn all_characters(s: &[u8]) -> bool
         } else {
             let k = char_at(s, i);
             if k == 0 {
-                return false;
+                return i;
             }
             i += k;
         }
     }
-    true
+    i
 }
 
-// As `all_characters`. Short cut: where the greatest byte is below 128, each byte is UTF8-1, and no character is looked for.
+// Whether the bytes are characters to their end. Short cut: where the greatest byte is below 128, each byte is UTF8-1, and no character is looked for.
 pub fn is_utf8(s: &[u8]) -> bool
     ensures { λ r. ⌜ r ≡ utf8 (now (s .entry)) ⌝ }
 {
@@ -123,7 +123,21 @@ pub fn is_utf8(s: &[u8]) -> bool
     if e.high < 128 {
         return true;
     }
-    all_characters(s)
+    s.len() <= sound_start(s)
+}
+
+// How many bytes stand before the first zero byte.
+pub fn zero_at(s: &[u8]) -> usize
+    ensures { λ r. ⌜ r ≡ zeroAt (now (s .entry)) ⌝ }
+{
+    let mut i = 0;
+    while i < s.len() {
+        if s[i] == 0 {
+            return i;
+        }
+        i += 1;
+    }
+    i
 }
 
 // Whether a byte is a character by itself, and not zero. Short cut, for who sees many bytes at once: where all are plain, each is UTF8-1,

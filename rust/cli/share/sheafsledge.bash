@@ -4,11 +4,11 @@ _sheafsledge() {
     local word=${COMP_WORDS[COMP_CWORD]} before=${COMP_WORDS[COMP_CWORD - 1]} offers='' i
     COMPREPLY=()
     if [ "$COMP_CWORD" -eq 1 ]; then
-        mapfile -t COMPREPLY < <(compgen -W 'list pairs --help -h --version -V' -- "$word")
+        mapfile -t COMPREPLY < <(compgen -W 'list pairs where --help -h --version -V' -- "$word")
         return
     fi
     case ${COMP_WORDS[1]} in
-    list) offers='--names --json --output -o --help -h' ;;
+    list | where) offers='--names --json --output -o --help -h' ;;
     pairs) offers='--output -o --help -h' ;;
     esac
     # After `--`, and as an option's value, a word is a file in any case.

@@ -14,5 +14,7 @@ pub struct Command {
     pub options: &'static [Opt],
     /// Words that a reader can type as they stand, after `sheafsledge`.
     pub examples: &'static [&'static str],
+    /// When it is 0 and when 1, after `Status: `; the others mean the same for all.
+    pub status: &'static str,
     pub run: fn(&Words) -> Result<Status, Failure>,
 }

@@ -27,8 +27,8 @@ pub const OPTIONS: &[Opt] = &[HELP, VERSION];
 const COLUMN: usize = 22;
 
 const STATUS: &str = "\
-Status: 0 if all is sound; 1 if there is a refusal, a tail or a stop; 2 for bad
-usage, or a file that cannot be read or written; 141 if a closed pipe ended it.
+2 for bad usage, or a file that cannot be read or written; 141 if a closed pipe
+ended it.
 ";
 
 pub fn print(text: &str) -> Result<Status, Failure> {
@@ -62,12 +62,16 @@ pub fn of_all(commands: &[Command]) -> String {
 
 pub fn of_command(command: &Command) -> String {
     let Command {
-        name, usage, about, ..
+        name,
+        usage,
+        about,
+        status,
+        ..
     } = command;
     let (options, examples) = (rows(command.options), examples(command));
     format!(
         "Usage: sheafsledge {name} {usage}\n\n{about}\n\
-         Options:\n{options}\nExample:\n{examples}\n{STATUS}"
+         Options:\n{options}\nExample:\n{examples}\nStatus: {status};\n{STATUS}"
     )
 }
 

@@ -13,6 +13,7 @@ mod pairs;
 mod recording;
 mod status;
 mod terminal;
+mod r#where;
 mod words;
 
 use std::env;
@@ -23,7 +24,7 @@ use command::Command;
 use status::{Failure, Status};
 use words::Words;
 
-const COMMANDS: &[Command] = &[list::COMMAND, pairs::COMMAND];
+const COMMANDS: &[Command] = &[list::COMMAND, pairs::COMMAND, r#where::COMMAND];
 
 fn main() -> ExitCode {
     let words: Vec<OsString> = env::args_os().skip(1).collect();

@@ -4,6 +4,7 @@
 //! next one. A frame that is longer than a piece is never held whole: what its fields need of it is,
 //! and the rest is passed over.
 
+mod broken;
 #[cfg(test)]
 mod tests;
 
@@ -11,6 +12,8 @@ use std::io::{self, ErrorKind, Read};
 use std::ops::Range;
 
 use sheafsledge::{stretch, Body, Listed, Refusal, Rframe, Stop, Tag, Tframe};
+
+pub use broken::Broken;
 
 /// How much is read at once. Frames of data often hold a power of two of it and a header, so there is
 /// a little more room than such a power: else a piece would end shortly before a frame does, and most
@@ -64,6 +67,12 @@ impl Row {
     pub fn answer(&self) -> u8 {
         self.refusal.map_or(0, Refusal::number)
     }
+
+    /// Whether it is refused for a string, and so with a place.
+    #[inline]
+    pub fn breaks(&self) -> bool {
+        self.refusal.and_then(Refusal::at).is_some()
+    }
 }
 
 /// How a recording ended.
@@ -86,6 +95,7 @@ pub struct Recording<S> {
     /// Where the first of these stands in the recording.
     start: u64,
     rows: Vec<Row>,
+    broken: Vec<Broken>,
 }
 
 impl<S: Source> Recording<S> {
@@ -99,6 +109,7 @@ impl<S: Source> Recording<S> {
             left: 0..0,
             start: 0,
             rows: Vec::with_capacity(ROWS),
+            broken: Vec::new(),
         }
     }
 
@@ -107,12 +118,18 @@ impl<S: Source> Recording<S> {
         &self.rows
     }
 
+    /// Those of them with a string that breaks, in their order.
+    pub fn broken(&self) -> &[Broken] {
+        &self.broken
+    }
+
     /// Goes on to the next frames, at least one; none at the end alone, and how it ended. After that,
     /// and after an error, it is not called again.
     pub fn go_on(&mut self) -> io::Result<Option<Ended>> {
         self.rows.clear();
+        self.broken.clear();
         loop {
-            let stop = take(&self.buffer[self.left.clone()], self.start, &mut self.rows);
+            let stop = self.take();
             if let Some(last) = self.rows.last() {
                 let end = last.at + u64::from(last.size);
                 self.left.start += (end - self.start) as usize;
@@ -138,6 +155,30 @@ impl<S: Source> Recording<S> {
                 return Ok(None);
             }
         }
+    }
+
+    /// Rows for the frames that are whole in what is left, as many as there is room for. Why that
+    /// goes no further, if it doesn't. It alone calls `stretch`, so that the compiler inlines that
+    /// here.
+    fn take(&mut self) -> Option<Refusal> {
+        let piece = &self.buffer[self.left.clone()];
+        for frame in stretch(piece) {
+            let frame = match frame {
+                Ok(frame) => frame,
+                Err(Stop { refusal, .. }) => return Some(refusal),
+            };
+            let row = Row::of(self.start, &frame);
+            self.rows.push(row);
+            // So that a sound frame is asked no more than that.
+            if row.refusal.is_some() {
+                let frame = &piece[frame.at..frame.next];
+                self.broken.extend(Broken::of(row, frame));
+            }
+            if self.rows.len() == ROWS {
+                break;
+            }
+        }
+        None
     }
 
     fn to_the_front(&mut self) {
@@ -166,9 +207,13 @@ impl<S: Source> Recording<S> {
             }
             wanted = more(wanted).min(size);
         };
-        if !self.source.pass((size - wanted) as u64)? {
+        if let Some(place) = row.refusal.and_then(Refusal::at) {
+            wanted = wanted.max(broken::end(place, size));
+        }
+        if !self.fill(wanted)? || !self.source.pass((size - wanted) as u64)? {
             return Ok(false);
         }
+        self.broken.extend(Broken::of(row, &self.buffer));
         self.rows.push(row);
         self.start += size as u64;
         self.left = 0..0;
@@ -208,21 +253,6 @@ impl<S: Source> Recording<S> {
         let at = self.start;
         Ended::Stopped { at, refusal }
     }
-}
-
-/// Rows for the frames that are whole in a piece, as many as there is room for. Why the piece goes no
-/// further, if it doesn't. It alone calls `stretch`, so that the compiler inlines that here.
-fn take(piece: &[u8], start: u64, rows: &mut Vec<Row>) -> Option<Refusal> {
-    for frame in stretch(piece) {
-        match frame {
-            Ok(frame) => rows.push(Row::of(start, &frame)),
-            Err(Stop { refusal, .. }) => return Some(refusal),
-        }
-        if rows.len() == ROWS {
-            break;
-        }
-    }
-    None
 }
 
 /// The next length to be tried.

@@ -31,8 +31,10 @@ pub const SPAN_VALUES: usize = 2;
 /// What the library answers for all that it reads or writes: 0 and the place after it, or the
 /// refusal. Of a frame there is a tag too, and a type where it is accepted or stands at a position;
 /// `held` says that there is one. Values go to the front of the caller's room, as many as what is
-/// read has; after them, and where it is refused, the room is as it was. A position of a stretch
-/// that is refused stands in `place`; no other refusal has a place.
+/// read has; after them, and where it is refused, the room is as it was. Of a refusal, `place` is
+/// where a text breaks for 5, the first zero byte for 6, and the position of what is no frame in a
+/// stretch; else it is 0. Places in a text count as spans do: from the first byte that is read, or in
+/// the lent bytes.
 #[repr(C)]
 #[derive(Clone, Copy, Debug, Default, PartialEq, Eq)]
 pub struct Outcome {
@@ -44,7 +46,7 @@ pub struct Outcome {
     pub tag: u16,
     /// Whether there is a frame.
     pub held: bool,
-    /// The place after what was read or written.
+    /// The place after what was read or written, or what a refusal tells of.
     pub place: usize,
 }
 
@@ -197,13 +199,13 @@ extern "C" {
     ) -> Outcome;
     /// The frame at a position of a stretch, by its size.
     pub fn sheafsledge_frame_at(bytes: *const u8, count: usize, position: usize) -> Outcome;
-    /// Answers 3, the number of the boundary.
-    pub fn sheafsledge_boundary_3() -> u32;
+    /// Answers 4, the number of the boundary.
+    pub fn sheafsledge_boundary_4() -> u32;
 }
 
 /// Nothing links without it, whether or not it is called: a library of another boundary has it not.
 #[used]
-static BOUNDARY_IS_LINKED: unsafe extern "C" fn() -> u32 = sheafsledge_boundary_3;
+static BOUNDARY_IS_LINKED: unsafe extern "C" fn() -> u32 = sheafsledge_boundary_4;
 
 /// Holds a struct to its size, its alignment and the offset of each field, in bytes.
 macro_rules! laid_out {

@@ -1,6 +1,6 @@
 //! A frame read and written from flat values.
 
-use crate::{ended, listed, BEFORE};
+use crate::{ended, listed, refused, BEFORE};
 use sheafsledge_sys::*;
 
 fn read_t(bytes: &[u8], values: &mut [u64; T_VALUES]) -> Outcome {
@@ -33,8 +33,8 @@ fn write_r(out: &mut [u8], lent: &[u8], (k, ty, tag): Head, values: &[u64; R_VAL
 fn head(read: Outcome) -> String {
     match (read.refusal, read.held) {
         (0, _) => format!("accepted {} {} {}", read.ty, read.tag, read.place),
-        (k, true) => format!("refused {k} {}", read.tag),
-        (k, false) => format!("refused {k} -"),
+        (_, true) => format!("{} {}", refused(read), read.tag),
+        (_, false) => format!("{} -", refused(read)),
     }
 }
 

@@ -101,10 +101,10 @@ ghost use Rattle.{krate}.specs.Views.{{type{d}, layout{d}, values{d}, vi
 pub enum {d}message {{
 {holds}}}
 
-// A body that was read: the message and the position after its fields; or why it is refused.
+// A body that was read: the message and the position after its fields; or why it is refused, and where.
 pub enum {d}body {{
     Message({d}message, usize),
-    Refused(Refusal),
+    Refused(Refusal, usize),
 }}
 "
     )
@@ -120,7 +120,7 @@ fn finish(m: {d}message, end: Place) -> {d}body
 {{
     match end {{
         Place::At(n) => {d}body::Message(m, n),
-        Place::Refused(k) => {d}body::Refused(k),
+        Place::Refused(k, n) => {d}body::Refused(k, n),
     }}
 }}
 
@@ -129,7 +129,7 @@ pub fn read_{small}message(s: &[u8], ty: u8, p: Place) -> {d}body
     ensures {{ λ r. ⌜ view{d} r ≡ readBody table{d} ty (now (s .entry)) p ⌝ }}
 {{
     match ty {{
-{arms}        _ => {d}body::Refused(Refusal::UnknownType),
+{arms}        _ => {d}body::Refused(Refusal::UnknownType, 0),
     }}
 }}
 "
@@ -253,7 +253,7 @@ fn views(direction: Direction, krate: &str, cases: &[&Message]) -> String {
 -- a body seen as its number, its values and where it ends; or its refusal
 unfoldable pub view{d} : {d}body → Answer
 view{d} (B.Message m n) = accepted (type{d} m) (values{d} m) n
-view{d} (B.Refused k) = refused k
+view{d} (B.Refused k at) = refused k at
 "
     )
 }
@@ -392,12 +392,12 @@ one-message m m' e f = sym (rebuilt m) ∙ ap₂ built e f ∙ rebuilt m'
 -- the body that an answer stands for
 unfoldable pub bodyIn : Answer → {d}body
 bodyIn (accepted ty vs n) = B.Message (built ty vs) n
-bodyIn (refused k) = B.Refused k
+bodyIn (refused k at) = B.Refused k at
 
 rebodied : (r : {d}body) → bodyIn (view{d} r) ≡ r
 unfolding bodyIn view{d}
 rebodied (B.Message m n) = ap (λ (x : {d}message). B.Message x n) (rebuilt m)
-rebodied (B.Refused k) = refl
+rebodied (B.Refused k at) = refl
 
 pub one-body : (r r' : {d}body) → view{d} r ≡ view{d} r' → r ≡ r'
 one-body r r' e = sym (rebodied r) ∙ ap bodyIn e ∙ rebodied r'

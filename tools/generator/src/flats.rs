@@ -394,7 +394,7 @@ pub fn read_flat(s: &[u8], ty: u8, p: Place, values: &mut [u64; {width}]) -> Pla
     ensures {{ λ r. ⌜ FlatRead (lookup table{d} ty) (now (s .entry)) p (now (values .entry)) (now (values .exit)) r ⌝ }}
 {{
     match ty {{
-{arms}        _ => Place::Refused(Refusal::UnknownType),
+{arms}        _ => Place::Refused(Refusal::UnknownType, 0),
     }}
 }}
 "
@@ -413,7 +413,7 @@ pub fn write_flat(out: &mut [u8], p: Place, lent: &[u8], ty: u8, values: &[u64; 
 {{
     let v = *values;
     match ty {{
-{arms}        _ => Place::Refused(Refusal::UnknownType),
+{arms}        _ => Place::Refused(Refusal::UnknownType, 0),
     }}
 }}
 "

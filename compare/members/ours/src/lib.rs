@@ -103,6 +103,17 @@ pub fn write(direction: Direction, out: &mut [u8], lent: &[u8], frame: &Flat) ->
     }
 }
 
+/// A request with two strings, each in a slice of its own.
+pub fn write_two(out: &mut [u8], [first, second]: [&[u8]; 2], frame: &Flat) -> Outcome {
+    let (to, room) = (out.as_mut_ptr(), out.len());
+    let (from, count) = (first.as_ptr(), first.len());
+    let (other, other_count) = (second.as_ptr(), second.len());
+    let CrossedT { outcome, values } = frame.into();
+    let (ty, tag) = (outcome.ty, Tag(outcome.tag));
+    // SAFETY: as in writing a frame; the second string is a slice too.
+    unsafe { sheafsledge_write_two(to, room, from, count, other, other_count, ty, tag, &values) }
+}
+
 #[inline]
 pub fn frame_at(bytes: &[u8], position: usize) -> Outcome {
     // SAFETY: as in reading a frame.

@@ -9,8 +9,9 @@ use p9::show::hex;
 
 use crate::kinds::Of;
 use crate::pieces::{lent, pieces, values};
+use crate::places::Why;
 use crate::theirs::{self, Again, Theirs};
-use crate::{dirents, elements, in_rust, over, raw, rows, stretches, tables};
+use crate::{dirents, elements, in_rust, over, raw, rows, stretches, tables, two};
 
 pub enum Outcome {
     /// The same, and whether it is a frame or a refusal.
@@ -59,7 +60,7 @@ fn over_c(of: Of, bytes: &[u8], draws: &mut Draws) -> Outcome {
         }),
         Of::Data(direction) => write_anew(direction, bytes, &theirs::of_data(bytes), draws),
         Of::Entry(at) => dirents::entry(at, bytes, draws),
-        Of::Elements(direction) => elements::elements(direction, bytes),
+        Of::Elements(direction) => elements::elements(direction, bytes, draws),
         Of::Table(direction) => tables::table(direction, bytes, draws),
         Of::Stretch => stretches::stretch(bytes, draws),
         Of::Text => text(bytes),
@@ -112,7 +113,7 @@ fn read(direction: Direction, bytes: &[u8]) -> Outcome {
 
 /// The Rust answers as though there were no size.
 fn known(bytes: &[u8], ours: &Flat, theirs: &Theirs) -> Outcome {
-    let refused = theirs::refused(2);
+    let refused = theirs::refused((2, 0));
     let unlimited = theirs::sellers(Direction::R, &sized(bytes.to_vec(), u32::MAX));
     match *ours == refused.flat && *theirs == unlimited {
         true => Outcome::Known,
@@ -129,9 +130,9 @@ pub fn told(refusal: u8, place: usize) -> ours::Outcome {
     }
 }
 
-fn untouched(refusal: u8, room: usize) -> Written {
+fn untouched((refusal, place): Why, room: usize) -> Written {
     Written {
-        wrote: told(refusal, 0),
+        wrote: told(refusal, place),
         out: vec![BLANK; room],
     }
 }
@@ -190,9 +191,13 @@ fn write_anew(direction: Direction, bytes: &[u8], record: &[Value], draws: &mut 
         },
         values: values(&pieces, &places),
     };
-    in_rooms(0, bytes, draws, |out| {
+    let put = in_rooms(0, bytes, draws, |out| {
         ours::write(direction, out, &lent, &frame)
-    })
+    });
+    match two::strings(record) {
+        Some(strings) if !put.differs() => two::written(&frame, bytes, strings, draws),
+        _ => put,
+    }
 }
 
 /// What is written after so many bytes of an output, beside what the seller wrote: into
@@ -205,7 +210,7 @@ pub fn in_rooms(
     write: impl Fn(&mut [u8]) -> ours::Outcome,
 ) -> Outcome {
     let len = before + bytes.len();
-    let short = [len - 1, draws.below(len)].map(|room| untouched(11, room));
+    let short = [len - 1, draws.below(len)].map(|room| untouched((11, 0), room));
     let long = [0, 1 + draws.below(20)].map(|spare| front(before, bytes, spare));
     let outcomes = short.into_iter().chain(long);
     let outcomes = outcomes.map(|theirs| put_beside(theirs, &write));
@@ -214,7 +219,7 @@ pub fn in_rooms(
 
 /// A writing that is refused.
 pub fn refused(refusal: u8, room: usize, write: impl Fn(&mut [u8]) -> ours::Outcome) -> Outcome {
-    in_a_room(room, Err(refusal), write)
+    in_a_room(room, Err((refusal, 0)), write)
 }
 
 /// A writing into an output of that length, beside the frame that must come of it, or the refusal.
@@ -225,7 +230,7 @@ pub fn in_a_room(
 ) -> Outcome {
     let theirs = match theirs {
         Ok(bytes) => front(0, &bytes, room - bytes.len()),
-        Err(refusal) => untouched(refusal, room),
+        Err(why) => untouched(why, room),
     };
     put_beside(theirs, write)
 }

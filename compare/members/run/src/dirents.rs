@@ -6,12 +6,13 @@ use p9::draw::Draws;
 use p9::flat::Value;
 use p9::protocol::{Dirent, WireFormat};
 
-use crate::compare::{self, differs, first_difference, in_rooms, refused, Outcome};
+use crate::compare::{self, differs, first_difference, in_a_room, in_rooms, refused, Outcome};
 use crate::pieces::{lent, Piece};
+use crate::places::{self, altered, text};
 use crate::theirs::refusal;
 
 /// An entry's bytes before its name.
-const BEFORE_THE_NAME: usize = 24;
+pub const BEFORE_THE_NAME: usize = 24;
 
 /// What was refused is no entry to write, and its values are as they were.
 pub fn entry(at: usize, bytes: &[u8], draws: &mut Draws) -> Outcome {
@@ -28,7 +29,9 @@ pub fn entry(at: usize, bytes: &[u8], draws: &mut Draws) -> Outcome {
             }
         }
         Err(error) => {
-            let told = (compare::told(refusal(&error), 0), [UNWRITTEN; ENTRY_VALUES]);
+            let refusal = refusal(&error);
+            let place = places::in_an_entry(bytes, at.saturating_add(BEFORE_THE_NAME), refusal);
+            let told = (compare::told(refusal, place), [UNWRITTEN; ENTRY_VALUES]);
             match ours == told {
                 true => Outcome::Refused,
                 false => differ(ours, told),
@@ -55,7 +58,8 @@ fn flat(entry: &Dirent, name: usize) -> [u64; ENTRY_VALUES] {
     ]
 }
 
-/// From other bytes, at a place of an output; and with a span that lies outside of them.
+/// From other bytes, at a place of an output; with a span that lies outside of them; and from bytes
+/// that are altered, if they are no text then.
 fn write(entry: &Dirent, draws: &mut Draws) -> Outcome {
     let (lent, places) = lent(&[Piece::from(Value::String(entry.name.as_bytes()))], draws);
     let flat = |name| flat(entry, name);
@@ -66,8 +70,15 @@ fn write(entry: &Dirent, draws: &mut Draws) -> Outcome {
     });
     let outside = flat(lent.len() - entry.name.len() + 1);
     let out_of_them = refused(9, 64, |out| ours::write_dirent(out, 0, &lent, &outside));
+    let (start, len, altered) = (places[0], entry.name.len(), altered(&lent, draws));
+    let broken = text(&altered[start..start + len], start).err().map(|why| {
+        let values = flat(start);
+        in_a_room(64, Err(why), |out| {
+            ours::write_dirent(out, 0, &altered, &values)
+        })
+    });
     // A refusal that is the right one is still an entry that was read and written.
-    match first_difference([out_of_them, put].into_iter()) {
+    match first_difference([out_of_them, put].into_iter().chain(broken)) {
         Outcome::Refused => Outcome::Accepted,
         outcome => outcome,
     }

@@ -2,20 +2,26 @@
 
 use judge::Direction;
 use ours::{Part, Told, QID_VALUES, SPAN_VALUES, UNWRITTEN};
+use p9::draw::Draws;
 use p9::flat::Value;
 use p9::protocol::Qid;
 
 use crate::compare::{differs, told, Outcome};
+use crate::places::{altered, names};
 use crate::theirs::with_values;
 
 type Find = fn(&[u8], Part, usize) -> Told<SPAN_VALUES>;
 
 /// A frame of a walk that the seller wrote.
-pub fn elements(direction: Direction, frame: &[u8]) -> Outcome {
+pub fn elements(direction: Direction, frame: &[u8], draws: &mut Draws) -> Outcome {
     with_values(direction, frame, |record| match record.last() {
         Some(Value::Names(names)) => {
             let widths = names.iter().map(|name| 2 + name.len());
-            found(frame, ours::name_at, &widths.collect::<Vec<_>>(), 2)
+            let outcome = found(frame, ours::name_at, &widths.collect::<Vec<_>>(), 2);
+            match outcome.differs() {
+                true => outcome,
+                false => broken(frame, names.len(), draws),
+            }
         }
         Some(Value::Qids(qids)) => {
             let outcome = found(frame, ours::qid_at, &vec![13; qids.len()], 0);
@@ -60,6 +66,27 @@ fn found(frame: &[u8], find: Find, widths: &[usize], before: usize) -> Outcome {
             .into_iter()
             .map(|(part, i, theirs)| (find(frame, part, i), theirs)),
     )
+}
+
+/// Where a Twalk's names start.
+const NAMES: usize = 17;
+
+/// The same names altered: if one of them is no text then, or they do not fill the part, each of them
+/// is refused in the same way.
+fn broken(frame: &[u8], count: usize, draws: &mut Draws) -> Outcome {
+    let lent = [&frame[..NAMES], &altered(&frame[NAMES..], draws)].concat();
+    let part = Part {
+        count: count as u16,
+        start: NAMES,
+        len: lent.len() - NAMES,
+    };
+    match names(&lent[NAMES..], part.count, NAMES) {
+        Ok(()) => Outcome::Accepted,
+        Err((refusal, place)) => {
+            let owed = (told(refusal, place), [UNWRITTEN; SPAN_VALUES]);
+            all_equal((0..count).map(|i| (ours::name_at(&lent, part, i), owed)))
+        }
+    }
 }
 
 /// Refused, the lent values are as they were.

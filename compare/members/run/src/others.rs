@@ -8,6 +8,7 @@ use p9::protocol::{Dirent, P9String, Rframe, Rmessage, Tframe, Tmessage};
 use crate::frames::{of_no_type, tailed, type_in_turn, MOST_CUTS};
 use crate::kinds::{Asked, Of};
 use crate::limits::string;
+use crate::places::altered;
 
 /// The longest name comes up once in so many turns. It is odd, so that all four ways have it.
 const LONG_NAME: usize = 511;
@@ -114,14 +115,16 @@ const LEADS: [(u8, usize); 16] = [
 ];
 const TRAILS: [u8; 8] = [0x7f, 0x80, 0x8f, 0x90, 0x9f, 0xa0, 0xbf, 0xc0];
 
-/// Characters of every row, damaged or not, with such bytes after them; or bytes of any kind.
+/// Characters of every row, damaged or not, with such bytes after them; or with zero bytes; or bytes of
+/// any kind.
 pub fn text(draws: &mut Draws) -> Vec<u8> {
     let count = draws.below(40);
     let mut text = P9String::draw(draws).as_bytes().to_vec();
-    match draws.below(6) {
+    match draws.below(7) {
         0 => draws.bytes(count),
         1 if !text.is_empty() => damaged(text, draws),
         2 => text,
+        3 => [&text[..], b"\0", &altered(&text, draws)].concat(),
         _ => {
             let (lead, after) = draws.one_of(&LEADS);
             text.push(lead);

@@ -10,6 +10,7 @@ use p9::flat::Value;
 
 use crate::compare::{in_a_room, Outcome};
 use crate::limits::MOST;
+use crate::places::{names, text, Why};
 use crate::theirs::layout;
 
 /// A record's type, tag and values, the room for the frame, and the bytes that are lent.
@@ -24,10 +25,10 @@ pub fn raw(direction: Direction, bytes: &[u8]) -> Outcome {
     let Raw { frame, room, lent } = taken(bytes);
     let theirs = match frame.outcome.refusal {
         0 => written(direction, &frame, lent),
-        _ => Err(16),
+        _ => Err((16, 0)),
     };
     let theirs = theirs.and_then(|frame| match frame.len() > room {
-        true => Err(11),
+        true => Err((11, 0)),
         false => Ok(frame),
     });
     in_a_room(room, theirs, |out| {
@@ -73,8 +74,8 @@ fn taken(bytes: &[u8]) -> Raw<'_> {
     Raw { frame, room, lent }
 }
 
-fn written(direction: Direction, frame: &Flat, lent: &[u8]) -> Result<Vec<u8>, u8> {
-    let fields = layout(direction, frame.outcome.ty).ok_or(3)?;
+fn written(direction: Direction, frame: &Flat, lent: &[u8]) -> Result<Vec<u8>, Why> {
+    let fields = layout(direction, frame.outcome.ty).ok_or((3, 0))?;
     let mut values = frame.values.iter().copied();
     let mut next = || values.next().unwrap_or(0);
     let mut out = vec![0; 4];
@@ -84,25 +85,25 @@ fn written(direction: Direction, frame: &Flat, lent: &[u8]) -> Result<Vec<u8>, u
         match field {
             Value::Number(_, width) => out.extend(&next().to_le_bytes()[..*width]),
             Value::String(_) => {
-                let bytes = spanned(lent, next(), next())?;
-                string(bytes)?;
+                let (bytes, start) = spanned(lent, next(), next())?;
+                string(bytes, start)?;
                 out.extend((bytes.len() as u16).to_le_bytes());
                 out.extend(bytes);
             }
             Value::Data(_) => {
-                let bytes = spanned(lent, next(), next())?;
+                let (bytes, _) = spanned(lent, next(), next())?;
                 out.extend((bytes.len() as u32).to_le_bytes());
                 out.extend(bytes);
             }
             Value::Names(_) | Value::Qids(_) => {
                 let count = next() as u16;
                 if usize::from(count) > MOST_ELEMENTS {
-                    return Err(17);
+                    return Err((17, 0));
                 }
-                let bytes = spanned(lent, next(), next())?;
+                let (bytes, start) = spanned(lent, next(), next())?;
                 match field {
-                    Value::Names(_) => names(bytes, count)?,
-                    _ if bytes.len() != 13 * usize::from(count) => return Err(14),
+                    Value::Names(_) => names(bytes, count, start)?,
+                    _ if bytes.len() != 13 * usize::from(count) => return Err((14, 0)),
                     _ => {}
                 }
                 out.extend(count.to_le_bytes());
@@ -115,36 +116,17 @@ fn written(direction: Direction, frame: &Flat, lent: &[u8]) -> Result<Vec<u8>, u
     Ok(out)
 }
 
-fn spanned(lent: &[u8], start: u64, len: u64) -> Result<&[u8], u8> {
-    let end = start.checked_add(len).ok_or(9)?;
-    lent.get(start as usize..end as usize).ok_or(9)
+/// The bytes of a span, and where they start.
+fn spanned(lent: &[u8], start: u64, len: u64) -> Result<(&[u8], usize), Why> {
+    let end = start.checked_add(len).ok_or((9, 0))?;
+    let start = start as usize;
+    let bytes = lent.get(start..end as usize).ok_or((9, 0))?;
+    Ok((bytes, start))
 }
 
-fn string(bytes: &[u8]) -> Result<(), u8> {
+fn string(bytes: &[u8], start: usize) -> Result<(), Why> {
     match bytes.len() > MOST {
-        true => Err(7),
-        false => text(bytes),
-    }
-}
-
-fn text(bytes: &[u8]) -> Result<(), u8> {
-    match std::str::from_utf8(bytes) {
-        Err(_) => Err(5),
-        Ok(text) if text.contains('\0') => Err(6),
-        Ok(_) => Ok(()),
-    }
-}
-
-fn names(mut part: &[u8], count: u16) -> Result<(), u8> {
-    for _ in 0..count {
-        let (len, after) = part.split_first_chunk().ok_or(14)?;
-        let len = usize::from(u16::from_le_bytes(*len));
-        let (name, after) = after.split_at_checked(len).ok_or(14)?;
-        text(name)?;
-        part = after;
-    }
-    match part.is_empty() {
-        true => Ok(()),
-        false => Err(14),
+        true => Err((7, 0)),
+        false => text(bytes, start),
     }
 }

@@ -5,8 +5,9 @@ use ours::Qid;
 use p9::draw::Draws;
 use p9::flat::Value;
 
-use crate::compare::{differs, in_rooms, Outcome};
+use crate::compare::{differs, first_difference, in_a_room, in_rooms, Outcome};
 use crate::pieces::{lent, Piece};
+use crate::places::{altered, text, Why};
 use crate::theirs::{qid, with_values};
 
 /// A frame of a walk that the seller wrote, written again.
@@ -28,9 +29,26 @@ pub fn table(direction: Direction, frame: &[u8], draws: &mut Draws) -> Outcome {
 
 fn twalk(frame: &[u8], head: ours::Head, names: &[&[u8]], draws: &mut Draws) -> Outcome {
     let (lent, rows) = spans(names, draws);
-    in_rooms(0, frame, draws, |out| {
+    let put = in_rooms(0, frame, draws, |out| {
         ours::write_twalk(out, &lent, head, &rows)
-    })
+    });
+    let altered = altered(&lent, draws);
+    let broken = broken(&altered, &rows).map(|why| {
+        in_a_room(frame.len(), Err(why), |out| {
+            ours::write_twalk(out, &altered, head, &rows)
+        })
+    });
+    // A refusal that is the right one is still a walk that was written.
+    match first_difference([put].into_iter().chain(broken)) {
+        Outcome::Refused => Outcome::Accepted,
+        outcome => outcome,
+    }
+}
+
+/// Why the first name of a table that is refused is.
+pub fn broken(lent: &[u8], rows: &[[usize; 2]]) -> Option<Why> {
+    rows.iter()
+        .find_map(|[start, len]| text(&lent[*start..start + len], *start).err())
 }
 
 /// Bytes to lend that have each name somewhere, and a row for each.

@@ -13,9 +13,10 @@ use p9::protocol::{Qid, Rframe, Tframe, WireFormat};
 
 use crate::compare;
 use crate::pieces::{in_a_frame, pieces, shown, values};
+use crate::places::{self, Why};
 
-/// The frame written again, or the number of the refusal.
-pub type Again = Result<Vec<u8>, u8>;
+/// The frame written again, or the refusal.
+pub type Again = Result<Vec<u8>, Why>;
 
 #[derive(PartialEq, Eq)]
 pub struct Theirs {
@@ -37,24 +38,28 @@ pub fn read(direction: Direction, bytes: &[u8]) -> Theirs {
 
 /// 17, straight after the count. A request has a tag then, and a record that can't be written.
 fn over(direction: Direction, bytes: &[u8]) -> Theirs {
-    let theirs = refused(17);
+    let theirs = refused((17, 0));
     match direction {
         Direction::R => theirs,
         Direction::T => {
-            let (again, tag) = (Some(Err(16)), u16::from_le_bytes([bytes[5], bytes[6]]));
+            let (again, tag) = (Some(Err((16, 0))), u16::from_le_bytes([bytes[5], bytes[6]]));
             with_tag(Theirs { again, ..theirs }, tag)
         }
     }
 }
 
-/// The seller's own answer.
+/// The seller's own answer, with the place that the standard library tells for it.
 pub fn sellers(direction: Direction, bytes: &[u8]) -> Theirs {
     let mut rest = bytes;
+    let why = |error: &io::Error| {
+        let refusal = refusal(error);
+        (refusal, places::in_a_frame(direction, bytes, refusal))
+    };
     match direction {
         Direction::T => match Tframe::decode(&mut rest) {
-            Err(error) => refused(refusal(&error)),
+            Err(error) => refused(why(&error)),
             Ok(frame) => match &frame.msg {
-                Err(error) => tagged(error, &frame),
+                Err(error) => tagged(why(error), &frame),
                 Ok(msg) => {
                     let theirs = accepted(bytes, rest, &listed(msg), &frame);
                     with_tag(theirs, frame.tag)
@@ -62,7 +67,7 @@ pub fn sellers(direction: Direction, bytes: &[u8]) -> Theirs {
             },
         },
         Direction::R => match Rframe::decode(&mut rest) {
-            Err(error) => refused(refusal(&error)),
+            Err(error) => refused(why(&error)),
             Ok(frame) => {
                 let theirs = accepted(bytes, rest, &listed(&frame.msg), &frame);
                 with_tag(theirs, frame.tag)
@@ -157,8 +162,8 @@ pub fn refusal(error: &io::Error) -> u8 {
 }
 
 /// No frame, and no tag.
-pub fn refused(refusal: u8) -> Theirs {
-    let (outcome, values) = (compare::told(refusal, 0), [UNWRITTEN; R_VALUES]);
+pub fn refused((refusal, place): Why) -> Theirs {
+    let (outcome, values) = (compare::told(refusal, place), [UNWRITTEN; R_VALUES]);
     Theirs {
         flat: Flat { outcome, values },
         shown: true,
@@ -167,13 +172,13 @@ pub fn refused(refusal: u8) -> Theirs {
 }
 
 fn again(frame: &impl WireFormat) -> Again {
-    written(frame).map_err(|error| refusal(&error))
+    written(frame).map_err(|error| (refusal(&error), 0))
 }
 
-fn tagged(error: &io::Error, frame: &Tframe) -> Theirs {
+fn tagged(why: Why, frame: &Tframe) -> Theirs {
     let theirs = Theirs {
         again: Some(again(frame)),
-        ..refused(refusal(error))
+        ..refused(why)
     };
     with_tag(theirs, frame.tag)
 }

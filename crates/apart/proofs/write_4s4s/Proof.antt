@@ -2,10 +2,14 @@
 use borrow.Author.Needs.{needs}
 use mathlib.Core.List.{[]}
 use Rattle.numbers.specs.Numbers.{bytes-all}
-use Rattle.laying.specs.LayingLaws.{measure-numbers, measured-none, put-number, put-done}
-use Rattle.apart.specs.ApartLaws.{measure-first, measure-second, put-first, put-second, apart-written, apart-length}
+use Rattle.laying.specs.LayingLaws.{measure, measure-numbers, measured-none, put-number, put-done}
+use Rattle.apart.specs.SecondLaws.{first-passed, passed-on}
+use Rattle.apart.specs.ApartLaws.{measure-first, put-first, put-second, apart-written, apart-length}
 use Rattle.apart.proofs.write_4s4s.Statement.{statement}
 use Rattle.apart.proofs.write_4s4s.Tie as tie
+
+measure-second-requires : tie.Need-measure-second-requires
+measure-second-requires c κs = passed-on _ _ (c .advanced2 .ensures) (first-passed (c .before .measure .ensures))
 
 element-copy-out-put-low : tie.Need-element-copy-out-put-low
 element-copy-out-put-low c = search needs
@@ -30,7 +34,7 @@ returns c =
     let x = a .first .now in
     let y = a .second .now in
     apart-written x y (bytes-all x (λ i. k .shared-slice-known .given i .fits)) (bytes-all y (λ i. l .shared-slice-known2 .given i .fits))
-    (measure-numbers 4 [] (p1 .advanced .ensures) (measure-first x y (p2 .measure .ensures) (measure-numbers 4 [] (p3 .advanced2 .ensures) (measure-second x y (end .measure2 .ensures) measured-none))))
+    (measure-numbers 4 [] (p1 .advanced .ensures) (measure-first x y (p2 .measure .ensures) (measure-numbers 4 [] (p3 .advanced2 .ensures) (measure (end .measure-second .ensures) measured-none))))
     (start .begun .ensures)
     (put-number (q1 .put-low .ensures) (put-first x y (q2 .put .ensures) (put-number (q3 .put-low2 .ensures) (put-second x y (q4 .put2 .ensures) put-done))))
 
@@ -44,7 +48,7 @@ write-4s4s-spec =
     (λ _ _. tt)
     (λ _ _. tt)
     (λ _ _. tt)
-    (λ _ _. tt)
+    measure-second-requires
     (λ _ _. tt)
     element-copy-out-put-low
     (λ _ _. tt)

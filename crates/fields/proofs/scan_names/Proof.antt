@@ -20,7 +20,7 @@ abbrev μ-loop : tie.MeasureT-loop
 μ-loop s from count at n start len end name i₀ i = len - i
 
 abbrev Inv-names : tie.InvT-names
-Inv-names s from count at₀ n₀ at n = (at ≤ length s) × Left s at n (restAt (length s) (readMany count (drop from s)))
+Inv-names s from count at₀ n₀ at n = (at ≤ length s) × Left s at n (restAt (length s) (readMany count from (drop from s)))
 
 abbrev μ-names : tie.MeasureT-names
 μ-names s from count at₀ n₀ at n = n

@@ -4,7 +4,7 @@ use Rattle.questions.proofs.place.Statement.{statement}
 use Rattle.questions.proofs.place.Tie as tie
 
 returns : tie.Need-returns
-returns c = record { is = rw (c .before .if1 .taken) (c .refusal .ensures) }
+returns c = record { is = rw (c .before .if1 .taken) (c .refusal .ensures, refl) }
 
 returns-2 : tie.Need-returns-2
 returns-2 c = record { is = rw (c .if1 .left) refl }

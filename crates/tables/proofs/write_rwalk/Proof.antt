@@ -76,7 +76,7 @@ stayed = (stay-slice (0 ∷ []) tt (plain (λ _. u8)), (stay-none (λ _. G.the-r
 
 -- what follows the head is there, and has room
 follow-go : (p : Place) (room n : ℕ) → p ≡ rwalkPast room n → (0 < allOf n p → 9 + 13 * allOf n p ≤ room) × (allOf n p ≤ n)
-follow-go (Refused k) room n f = (λ h. absurd (lt-irrefl 0 h), zero-le)
+follow-go (Refused k at) room n f = (λ h. absurd (lt-irrefl 0 h), zero-le)
 follow-go (At e) room n f = (λ h. fitting room n (sym f) .held, le-refl n)
 
 follow : (room n : ℕ) → (0 < toFollow room n → 9 + 13 * toFollow room n ≤ room) × (toFollow room n ≤ n)

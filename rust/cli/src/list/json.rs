@@ -23,9 +23,22 @@ impl Json {
     }
 
     /// What an object begins with, and its first numbers.
-    fn open(&self, text: &mut Vec<u8>, numbers: &[(&str, u64)]) {
+    pub fn open(&self, text: &mut Vec<u8>, numbers: &[(&str, u64)]) {
         text.extend_from_slice(&self.front);
         numbers.iter().for_each(|(key, n)| number(text, key, *n));
+    }
+
+    /// What a frame's object ends with: its name, and why it is refused.
+    #[inline]
+    pub fn close(&self, text: &mut Vec<u8>, row: &Row) {
+        match message_name(row.ty) {
+            Some(name) => string(text, ",\"name\":", name),
+            None => text.extend_from_slice(b",\"name\":null"),
+        }
+        if let Some(refusal) = row.refusal {
+            string(text, ",\"sentence\":", refusal.meaning());
+        }
+        text.extend_from_slice(b"}\n");
     }
 }
 
@@ -45,14 +58,7 @@ impl Form for Json {
             Some(_) => text.extend_from_slice(b",\"tail\":null"),
             None => number(text, ",\"tail\":", row.tail as u64),
         }
-        match message_name(row.ty) {
-            Some(name) => string(text, ",\"name\":", name),
-            None => text.extend_from_slice(b",\"name\":null"),
-        }
-        if let Some(refusal) = row.refusal {
-            string(text, ",\"sentence\":", refusal.sentence());
-        }
-        text.extend_from_slice(b"}\n");
+        self.close(text, row);
     }
 
     fn end(&mut self, ended: &Ended, frames: u64, text: &mut Vec<u8>) {
@@ -61,7 +67,7 @@ impl Form for Json {
             Ended::Stopped { at, refusal } => {
                 let answer = refusal.number() as u64;
                 self.open(text, &[(",\"stop\":", at), (",\"answer\":", answer)]);
-                string(text, ",\"sentence\":", refusal.sentence());
+                string(text, ",\"sentence\":", refusal.meaning());
             }
         }
         number(text, ",\"frames\":", frames);

@@ -59,15 +59,20 @@ impl<const NAMED: bool> Lines<NAMED> {
         self.line(row, text);
         text.pop();
         if NAMED {
-            let name = message_name(row.ty).unwrap_or("?");
-            let sentence = row.refusal.map(|refusal| refusal.sentence());
-            for word in [Some(name), sentence].into_iter().flatten() {
-                text.push(b' ');
-                text.extend_from_slice(word.as_bytes());
-            }
+            name_it(row, text);
         }
         text.extend_from_slice(end.as_bytes());
         text.push(b'\n');
+    }
+}
+
+/// What the message is called, and why it is refused, after the other columns.
+pub fn name_it(row: &Row, text: &mut Vec<u8>) {
+    let name = message_name(row.ty).unwrap_or("?");
+    let sentence = row.refusal.map(|refusal| refusal.meaning());
+    for word in [Some(name), sentence].into_iter().flatten() {
+        text.push(b' ');
+        text.extend_from_slice(word.as_bytes());
     }
 }
 
@@ -119,7 +124,7 @@ impl<const NAMED: bool> Form for Lines<NAMED> {
                 push(text, refusal.number() as u64);
                 if NAMED {
                     text.push(b' ');
-                    text.extend_from_slice(refusal.sentence().as_bytes());
+                    text.extend_from_slice(refusal.meaning().as_bytes());
                 }
                 text.extend_from_slice(self.paint.end().as_bytes());
             }

@@ -12,18 +12,17 @@ use crate::command::Command;
 use crate::help;
 use crate::input::{is_standard, named, Input};
 use crate::output::Output;
-use crate::recording::{Recording, PIECE};
+use crate::recording::{Recording, Source, PIECE};
 use crate::status::{say, Failure, Status};
 use crate::terminal::{error_is_terminal, is_watched, Paint};
 use crate::words::{Opt, Words};
 
-use json::Json;
-
 pub use form::Form;
-pub use lines::Lines;
+pub use json::Json;
+pub use lines::{name_it, Lines};
 pub use summary::Summary;
 
-const NAMES: Opt = Opt {
+pub const NAMES: Opt = Opt {
     long: "names",
     short: None,
     value: None,
@@ -31,7 +30,7 @@ const NAMES: Opt = Opt {
            frame is refused, why",
 };
 
-const JSON: Opt = Opt {
+pub const JSON: Opt = Opt {
     long: "json",
     short: None,
     value: None,
@@ -63,6 +62,7 @@ that no frame has (13). A summary goes to standard error.
 ",
     options: &[NAMES, JSON, OUTPUT, help::HELP],
     examples: &["list examples/diod-session.bin"],
+    status: "0 if all is sound; 1 if there is a refusal, a tail or a stop",
     run,
 };
 
@@ -150,12 +150,8 @@ impl Listing {
                 form.begin(self.heading(file).as_deref(), self.output.text());
                 (begun, self.begun) = (true, true);
             }
-            for row in recording.rows() {
-                self.summary.row(row);
-                form.row(row, self.output.text());
-                let settled = self.output.settle();
-                settled.map_err(|error| self.output.failure(error))?;
-            }
+            self.frames(&recording, &mut form)
+                .map_err(|error| self.output.failure(error))?;
             frames += recording.rows().len() as u64;
             if let Some(ended) = ended {
                 break ended;
@@ -165,6 +161,24 @@ impl Listing {
         form.end(&ended, frames, self.output.text());
         form.summed(&mut self.summary);
         Ok(Ok(()))
+    }
+
+    /// Those that a recording has just come to.
+    fn frames(
+        &mut self,
+        recording: &Recording<impl Source>,
+        form: &mut impl Form,
+    ) -> io::Result<()> {
+        for row in recording.rows() {
+            self.summary.row(row);
+            form.row(row, self.output.text());
+            self.output.settle()?;
+        }
+        for broken in recording.broken() {
+            form.broken(broken, self.output.text());
+            self.output.settle()?;
+        }
+        Ok(())
     }
 
     /// What stands above a listing where there are several, as `head` has it.

@@ -17,6 +17,8 @@ pub struct Summary {
     stopped: [Count; 256],
     /// Strays and open requests, where they are looked for.
     pairs: Option<(u64, u64)>,
+    /// Frames with a string that breaks, where they alone are looked for.
+    broken: Option<u64>,
 }
 
 impl Summary {
@@ -28,6 +30,7 @@ impl Summary {
             refused: [(0, None); 256],
             stopped: [(0, None); 256],
             pairs: None,
+            broken: None,
         }
     }
 
@@ -52,7 +55,14 @@ impl Summary {
         self.pairs = Some((all_strays + strays, all_open + open));
     }
 
+    pub fn broken(&mut self, broken: u64) {
+        self.broken = Some(self.broken.unwrap_or_default() + broken);
+    }
+
     pub fn is_sound(&self) -> bool {
+        if let Some(broken) = self.broken {
+            return broken + sum(&self.stopped) == 0;
+        }
         let (strays, open) = self.pairs.unwrap_or_default();
         self.tails + sum(&self.refused) + sum(&self.stopped) + strays + open == 0
     }
@@ -71,11 +81,14 @@ impl Summary {
             line.push(shaded(paint, strays, "stray", Shade::Refused));
             line.push(shaded(paint, open, "open request", Shade::Refused));
         }
+        if let Some(broken) = self.broken {
+            line.push(shaded(paint, broken, "broken string", Shade::Refused));
+        }
         let mut text = line.join(", ") + "\n";
         for (what, counts) in [("refused", &self.refused), ("stopped", &self.stopped)] {
             for (times, refusal) in counts {
                 if let Some(refusal) = refusal {
-                    let (number, sentence) = (refusal.number(), refusal.sentence());
+                    let (number, sentence) = (refusal.number(), refusal.meaning());
                     text += &format!("  {times} {what} with {number}: {sentence}\n");
                 }
             }

@@ -26,6 +26,9 @@ number, or 7, an Rlerror. Bodies are not looked at.
 ",
     options: &[list::OUTPUT, help::HELP],
     examples: &["pairs examples/diod-session.bin"],
+    status: "\
+0 if all is sound; 1 if there is a refusal, a tail, a stop, a stray or
+an open request",
     run,
 };
 

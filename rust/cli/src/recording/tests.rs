@@ -64,14 +64,16 @@ impl Source for Slow<'_> {
     }
 }
 
-fn all(source: impl Source, piece: usize) -> io::Result<(Vec<Row>, Ended)> {
-    let (mut recording, mut rows) = (Recording::new(source, piece), Vec::new());
+fn all(source: impl Source, piece: usize) -> io::Result<(Vec<Row>, Vec<Broken>, Ended)> {
+    let mut recording = Recording::new(source, piece);
+    let (mut rows, mut broken) = (Vec::new(), Vec::new());
     loop {
         let ended = recording.go_on()?;
         assert_eq!(ended.is_some(), recording.rows().is_empty());
         rows.extend(recording.rows());
+        broken.extend(recording.broken());
         if let Some(ended) = ended {
-            return Ok((rows, ended));
+            return Ok((rows, broken, ended));
         }
     }
 }
@@ -93,8 +95,35 @@ fn owed(bytes: &[u8]) -> (Vec<Row>, Ended) {
 
 #[track_caller]
 fn is_as_one_stretch(bytes: &[u8], piece: usize, step: usize) {
-    let told = all(Slow::new(bytes, step), piece).expect("it can be read");
+    let (rows, broken, ended) = all(Slow::new(bytes, step), piece).expect("it can be read");
+    let told = (rows, ended);
     assert_eq!(told, owed(bytes), "pieces of {piece}, steps of {step}");
+    let broken = broken.iter().map(shown);
+    let owed = told.0.iter().filter_map(|row| breaks(row, bytes));
+    assert!(broken.eq(owed), "pieces of {piece}, steps of {step}");
+}
+
+/// A frame, the place, the bytes before it and from it on, and whether the frame has more of both.
+type Shown = (Row, u64, [Vec<u8>; 2], [bool; 2]);
+
+fn shown(broken: &Broken) -> Shown {
+    let after = [&[broken.byte()], broken.after()].concat();
+    let sides = [broken.goes_back, broken.goes_on];
+    (
+        broken.row,
+        broken.place,
+        [broken.before().to_vec(), after],
+        sides,
+    )
+}
+
+/// The same of a row, from all the bytes.
+fn breaks(row: &Row, bytes: &[u8]) -> Option<Shown> {
+    let place = row.at as usize + row.refusal?.at()?;
+    let (start, end) = (row.at as usize, row.at as usize + row.size as usize);
+    let (from, to) = (start.max(place - 8), end.min(place + 9));
+    let sides = [bytes[from..place].to_vec(), bytes[place..to].to_vec()];
+    Some((*row, place as u64, sides, [from > start, to < end]))
 }
 
 /// Xorshift.
@@ -173,10 +202,30 @@ fn pieces_end_at_every_byte() {
 fn drawn_stretches_are_listed_as_one() {
     let (frames, draws) = (frames(), &mut Draws(1));
     assert!(frames.len() >= 114, "{} frames", frames.len());
+    let mut broken = 0;
     for _ in 0..200 {
         let bytes = drawn(&frames, draws);
+        broken += owed(&bytes).0.iter().filter(|row| row.breaks()).count();
         for piece in [7, 8, 11, 23, 64, 500, 1 << 20] {
             is_as_one_stretch(&bytes, piece, 1 + draws.below(400));
+        }
+    }
+    assert!(broken > 20, "{broken} broken strings");
+}
+
+/// In a long frame the bytes after the place may be none of those that its fields need.
+#[test]
+fn a_string_may_break_at_every_byte_of_a_long_frame() {
+    let front = b"\x1f\0\0\0\x64\xff\xff\0\x20\0\0\x09\0ninebytes and a tail";
+    for place in 13..22 {
+        for byte in [0, 0xff] {
+            let mut frame = front[..31].to_vec();
+            frame[place] = byte;
+            let bytes = [&frame[..], b"\x07\0\0\0\x6d\x01\0", &frame].concat();
+            for piece in [7, 13, 21, 22, 23, 24, 30, 31, 32, 64] {
+                is_as_one_stretch(&bytes, piece, 5);
+                is_as_one_stretch(&bytes[..bytes.len() - 1], piece, 5);
+            }
         }
     }
 }
@@ -232,7 +281,7 @@ fn a_size_of_no_frame_stops_it_at_once() {
     for piece in [7, 64, 1 << 20] {
         let mut source = Slow::new(&bytes, 5);
         source.fails = Some(bytes.len());
-        let (rows, ended) = all(source, piece).expect("it is not read on");
+        let (rows, _, ended) = all(source, piece).expect("it is not read on");
         let (at, refusal) = (42, Refusal::StretchSize);
         assert_eq!((rows.len(), ended), (2, Ended::Stopped { at, refusal }));
     }
@@ -280,7 +329,7 @@ fn sparse(size: u32, ty: u8, body: &[u8], missing: u64) -> (String, u64) {
         zeros,
         read: &mut read,
     };
-    let (rows, ended) = all(source, PIECE).expect("it can be read");
+    let (rows, _, ended) = all(source, PIECE).expect("it can be read");
     let told = match (rows.as_slice(), ended) {
         ([row], Ended::Whole(_)) => format!("{} {} {}", row.size, row.answer(), row.tail),
         ([], Ended::Stopped { at, refusal }) => format!("stop {at} {}", refusal.number()),

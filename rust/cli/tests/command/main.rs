@@ -7,3 +7,4 @@ mod pairs;
 mod running;
 mod terminals;
 mod texts;
+mod r#where;

@@ -225,7 +225,7 @@ fn a_full_output_is_named() {
 
 #[test]
 fn versions_and_help_go_to_standard_output() {
-    let version = "sheafsledge 0.1.0\nlibrary of boundary 3\n";
+    let version = "sheafsledge 0.1.0\nlibrary of boundary 4\n";
     assert_eq!(run(&["--version"]), ran(0, version, ""));
     assert_eq!(run(&["-V"]), ran(0, version, ""));
     for words in [

@@ -63,6 +63,21 @@ fn tails_and_refusals_stand_out_on_a_terminal_alone() {
     assert!(!objects.contains('\x1b'), "{objects:?}");
 }
 
+#[test]
+fn of_a_broken_string_the_byte_stands_out() {
+    let folder = Folder::new();
+    let file = folder.file("a", b"\x0a\0\0\0\x17\x05\0\x01\0\xff");
+    let Some(painted) = shown(&format!("where {file}"), &[]) else {
+        return;
+    };
+    for owed in [
+        "\n0 5 9 .. 00 00 00 17 05 00 01 00 \x1b[31m[ff]\x1b[0m\nend 10 1\n",
+        ", 0 stops, \x1b[31m1 broken string\x1b[0m\n",
+    ] {
+        assert!(painted.contains(owed), "{owed:?} in {painted:?}");
+    }
+}
+
 /// A pipe that is slow, so that the line comes however fast the machine is.
 #[test]
 fn a_long_wait_has_a_line_that_is_cleared() {

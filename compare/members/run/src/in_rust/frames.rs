@@ -13,10 +13,13 @@ use sheafsledge::{
 use super::fields::Beside;
 use super::{answer, found, put, unequal, Found, Wrote};
 use crate::compare::in_a_room;
+use crate::places::in_a_frame;
 use crate::theirs::refusal;
 
 pub trait Frame<'a>: Beside<'a, Self::Theirs> {
     type Theirs: WireFormat;
+
+    const DIRECTION: Direction;
 
     fn read(bytes: &'a [u8]) -> Result<Decoded<Self>, Refusal>;
 
@@ -24,14 +27,16 @@ pub trait Frame<'a>: Beside<'a, Self::Theirs> {
 
     fn size(&self) -> Wrote;
 
-    /// The type, where there is a message.
-    fn ty(&self) -> Option<u8>;
+    /// The type where there is a message, or the refusal.
+    fn ty(&self) -> Result<u8, Refusal>;
 }
 
 macro_rules! frame {
-    ($frame:ident, $ty:expr) => {
+    ($frame:ident, $direction:ident, $ty:expr) => {
         impl<'a> Frame<'a> for $frame<'a> {
             type Theirs = seller::$frame;
+
+            const DIRECTION: Direction = Direction::$direction;
 
             fn read(bytes: &'a [u8]) -> Result<Decoded<Self>, Refusal> {
                 $frame::decode(bytes)
@@ -45,16 +50,16 @@ macro_rules! frame {
                 self.byte_size()
             }
 
-            fn ty(&self) -> Option<u8> {
-                let ty: fn(&Self) -> Option<u8> = $ty;
+            fn ty(&self) -> Result<u8, Refusal> {
+                let ty: fn(&Self) -> Result<u8, Refusal> = $ty;
                 ty(self)
             }
         }
     };
 }
 
-frame!(Tframe, |frame| frame.msg.ok().map(|msg| msg.ty()));
-frame!(Rframe, |frame| Some(frame.msg.ty()));
+frame!(Tframe, T, |frame| frame.msg.map(|msg| msg.ty()));
+frame!(Rframe, R, |frame| Ok(frame.msg.ty()));
 
 /// Of a request whose message is refused nothing counts as used.
 fn read<'a, F: Frame<'a>>(bytes: &'a [u8]) -> Found {
@@ -63,12 +68,23 @@ fn read<'a, F: Frame<'a>>(bytes: &'a [u8]) -> Found {
     let ours = F::read(bytes);
     let used = ours.as_ref().map_or(0, |ours| ours.used);
     let ours = ours.map(|ours| ours.frame);
-    ours.difference(&theirs).or_else(|| {
+    let ty = ours.as_ref().map_or_else(|refusal| Err(*refusal), F::ty);
+    let placed = ours.difference(&theirs).or_else(|| {
+        let refusal = ty.err()?;
+        placed(F::DIRECTION, bytes, refusal)
+    });
+    placed.or_else(|| {
         let (ours, theirs) = (ours.ok()?, theirs.ok()?);
-        let ty = ours.ty();
+        let ty = ty.ok();
         let all = ty.map_or(0, |_| bytes.len() - rest.len());
         unequal(&(used, ty), &(all, ty.map(|_| bytes[4]))).or_else(|| again(&ours, &theirs))
     })
+}
+
+/// Which byte it tells of, beside the standard library's.
+pub fn placed(direction: Direction, frame: &[u8], ours: Refusal) -> Found {
+    let theirs = in_a_frame(direction, frame, ours.number());
+    unequal(&ours.at().unwrap_or(0), &theirs)
 }
 
 /// Row 13 of docs/DIFFERENCES.md is known.
@@ -93,8 +109,8 @@ pub fn read_reply(bytes: &[u8]) -> Found {
 }
 
 fn again<'a, F: Frame<'a>>(ours: &F, theirs: &F::Theirs) -> Found {
-    let theirs = written(theirs).map_err(|error| refusal(&error));
-    let size = theirs.as_ref().map(Vec::len).map_err(|refusal| *refusal);
+    let theirs = written(theirs).map_err(|error| (refusal(&error), 0));
+    let size = theirs.as_ref().map(Vec::len).map_err(|why| why.0);
     let room = size.unwrap_or(0) + 3;
     found(in_a_room(room, theirs, |out| answer(ours.write(out))))
         .or_else(|| unequal(&ours.size().map_err(Refusal::number), &size))

@@ -12,10 +12,11 @@ use std::fmt::Debug;
 use judge::Direction;
 use p9::draw::Draws;
 use p9::protocol::WireFormat;
-use sheafsledge::{Refusal, Rframe, Tframe};
+use sheafsledge::{Refusal, Rframe, Text, Tframe};
 
 use crate::compare::{differs, in_rooms, told, Outcome};
 use crate::kinds::Of;
+use crate::places;
 
 const SOUND: &str = "what the seller wrote the seller reads";
 
@@ -54,10 +55,17 @@ fn their<T: WireFormat>(mut bytes: &[u8]) -> T {
     T::decode(&mut bytes).expect(SOUND)
 }
 
-/// UTF-8 alone, beside the standard library's.
+/// UTF-8 alone, beside the standard library's; and as a string that a frame can hold, with the byte
+/// where it is none.
 fn text(bytes: &[u8]) -> Found {
-    let theirs = std::str::from_utf8(bytes).is_ok();
-    unequal(&sheafsledge::is_utf8(bytes), &theirs)
+    let theirs = std::str::from_utf8(bytes);
+    unequal(&sheafsledge::is_utf8(bytes), &theirs.is_ok()).or_else(|| {
+        let owed = places::text(bytes, 0).map_err(|(refusal, place)| (refusal, Some(place)));
+        let why = |refusal: Refusal| (refusal.number(), refusal.at());
+        let from_bytes = Text::from_bytes(bytes).map(|_| ()).map_err(why);
+        let from_str = theirs.map(|text| Text::new(text).map(|_| ()).map_err(why));
+        unequal(&from_bytes, &owed).or_else(|| unequal(&from_str.unwrap_or(owed), &owed))
+    })
 }
 
 fn unequal<A: PartialEq + Debug>(ours: &A, theirs: &A) -> Found {
@@ -82,6 +90,6 @@ fn put(
 fn answer(wrote: Wrote) -> ours::Outcome {
     match wrote {
         Ok(place) => told(0, place),
-        Err(refusal) => told(refusal.number(), 0),
+        Err(refusal) => told(refusal.number(), refusal.at().unwrap_or(0)),
     }
 }

@@ -11,8 +11,11 @@ use sheafsledge::{
 };
 
 use super::fields::Beside;
-use super::{put, their, unequal, Found, SOUND};
-use crate::tables::spans;
+use super::{answer, found, put, their, unequal, Found, SOUND};
+use crate::compare::in_a_room;
+use crate::dirents::BEFORE_THE_NAME;
+use crate::places::{altered, in_an_entry};
+use crate::tables::{broken, spans};
 
 pub fn entry(at: usize, bytes: &[u8], draws: &mut Draws) -> Found {
     let data = bytes.get(at..).unwrap_or_default();
@@ -23,9 +26,16 @@ pub fn entry(at: usize, bytes: &[u8], draws: &mut Draws) -> Found {
     let after = theirs.is_ok().then(|| bytes.len() - rest.len());
     let ours = ours.map(|(entry, _)| entry);
     ours.difference(&theirs)
+        .or_else(|| placed(bytes, at, ours.err()?))
         .or_else(|| unequal(&next, &after))
         .or_else(|| entries(data))
         .or_else(|| written_at(&theirs.ok()?, draws))
+}
+
+/// Which byte of the slice a refused entry tells of.
+fn placed(bytes: &[u8], at: usize, ours: Refusal) -> Found {
+    let theirs = in_an_entry(bytes, at.saturating_add(BEFORE_THE_NAME), ours.number());
+    unequal(&ours.at().unwrap_or(0), &theirs)
 }
 
 /// Those of an Rreaddir, up to the first that is refused.
@@ -33,9 +43,12 @@ fn entries(data: &[u8]) -> Found {
     let mut ours = Rreaddir { data: Data(data) }.entries();
     let mut rest = data;
     while !rest.is_empty() {
+        let at = data.len() - rest.len();
         let theirs = seller::Dirent::decode(&mut rest);
         let found = match ours.next() {
-            Some(ours) => ours.difference(&theirs),
+            Some(ours) => ours
+                .difference(&theirs)
+                .or_else(|| placed(data, at, ours.err()?)),
             None => unequal(&"the end", &"an entry"),
         };
         if found.is_some() {
@@ -99,7 +112,13 @@ pub fn twalk(frame: &[u8], draws: &mut Draws) -> Found {
     let names: Vec<&[u8]> = theirs.wnames.iter().map(|name| name.as_bytes()).collect();
     let (lent, rows) = spans(&names, draws);
     let from_table = put(0, frame, draws, |out| write_twalk(out, &lent, head, &rows));
-    from_table.or_else(|| {
+    let altered = altered(&lent, draws);
+    let refused = || {
+        let why = broken(&altered, &rows)?;
+        let write = |out: &mut [u8]| answer(write_twalk(out, &altered, head, &rows));
+        found(in_a_room(frame.len(), Err(why), write))
+    };
+    from_table.or_else(refused).or_else(|| {
         let texts = names.iter().map(|name| std::str::from_utf8(name));
         let texts = texts.collect::<Result<Vec<_>, _>>().expect(SOUND);
         let wnames = Names::of(&texts).expect(SOUND);

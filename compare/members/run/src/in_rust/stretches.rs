@@ -7,6 +7,7 @@ use p9::protocol::{self as seller, WireFormat};
 use sheafsledge::{answers, Body, Listed, Mark, Refusal, Tag};
 
 use super::fields::Beside;
+use super::frames::placed;
 use super::{unequal, Found};
 use crate::stretches::RLERROR;
 
@@ -58,11 +59,15 @@ fn body(ours: &Listed, frame: &[u8]) -> Found {
         }
         (Body::Request(ours), 0) => {
             let theirs = seller::Tframe::decode(&mut rest).and_then(|frame| frame.msg);
-            (ours.difference(&theirs), theirs.is_ok())
+            let found = ours.difference(&theirs);
+            let placed = || placed(Direction::T, frame, ours.err()?);
+            (found.or_else(placed), theirs.is_ok())
         }
         (Body::Reply(ours), 1) => {
             let theirs = seller::Rframe::decode(&mut rest).map(|frame| frame.msg);
-            (ours.difference(&theirs), theirs.is_ok())
+            let found = ours.difference(&theirs);
+            let placed = || placed(Direction::R, frame, ours.err()?);
+            (found.or_else(placed), theirs.is_ok())
         }
         _ => (unequal(&"one direction", &"the other"), false),
     };

@@ -15,8 +15,8 @@ element-write-span c = search needs
 element-write-span-2 : tie.Need-element-write-span-2
 element-write-span-2 c = search needs
 
-add-t11 : tie.Need-add-t11
-add-t11 c =
+add-end : tie.Need-add-end
+add-end c =
     let d = c .before .before in
     let n = ends-at _ (d .e .given .1) (d .before .before .pre) in
     omega arith
@@ -31,4 +31,4 @@ returns-2 : tie.Need-returns-2
 returns-2 c = spanned-refused _ (c .before .before .e2 .given .1) (c .ended2 .ensures)
 
 pub spanned-spec : {M : Type 1} → statement M
-spanned-spec = tie.close (tie.spec enum-known-e element-write-span element-write-span-2 add-t11 (λ _ _. tt) enum-known-e-2 (λ _ _. tt) returns returns-2)
+spanned-spec = tie.close (tie.spec enum-known-e element-write-span element-write-span-2 add-end (λ _ _. tt) enum-known-e-2 (λ _ _. tt) returns returns-2)
