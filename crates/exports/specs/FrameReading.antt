@@ -1,11 +1,11 @@
--- A frame that is read flat is the definition's frame, laid flat. Shown of any direction; requests and replies are two of them.
-use Prim.Native.Nat.{ℕ}
+-- A frame or a body that is read flat is the definition's, laid flat. Shown of any direction; requests and replies are two of them.
+use Prim.Native.Nat.{ℕ, _-_}
 use native.Mathlib.Omega.{arith}
 use mathlib.Core.Path.{_≡_, refl, sym, ap, ap₂, _∙_}
 use mathlib.Core.Bool.{true}
 use mathlib.Core.List.{List}
 use mathlib.Core.Option.{Option, none, some}
-use lib.ListN.{take}
+use lib.ListN.{length, take}
 use Rattle.numbers.specs.Numbers.{Bytes}
 use Rattle.numbers.specs.declared.Refusal.{Refusal}
 use Rattle.numbers.specs.declared.Refusal.the-variants as R
@@ -15,8 +15,10 @@ use Rattle.fields.specs.Layouts.{Layout}
 use Rattle.fields.specs.Values.{Value}
 use Rattle.fields.specs.Fields.{valuesAt}
 use Rattle.layouts.specs.Tables.{Row, lookup, tableT, tableR}
-use Rattle.layouts.specs.Bodies.{accepted, refused, finishAt, bodyAt}
+use Rattle.layouts.specs.Bodies.{Answer, accepted, refused, finishAt, bodyAt}
 use Rattle.framing.specs.Frames.{Frame, headless, framed, readFrame, refusedWhole}
+use Rattle.framing.specs.Raising.{bodyPlace, since, usedSince, bodyFrom}
+use Rattle.framing.specs.RaisedLaws.{from-body}
 use Rattle.framing.specs.Headers.{HeadIs}
 use Rattle.framing.specs.HeaderLaws.{head-yes, frame-is, frame-headless}
 use Rattle.framing.specs.declared.Head.{Head}
@@ -24,7 +26,7 @@ use Rattle.framing.specs.declared.Head.the-variants as H
 use Rattle.flat.specs.Flat.{laid, rowValues, FlatRead}
 use Rattle.exports.specs.Answers.{outcomeOf, ended}
 use Rattle.exports.specs.declared.Outcome.{Outcome}
-use Rattle.exports.specs.Frames.{frameOutcome, frameLaid, FrameRead}
+use Rattle.exports.specs.Frames.{frameOutcome, frameLaid, FrameRead, answerOutcome, answerLaid, BodyRead}
 
 -- ---- a direction
 
@@ -34,9 +36,9 @@ pub record FlatDirection : Type 0 where
   pub whole : Frame → Frame
   pub fails : ℕ → Refusal → ℕ → Outcome
   pub none : (k : Refusal) (at : ℕ) → whole (headless k at) ≡ headless k at
-  pub good : (tag ty e : ℕ) (vs : List Value) → whole (framed tag (accepted ty vs e)) ≡ framed tag (accepted ty vs e)
-  pub told : (tag : ℕ) (k : Refusal) (at : ℕ) → fails tag k at ≡ frameOutcome (whole (framed tag (refused k at)))
-  pub bare : (tag : ℕ) (k : Refusal) (at : ℕ) (ns : List ℕ) → ns ≡ frameLaid (whole (framed tag (refused k at))) ns
+  pub good : (tag ty e : ℕ) (vs : List Value) → whole (framed 0 tag (accepted ty vs e)) ≡ framed 0 tag (accepted ty vs e)
+  pub told : (tag : ℕ) (k : Refusal) (at : ℕ) → fails tag k at ≡ frameOutcome (whole (framed 0 tag (refused k at)))
+  pub bare : (tag : ℕ) (k : Refusal) (at : ℕ) (ns : List ℕ) → ns ≡ frameLaid (whole (framed 0 tag (refused k at))) ns
 
 abbrev pub flatRequests : FlatDirection
 flatRequests =
@@ -93,13 +95,13 @@ module _ (d : FlatDirection) (s : List ℕ) {ns ms : List ℕ} {r : Outcome} whe
       frame-read {a} i x =
           let its : Option Layout = lookup (d .rows) ty in
           let vs : List Value = rowValues its (take n s) (At 7) in
-          read-as (d .good tag ty a vs) (ap (framed tag) (body-accepted ty its f i) ∙ frame-is (d .rows) b (head-yes s h e)) (x ∙ ap (outcomeOf ty tag true) i) (values-left its f ∙ ap (λ z. laid z vs ns) i)
+          read-as (d .good tag ty a vs) (ap (framed 0 tag) (body-accepted ty its f i) ∙ frame-is (d .rows) b (head-yes s h e)) (x ∙ ap (outcomeOf ty tag true) i) (values-left its f ∙ ap (λ z. laid z vs ns) i)
 
       pub body-failed : {k : Refusal} {at : ℕ} → q ≡ Refused k at → r ≡ d .fails tag k at → FrameRead (d .whole (readFrame (d .rows) s)) ns ms r
       body-failed {k} {at} i x =
           let its : Option Layout = lookup (d .rows) ty in
           let vs : List Value = rowValues its (take n s) (At 7) in
-          read-as refl (ap (framed tag) (body-refused ty its f i) ∙ frame-is (d .rows) b (head-yes s h e)) (x ∙ d .told tag k at) (values-left its f ∙ ap (λ z. laid z vs ns) i ∙ d .bare tag k at ns)
+          read-as refl (ap (framed 0 tag) (body-refused ty its f i) ∙ frame-is (d .rows) b (head-yes s h e)) (x ∙ d .told tag k at) (values-left its f ∙ ap (λ z. laid z vs ns) i ∙ d .bare tag k at ns)
 
 -- a request is told in one way, whether its body fails or not
 by-place : {X : Type 0} (q : Place) → ((a : ℕ) → q ≡ At a → X) → ((k : Refusal) (at : ℕ) → q ≡ Refused k at → X) → X
@@ -110,3 +112,16 @@ pub request-read : (s : List ℕ) {n ty tag : ℕ} {ns ms : List ℕ} {g : Head}
     → FrameRead (readFrame tableT s) ns ms r
 request-read s {ty = ty} {tag = tag} {q = q} h b e f x =
     by-place q (λ a i. frame-read flatRequests s h b e f i x) (λ k at i. body-failed flatRequests s h b e f i (x ∙ ap (outcomeOf ty tag true) i))
+
+-- ---- a body in a stretch
+
+module _ (rows : List Row) (ty at : ℕ) (s : List ℕ) {ns ms : List ℕ} {p q : Place} {r : Outcome} (e : p ≡ bodyPlace (length s) at) (f : FlatRead (lookup rows ty) s p ns ms q) (x : r ≡ ended (since at q)) where
+  told-as : (a : Answer) → a ≡ bodyAt (lookup rows ty) ty s p → r ≡ answerOutcome (usedSince at a) → ms ≡ answerLaid (usedSince at a) ns → BodyRead (bodyFrom rows ty s at) ns ms r
+  told-as a i o v = rw (← (from-body rows ty at s e i)) (record { is = record { answer = o; left = v } })
+
+  pub body-read : BodyRead (bodyFrom rows ty s at) ns ms r
+  body-read =
+      let its : Option Layout = lookup rows ty in
+      let vs : List Value = rowValues its s p in
+      by-place q (λ n i. told-as (accepted ty vs n) (body-accepted ty its f i) (x ∙ ap (λ z. ended (since at z)) i) (values-left its f ∙ ap (λ z. laid z vs ns) i))
+      (λ k j i. told-as (refused k j) (body-refused ty its f i) (x ∙ ap (λ z. ended (since at z)) i) (values-left its f ∙ ap (λ z. laid z vs ns) i))

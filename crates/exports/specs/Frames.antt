@@ -24,7 +24,7 @@ bodyOutcome tag (refused k at) = outcomeOf 0 tag true (Refused k at)
 
 abbrev pub frameOutcome : Frame → Outcome
 frameOutcome (headless k at) = ended (Refused k at)
-frameOutcome (framed tag a) = bodyOutcome tag a
+frameOutcome (framed p tag a) = bodyOutcome tag a
 
 -- what the lent values are afterwards: those of an accepted body at their front; refused, as they were
 abbrev pub answerLaid : Answer → List ℕ → List ℕ
@@ -33,10 +33,18 @@ answerLaid (refused k at) before = before
 
 abbrev pub frameLaid : Frame → List ℕ → List ℕ
 frameLaid (headless k at) before = before
-frameLaid (framed tag a) before = answerLaid a before
+frameLaid (framed p tag a) before = answerLaid a before
 
 pub record FrameRead (f : Frame) (before after : List ℕ) (r : Outcome) : Type 0 where
   pub is : Answered (frameOutcome f) (frameLaid f before) after r
+
+-- the body of a frame that stands in a stretch, where its tag is known already (F6.9)
+abbrev pub answerOutcome : Answer → Outcome
+answerOutcome (accepted ty vs n) = ended (At n)
+answerOutcome (refused k at) = ended (Refused k at)
+
+pub record BodyRead (a : Answer) (before after : List ℕ) (r : Outcome) : Type 0 where
+  pub is : Answered (answerOutcome a) (answerLaid a before) after r
 
 -- ---- writing
 

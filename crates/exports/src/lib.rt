@@ -1,4 +1,4 @@
-// The functions that Rust calls, but for those of a whole frame, which stand in `request_exports` and `reply_exports`. Nothing is decided in
+// The functions that Rust calls, but for those of a frame, which stand in `request_exports`, `reply_exports` and `stretch_exports`. Nothing is decided in
 // them: what the crates below answer is taken apart and laid flat, and what they take is put together.
 
 pub mod dirents;

@@ -13,8 +13,7 @@ ghost use Rattle.pairs.specs.Pairs.{rlerror, pairs};
 ghost use Rattle.exports.specs.Steps.{stopped, stepOutcome};
 
 // The frame is the bytes from the position to the place; at the end, where there is none, the place is the position. What is in it, the
-// reader of its direction says of exactly these bytes (`listed-there`): with one caller each, the readers of the bodies stand in the two
-// functions for frames and are not called.
+// reader of its direction in `stretch_exports` says, lent the bytes up to that place (`listed-there`).
 #[no_mangle]
 pub extern "C" fn sheafsledge_frame_at(bytes: &[u8], position: usize) -> Outcome
     ensures { λ r. ⌜ r ≡ stepOutcome (frameAt tableT tableR (now (bytes .entry)) position) ⌝ }

@@ -26,11 +26,11 @@ pub record Why (h : Head) (k : Refusal) : Type 0 where
   pub is : (j : Refusal) → h ≡ H.Refused j → k ≡ j
 
 unfoldable pub viewTframe : ReadTframe → Frame
-viewTframe (T.Frame f) = framed (f .tag .0) (viewT (f .msg))
+viewTframe (T.Frame f) = framed (f .at) (f .tag .0) (viewT (f .msg))
 viewTframe (T.Refused k) = headless k 0
 
 unfoldable pub viewRframe : ReadRframe → Frame
-viewRframe (R.Frame f n) = framed (f .tag .0) (accepted (typeR (f .msg)) (valuesR (f .msg)) n)
+viewRframe (R.Frame f n) = framed (f .at) (f .tag .0) (accepted (typeR (f .msg)) (valuesR (f .msg)) n)
 viewRframe (R.Refused k at) = headless k at
 
 -- a request's body written: 16 where it holds a refusal, and the output is as it was

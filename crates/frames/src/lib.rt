@@ -9,18 +9,23 @@ use replies::Rmessage;
 use requests::Tbody;
 ghost use mathlib.Core.Path.{_≡_};
 ghost use Rattle.layouts.specs.Tables.{tableT, tableR};
-ghost use Rattle.replies.specs.Views.{typeR, layoutR, valuesR};
+ghost use Rattle.replies.specs.Views.{typeR, layoutR, valuesR, viewR};
 ghost use Rattle.framing.specs.Writing.{FrameWritten};
 ghost use Rattle.framing.specs.Frames.{readFrame, refusedWhole};
+ghost use Rattle.framing.specs.Raising.{bodyFrom, readFrameAt};
+ghost use Rattle.requests.specs.Views.{viewT};
 ghost use Rattle.frames.specs.Views.{Why, viewTframe, viewRframe, TframeWritten};
 
-// A tag beside either a message, with the bytes used, or a refusal.
+// The frame's position in the bytes that it was read from, and its tag beside either a message, with the bytes used, or a refusal. Spans, parts
+// and places count from the first of those bytes, the bytes used from the frame's.
 pub struct Tframe {
+    pub at: usize,
     pub tag: Tag,
     pub msg: Tbody,
 }
 
 pub struct Rframe {
+    pub at: usize,
     pub tag: Tag,
     pub msg: Rmessage,
 }
@@ -46,40 +51,79 @@ fn why(h: Head) -> Refusal
     }
 }
 
-// A request: its tag beside its message or its refusal; or, where the header can't be read, that refusal and nothing else.
-pub fn read_tframe(s: &[u8]) -> ReadTframe
-    ensures { λ r. ⌜ viewTframe r ≡ readFrame tableT (now (s .entry)) ⌝ }
+// The body of the request that stands from `at` to the end of the bytes.
+pub fn request_at(s: &[u8], ty: u8, at: usize) -> Tbody
+    ensures { λ r. ⌜ viewT r ≡ bodyFrom tableT ty (now (s .entry)) at ⌝ }
 {
-    let head = framing::read_header(s);
+    let b = requests::read_tmessage(s, ty, framing::body_at(s, at));
+    match b {
+        Tbody::Message(m, end) => Tbody::Message(m, numbers::saturating_sub(end, at)),
+        Tbody::Refused(k, n) => Tbody::Refused(k, n),
+    }
+}
+
+// The body of the reply that stands there.
+pub fn reply_at(s: &[u8], ty: u8, at: usize) -> Rbody
+    ensures { λ r. ⌜ viewR r ≡ bodyFrom tableR ty (now (s .entry)) at ⌝ }
+{
+    let b = replies::read_rmessage(s, ty, framing::body_at(s, at));
+    match b {
+        Rbody::Message(m, end) => Rbody::Message(m, numbers::saturating_sub(end, at)),
+        Rbody::Refused(k, n) => Rbody::Refused(k, n),
+    }
+}
+
+// A request that stands at a position: its tag beside its message or its refusal; or, where the header can't be read, that refusal and nothing
+// else.
+pub fn read_tframe_at(s: &[u8], position: usize) -> ReadTframe
+    ensures { λ r. ⌜ viewTframe r ≡ readFrameAt tableT (now (s .entry)) position ⌝ }
+{
+    let at = numbers::min(position, s.len());
+    let head = framing::read_header(&s[at..]);
     let Head::Held(n, ty, tag) = head else {
         return ReadTframe::Refused(why(head));
     };
-    let msg = requests::read_tmessage(&s[..n], ty, Place::At(framing::BODY));
+    let msg = request_at(&s[..at + n], ty, at);
     let tag = Tag(tag);
-    let frame = Tframe { tag, msg };
+    let frame = Tframe { at, tag, msg };
     ReadTframe::Frame(frame)
 }
 
-// A reply: its tag and message, with the bytes used; or the refusal of its header or its body.
-pub fn read_rframe(s: &[u8]) -> ReadRframe
-    ensures { λ r. ⌜ viewRframe r ≡ refusedWhole (readFrame tableR (now (s .entry))) ⌝ }
+// A single request stands at 0.
+pub fn read_tframe(s: &[u8]) -> ReadTframe
+    ensures { λ r. ⌜ viewTframe r ≡ readFrame tableT (now (s .entry)) ⌝ }
 {
-    let head = framing::read_header(s);
+    read_tframe_at(s, 0)
+}
+
+// A reply that stands at a position: its tag and message, with the bytes used; or the refusal of its header or its body.
+pub fn read_rframe_at(s: &[u8], position: usize) -> ReadRframe
+    ensures { λ r. ⌜ viewRframe r ≡ refusedWhole (readFrameAt tableR (now (s .entry)) position) ⌝ }
+{
+    let at = numbers::min(position, s.len());
+    let head = framing::read_header(&s[at..]);
     let Head::Held(n, ty, tag) = head else {
         return ReadRframe::Refused(why(head), 0);
     };
-    let body = replies::read_rmessage(&s[..n], ty, Place::At(framing::BODY));
+    let body = reply_at(&s[..at + n], ty, at);
     match body {
         Rbody::Message(msg, used) => {
             let tag = Tag(tag);
-            let frame = Rframe { tag, msg };
+            let frame = Rframe { at, tag, msg };
             ReadRframe::Frame(frame, used)
         }
         Rbody::Refused(k, n) => ReadRframe::Refused(k, n),
     }
 }
 
-// A request written at the front of the output: 16; then its fields in order; then 10; then 11. The answer is its length.
+pub fn read_rframe(s: &[u8]) -> ReadRframe
+    ensures { λ r. ⌜ viewRframe r ≡ refusedWhole (readFrame tableR (now (s .entry))) ⌝ }
+{
+    read_rframe_at(s, 0)
+}
+
+// A request written at the front of the output: 16; then its fields in order; then 10; then 11. The answer is its length. Its spans show the
+// bytes that it was read from, where these are lent, a stretch or a frame alone; its position is not looked at.
 pub fn write_tframe(out: &mut [u8], lent: &[u8], f: Tframe) -> Place
     ensures { λ r. ⌜ TframeWritten (now (lent .entry)) f (now (out .entry)) (now (out .exit)) r ⌝ }
 {

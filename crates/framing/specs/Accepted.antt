@@ -44,7 +44,7 @@ reads-header size ty tag b z s t g e =
     (rw (reads-num 1 ty t .back (toLE 2 tag ++ b), reads-num 2 tag g .back b))
 
 pub reads-frame : (rows : List Row) (size ty tag : ℕ) (is : List Item) (y z : List ℕ) → Stands rows size ty tag is → 7 + length (itemsBytes is ++ y) ≡ size
-    → readFrame rows (headBytes size ty tag ++ (itemsBytes is ++ y) ++ z) ≡ framed tag (accepted ty (places 7 is) (7 + length (itemsBytes is)))
+    → readFrame rows (headBytes size ty tag ++ (itemsBytes is ++ y) ++ z) ≡ framed 0 tag (accepted ty (places 7 is) (7 + length (itemsBytes is)))
 unfolding readFrame
 reads-frame rows size ty tag is y z w e =
     rw (reads-header size ty tag (itemsBytes is ++ y) z (w .sized) (w .typed) (w .tagged) e, w .known, reads-fields 7 is (w .goods) .back y)
@@ -61,17 +61,26 @@ pub record Accepts (rows : List Row) (s : List ℕ) (ty tag : ℕ) (vs : List Va
   pub values : vs ≡ places 7 items
   pub uses : used ≡ 7 + length (itemsBytes items)
 
-pub frame-inv : {X : Type 0} (rows : List Row) {tag : ℕ} {a : Answer} (m : Result Header) → frameOf rows m ≡ framed tag a
+pub frame-inv : {X : Type 0} (rows : List Row) {p tag : ℕ} {a : Answer} (m : Result Header) → frameOf rows m ≡ framed p tag a
     → ((h : Header) (d : List ℕ) → m ≡ ok h d → h .tag ≡ tag → bodyOf (lookup rows (h .ty)) (h .ty) 7 d ≡ a → X) → X
 frame-inv rows (ok h d) e f = f h d refl (cc e) (cc e)
 frame-inv rows (bad k at) e f = absurd (let z : _≡_ {A = ℕ} 0 1 = cc e in omega arith)
+
+-- a single frame has position 0
+pub at-front : (rows : List Row) (s : List ℕ) {p tag : ℕ} {a : Answer} → readFrame rows s ≡ framed p tag a → p ≡ 0
+unfolding readFrame
+at-front rows s {p} {tag} {a} e = go (readHeader s) e
+  where
+    go : (m : Result Header) → frameOf rows m ≡ framed p tag a → p ≡ 0
+    go (ok h d) f = let g : 0 ≡ p = cc f in omega arith
+    go (bad k at) f = absurd (let z : _≡_ {A = ℕ} 0 1 = cc f in omega arith)
 
 items-inv : {X : Type 0} (ty a : ℕ) {ty' used : ℕ} {vs : List Value} (m : Result (List Item)) → itemsAt ty a m ≡ accepted ty' vs used
     → ((is : List Item) (r : List ℕ) → m ≡ ok is r → ty ≡ ty' → vs ≡ places a is → used ≡ a + length (itemsBytes is) → X) → X
 items-inv ty a (ok is r) e f = f is r refl (cc e) (cc e) (cc e)
 items-inv ty a (bad k at) e f = absurd (let z : _≡_ {A = ℕ} 0 1 = cc e in omega arith)
 
-body-inv : {X : Type 0} (ty a : ℕ) {ty' used : ℕ} {vs : List Value} (o : Option Layout) (d : List ℕ) → bodyOf o ty a d ≡ accepted ty' vs used
+pub body-inv : {X : Type 0} (ty a : ℕ) {ty' used : ℕ} {vs : List Value} (o : Option Layout) (d : List ℕ) → bodyOf o ty a d ≡ accepted ty' vs used
     → ((l : Layout) (is : List Item) (r : List ℕ) → o ≡ some l → readFields l a d ≡ ok is r → ty ≡ ty' → vs ≡ places a is → used ≡ a + length (itemsBytes is) → X) → X
 body-inv ty a none d e f = absurd (let z : _≡_ {A = ℕ} 0 1 = cc e in omega arith)
 body-inv ty a (some l) d e f = items-inv ty a (readFields l a d) e (λ is r e1 e2 e3 e4. f l is r refl e1 e2 e3 e4)
@@ -119,20 +128,20 @@ header-inv s {h} {d} b e =
           ∙ rw (ety, etag, eu) (simp append-assoc);
     })))
 
-pub accepts : (rows : List Row) (s : List ℕ) {ty tag used : ℕ} {vs : List Value} → Bytes s → readFrame rows s ≡ framed tag (accepted ty vs used) → Accepts rows s ty tag vs used
+pub accepts : (rows : List Row) (s : List ℕ) {p ty tag used : ℕ} {vs : List Value} → Bytes s → readFrame rows s ≡ framed p tag (accepted ty vs used) → Accepts rows s ty tag vs used
 unfolding readFrame
-accepts rows s {ty} {tag} {used} {vs} b e =
+accepts rows s {p} {ty} {tag} {used} {vs} b e =
     frame-inv rows (readHeader s) e
     (λ h d e1 e2 e3. body-inv (h .ty) 7 (lookup rows (h .ty)) d e3
     (λ l is r e4 e5 e6 e7 e8.
-    let p = header-inv s b e1 in
-    let q = took-fields l 7 d (p .bytes) e5 in
+    let y = header-inv s b e1 in
+    let q = took-fields l 7 d (y .bytes) e5 in
     record {
-      size = p .size;
+      size = y .size;
       items = is;
       left = r;
-      stands = record { sized = p .sized; typed = rw e6 at (p .typed); tagged = rw e2 at (p .tagged); goods = q .good .1; known = rw e6 at (e4 ∙ ap some (sym (q .good .0))) };
-      held = rw (← e6, ← e2, ← (q .whole)) (p .held);
+      stands = record { sized = y .sized; typed = rw e6 at (y .typed); tagged = rw e2 at (y .tagged); goods = q .good .1; known = rw e6 at (e4 ∙ ap some (sym (q .good .0))) };
+      held = rw (← e6, ← e2, ← (q .whole)) (y .held);
       values = e7;
       uses = e8;
     }))

@@ -181,7 +181,7 @@ module _ {k : Refusal} {n : ℕ} (s : R.Short ≡ k → ⊥) (d : R.DataTooLong 
         go (ok is r) f g = absurd (let z : _≡_ {A = ℕ} 0 1 = cc g in omega arith)
         go (bad j i) f g = let x : j ≡ k = cc g in let y : i ≡ n = cc g in fields-text l a xs b (f ∙ ap₂ bad x y)
 
-    frame-text : (rows : List Row) (s : List ℕ) {tag : ℕ} → Bytes s → readFrame rows s ≡ framed tag (refused k n) → Text k n 0 s
+    frame-text : (rows : List Row) (s : List ℕ) {tag : ℕ} → Bytes s → readFrame rows s ≡ framed 0 tag (refused k n) → Text k n 0 s
     unfolding readFrame
     frame-text rows s b e =
         frame-inv rows (readHeader s) e
@@ -228,10 +228,10 @@ six-in s t =
     record { start = t .off; len = t .len; lies = t .lies; breaks = six (t .off) (take (t .len) (drop (t .off) s)) [] (rw z at (t .is)) }
 
 module _ (rows : List Row) (s : List ℕ) {tag n : ℕ} (b : Bytes s) where
-  pub frame-five : readFrame rows s ≡ framed tag (refused R.NotUtf8 n) → NotUtf8In s n
+  pub frame-five : readFrame rows s ≡ framed 0 tag (refused R.NotUtf8 n) → NotUtf8In s n
   frame-five e =
       five-in s (frame-text (λ x. apart x (λ y. omega arith)) (λ x. apart x (λ y. omega arith)) (λ x. apart x (λ y. omega arith)) (λ x. apart x (λ y. omega arith)) rows s b e)
 
-  pub frame-six : readFrame rows s ≡ framed tag (refused R.ZeroByte n) → ZeroIn s n
+  pub frame-six : readFrame rows s ≡ framed 0 tag (refused R.ZeroByte n) → ZeroIn s n
   frame-six e =
       six-in s (frame-text (λ x. apart x (λ y. omega arith)) (λ x. apart x (λ y. omega arith)) (λ x. apart x (λ y. omega arith)) (λ x. apart x (λ y. omega arith)) rows s b e)

@@ -17,10 +17,11 @@ use Rattle.numbers.specs.declared.Refusal.{Refusal}
 use Rattle.numbers.specs.declared.Refusal.the-variants as R
 use Rattle.numbers.specs.declared.Place.{Place}
 use Rattle.numbers.specs.declared.Place.the-variants.{At, Refused}
-use Rattle.layouts.specs.Tables.{Row}
-use Rattle.layouts.specs.Bodies.{Answer, accepted, refused, readBody}
+use Rattle.layouts.specs.Tables.{Row, lookup}
+use Rattle.layouts.specs.Bodies.{Answer, accepted, refused, bodyOf}
 use Rattle.framing.specs.Frames.{readTypeTag, readHeader, framed, readFrame}
-use Rattle.framing.specs.HeaderLaws.{frame-is}
+use Rattle.framing.specs.Raising.{raise, bodyFrom}
+use Rattle.framing.specs.RaisedLaws.{body-there, after-header}
 use Rattle.framing.specs.Local.{sizeIn}
 use Rattle.framing.specs.Stretch.{typeIn, tagIn, tableFor, answerIn, answerOf, tailIn, frame, end, stop, listedFrame, front, frameAt}
 use Rattle.framing.specs.Headers.{Headed}
@@ -102,9 +103,20 @@ whole-header f h e = record {
       (rw (held-num 1 4 f (omega arith), held-num 2 5 f (omega arith)));
 }
 
-pub answer-is : (ts rs : List Row) (f : List ℕ) → Bytes f → 7 ≤ length f → sizeIn f ≡ length f → readBody (tableFor ts rs (typeIn f)) (typeIn f) f (At 7) ≡ answerOf ts rs f
-unfolding answerOf
-answer-is ts rs f b h e = ap answerIn (rw (take-length f) at (frame-is (tableFor ts rs (typeIn f)) b (whole-header f h e)))
+-- of a whole frame, its answer is that of its body
+answer-is : (ts rs : List Row) (f : List ℕ) → 7 ≤ length f → sizeIn f ≡ length f → bodyOf (lookup (tableFor ts rs (typeIn f)) (typeIn f)) (typeIn f) 7 (drop 7 f) ≡ answerOf ts rs f
+unfolding answerOf readFrame
+answer-is ts rs f h e = rw (whole-header f h e .reads, take-length f)
+
+-- it is read with its own tag
+pub whole-frame : (ts rs : List Row) (f : List ℕ) → 7 ≤ length f → sizeIn f ≡ length f → readFrame (tableFor ts rs (typeIn f)) f ≡ framed 0 (tagIn f) (answerOf ts rs f)
+unfolding answerOf readFrame
+whole-frame ts rs f h e = rw (whole-header f h e .reads)
+
+-- what is raised has the tail that it had
+pub tail-raised : (p n : ℕ) (a : Answer) → tailIn n (raise p a) ≡ tailIn n a
+tail-raised p n (accepted ty vs used) = refl
+tail-raised p n (refused k at) = refl
 
 pub frame-same : {a a' b b' c c' d d' t t' n n' : ℕ} {x x' : Answer} → a ≡ a' → b ≡ b' → c ≡ c' → d ≡ d' → x ≡ x' → t ≡ t' → n ≡ n' → frame a b c d x t n ≡ frame a' b' c' d' x' t' n'
 frame-same e1 e2 e3 e4 e5 e6 e7 = rw (e1, e2, e3, e4, e5, e6, e7)
@@ -135,6 +147,22 @@ length-whole {s} {p} {e = e} w =
     let h = w .held in
     let d = length-drop p s in
     length-take-le (e - p) (drop p s) (omega arith)
+
+-- its body read in place
+pub answer-there : {s : List ℕ} {p ty tag e : ℕ} (ts rs : List Row) → Bytes s → WholeAt s p ty tag e
+    → bodyFrom (tableFor ts rs ty) ty (take e s) p ≡ raise p (answerOf ts rs (between p e s))
+answer-there {s} {p} {ty} {tag} {e} ts rs b w =
+    let h = w .seven in
+    let k = w .held in
+    let z = length-whole w in
+    let l : length (take e s) ≡ e = length-take-le e s k in
+    let same : bodyOf (lookup (tableFor ts rs ty) ty) ty 7 (drop 7 (between p e s)) ≡ answerOf ts rs (between p e s)
+    = rw (w .ty) (answer-is ts rs (between p e s) (omega arith) (w .size ∙ sym z)) in
+    let n : e ≡ p + (e - p) = omega arith in
+    let a : drop (p + 7) (take e s) ≡ drop 7 (between p e s) = ap (λ m. drop (p + 7) (take m s)) n ∙ after-header p (e - p) s in
+    body-there (tableFor ts rs ty) ty (take e s) p (bytes-take e s b) (omega arith)
+    ∙ ap (λ (x : List ℕ). raise p (bodyOf (lookup (tableFor ts rs ty) ty) ty 7 x)) a
+    ∙ ap (raise p) same
 
 -- ---- the ways of a cut
 

@@ -6,7 +6,7 @@ use mathlib.Core.Bool.{Bool, true, false, cond}
 use mathlib.Core.List.{List, [], _∷_, _++_, append-assoc, append-nil}
 use mathlib.Core.Option.{none}
 use lib.ListN.{length, take, drop, length-append, length-take, length-drop, take-append-drop}
-use lib.Seq.{take-at, take-append-le, take-append-seam, drop-append-seam, take-take, length-take-le, drop-drop, drop-at}
+use lib.Seq.{take-at, take-append-le, take-append-seam, drop-append-seam, take-length, take-take, length-take-le, drop-drop, drop-at}
 use Rattle.numbers.specs.Numbers.{Bytes, fromLE, toLE, length-toLE, to-from, from-to, from-bound, bytes-toLE, bytes-take, bytes-drop, bytes-split, bytes-join}
 use Rattle.numbers.specs.Reading.{ok}
 use Rattle.numbers.specs.declared.Refusal.{Refusal}
@@ -16,6 +16,8 @@ use Rattle.fields.specs.Values.{Value}
 use Rattle.layouts.specs.Tables.{Row, lookup}
 use Rattle.layouts.specs.Bodies.{Answer, accepted, refused}
 use Rattle.framing.specs.Frames.{Frame, headless, framed, readFrame}
+use Rattle.framing.specs.Raising.{raise}
+use Rattle.framing.specs.RaisedLaws.{raise-zero}
 use Rattle.laying.specs.LayingLaws.{drop-take}
 use Rattle.framing.specs.Writing.{headBytes}
 use Rattle.framing.specs.WritingLaws.{head-length}
@@ -54,21 +56,21 @@ pub data Edited (ts rs : List Row) : List ℕ → List ℕ → Type 0 where
 -- the old listing: the old frames in order
 unfoldable pub oldLines : {ts rs : List Row} {old new : List ℕ} → ℕ → Edited ts rs old new → Listing
 oldLines p nothing = ends p
-oldLines p (grown f g ty used vs w a l e) = entry p (length f) (typeIn f) (tagIn f) (accepted ty vs used) (length f - used) (oldLines (p + length f) e)
+oldLines p (grown f g ty used vs w a l e) = entry p (length f) (typeIn f) (tagIn f) (raise p (accepted ty vs used)) (length f - used) (oldLines (p + length f) e)
 oldLines p (added f s e) = oldLines p e
 
 -- the new one: the old records in the old order, the bytes added counted as tail, and each frame put between refused with 3, with its type and tag
 unfoldable pub newLines : {ts rs : List Row} {old new : List ℕ} → ℕ → Edited ts rs old new → Listing
 newLines p nothing = ends p
 newLines p (grown f g ty used vs w a l e) =
-    entry p (length g) (typeIn f) (tagIn f) (accepted ty vs used) (length f - used + (length g - length f)) (newLines (p + length g) e)
+    entry p (length g) (typeIn f) (tagIn f) (raise p (accepted ty vs used)) (length f - used + (length g - length f)) (newLines (p + length g) e)
 newLines p (added f s e) = entry p (length f) (typeIn f) (tagIn f) (refused R.UnknownType 0) 0 (newLines (p + length f) e)
 
 -- ---- one frame
 
-answer-inv : {X : Type 0} {ty used : ℕ} {vs : List Value} (m : Frame) → answerIn m ≡ accepted ty vs used → ((tag : ℕ) → m ≡ framed tag (accepted ty vs used) → X) → X
+answer-inv : {X : Type 0} {ty used : ℕ} {vs : List Value} (m : Frame) → answerIn m ≡ accepted ty vs used → ((p tag : ℕ) → m ≡ framed p tag (accepted ty vs used) → X) → X
 answer-inv (headless k at) e f = absurd (let z : _≡_ {A = ℕ} 0 1 = cc e in omega arith)
-answer-inv (framed tag a) e f = f tag (ap (framed tag) e)
+answer-inv (framed p tag a) e f = f p tag (ap (framed p tag) e)
 
 -- type and tag stand after the size, in front of the fields
 type-held : (f : List ℕ) (u : ℕ) → 7 ≤ u → typeIn f ≡ fromLE (take 1 (drop 4 (take u f)))
@@ -98,12 +100,17 @@ module _ (ts rs : List Row) (f g : List ℕ) {ty used : ℕ} {vs : List Value} (
     pub type : typeIn g ≡ typeIn f
     pub tag : tagIn g ≡ tagIn f
     pub answer : answerOf ts rs g ≡ accepted ty vs used
+    -- byte for byte, with the same items
+    pub under : ℕ
+    pub old : Accepts (tableFor ts rs (typeIn f)) f ty under vs used
+    pub new : Accepts (tableFor ts rs (typeIn f)) g ty under vs used
+    pub items : new .items ≡ old .items
 
   pub grown-frame : Grown
   unfolding answerOf
   grown-frame =
       answer-inv (readFrame (tableFor ts rs (typeIn f)) f) a
-      (λ tag e.
+      (λ at tag e.
       let rows : List Row = tableFor ts rs (typeIn f) in
       let A = accepts rows f b e in
       let i : List ℕ = itemsBytes (A .items) in
@@ -130,6 +137,10 @@ module _ (ts rs : List Row) (f g : List ℕ) {ty used : ℕ} {vs : List Value} (
         within = omega arith;
         type = t;
         tag = v;
+        under = tag;
+        old = A;
+        new = record { size = length g; items = A .items; left = drop used g; stands = s; held = take-length g ∙ r ∙ append-nil _; values = A .values; uses = u };
+        items = refl;
         answer = rw t (ap answerIn (ap (readFrame rows) r ∙ reads-frame rows (length g) ty tag (A .items) (drop used g) [] s y) ∙ ap₂ (λ x o. accepted ty x o) (sym (A .values)) (sym u));
       })
 
@@ -142,7 +153,7 @@ module _ (ts rs : List Row) where
 
   -- a whole frame in front of anything is listed, and the listing goes on after it
   list-whole : (p : ℕ) (f b : List ℕ) → Whole f
-      → listFrom ts rs p 0 (f ++ b) ≡ entry p (length f) (typeIn f) (tagIn f) (answerOf ts rs f) (tailIn (length f) (answerOf ts rs f)) (listFrom ts rs (p + length f) 0 b)
+      → listFrom ts rs p 0 (f ++ b) ≡ entry p (length f) (typeIn f) (tagIn f) (raise p (answerOf ts rs f)) (tailIn (length f) (answerOf ts rs f)) (listFrom ts rs (p + length f) 0 b)
   list-whole p f b w =
       let h = w .seven in
       let l = length-append f b in
@@ -153,7 +164,7 @@ module _ (ts rs : List Row) where
   unfolding oldLines listFrom
   old-listed nothing p b = refl
   old-listed (grown {old = old} f g ty used vs w a l e) p b =
-      list-whole p f old w ∙ rw a (ap (entry p (length f) (typeIn f) (tagIn f) (accepted ty vs used) (length f - used)) (old-listed e (p + length f) (bytes-split f old b .1)))
+      list-whole p f old w ∙ rw a (ap (entry p (length f) (typeIn f) (tagIn f) (raise p (accepted ty vs used)) (length f - used)) (old-listed e (p + length f) (bytes-split f old b .1)))
   old-listed (added f s e) p b = old-listed e p b
 
   pub new-listed : {old new : List ℕ} (e : Edited ts rs old new) (p : ℕ) → Bytes old → Bytes new → listFrom ts rs p 0 new ≡ newLines p e
@@ -165,32 +176,10 @@ module _ (ts rs : List Row) where
       let z = l .longer in
       list-whole p g new (l .whole)
       ∙ rw (x .type, x .tag, x .answer)
-      (ap₂ (entry p (length g) (typeIn f) (tagIn f) (accepted ty vs used)) (omega arith) (new-listed e (p + length g) (bytes-split f old b .1) (bytes-split g new c .1)))
+      (ap₂ (entry p (length g) (typeIn f) (tagIn f) (raise p (accepted ty vs used))) (omega arith) (new-listed e (p + length g) (bytes-split f old b .1) (bytes-split g new c .1)))
   new-listed (added {new = new} f s e) p b c =
       list-whole p f new (s .whole)
       ∙ rw (strange-frame f s) (ap (entry p (length f) (typeIn f) (tagIn f) (refused R.UnknownType 0) 0) (new-listed e (p + length f) b (bytes-split f new c .1)))
-
--- ---- the old records in the old order
-
--- what a sound frame shows, wherever it stands and whatever its tail: its type, its tag and its values
-pub data Record : Type 0 where
-  shown : ℕ → ℕ → List Value → Record
-
-unfoldable pub recordsIn : Listing → List Record
-recordsIn (entry p n ty tag (accepted y vs used) tail l) = shown ty tag vs ∷ recordsIn l
-recordsIn (entry p n ty tag (refused k at) tail l) = recordsIn l
-recordsIn (ends p) = []
-recordsIn (stops k p) = []
-
-same-lines : {ts rs : List Row} {old new : List ℕ} (e : Edited ts rs old new) (p q : ℕ) → recordsIn (newLines q e) ≡ recordsIn (oldLines p e)
-unfolding recordsIn oldLines newLines
-same-lines nothing p q = refl
-same-lines (grown f g ty used vs w a l e) p q = ap (λ (x : List Record). shown (typeIn f) (tagIn f) vs ∷ x) (same-lines e (p + length f) (q + length g))
-same-lines (added f s e) p q = same-lines e p (q + length f)
-
-pub same-records : {ts rs : List Row} {old new : List ℕ} → Edited ts rs old new → Bytes old → Bytes new → recordsIn (listing ts rs new) ≡ recordsIn (listing ts rs old)
-unfolding listing
-same-records {ts} {rs} e b c = ap recordsIn (new-listed ts rs e 0 b c) ∙ same-lines e 0 0 ∙ ap recordsIn (sym (old-listed ts rs e 0 b))
 
 -- ---- the accident
 
@@ -199,7 +188,7 @@ fields-within : (ts rs : List Row) (f : List ℕ) {ty used : ℕ} {vs : List Val
 unfolding answerOf
 fields-within ts rs f {ty} {used} b a =
     answer-inv (readFrame (tableFor ts rs (typeIn f)) f) a
-    (λ tag e.
+    (λ at tag e.
     let rows : List Row = tableFor ts rs (typeIn f) in
     let A = accepts rows f b e in
     let n : length (take used f) ≡ 7 + length (itemsBytes (A .items))
@@ -208,8 +197,8 @@ fields-within ts rs f {ty} {used} b a =
     let u = A .uses in
     (omega arith, omega arith))
 
-once : {m n t t' p p' ty tag : ℕ} {a : Answer} → m ≡ n → t ≡ t' → p ≡ p' → entry 0 m ty tag a t (ends p) ≡ entry 0 n ty tag a t' (ends p')
-once e f g = rw (e, f, g)
+once : {m n t t' p p' ty tag : ℕ} (a : Answer) → m ≡ n → t ≡ t' → p ≡ p' → entry 0 m ty tag (raise 0 a) t (ends p) ≡ entry 0 n ty tag a t' (ends p')
+once a e f g = rw (raise-zero a, e, f, g)
 
 -- a frame with a copy of itself after its last field, inside its size
 unfoldable pub repeated : List ℕ → List ℕ
@@ -255,4 +244,4 @@ module _ (ts rs : List Row) (f : List ℕ) {ty used : ℕ} {vs : List Value} (b 
       let e : Edited ts rs (f ++ []) (repeated f ++ []) = grown f (repeated f) ty used vs w a longer-by-itself nothing in
       let l = repeated-length in
       let n = new-listed ts rs e 0 (bytes-join f [] b tt) (bytes-join (repeated f) [] repeated-bytes tt) in
-      ap (listFrom ts rs 0 0) (sym (append-nil (repeated f))) ∙ n ∙ once l (omega arith) (omega arith)
+      ap (listFrom ts rs 0 0) (sym (append-nil (repeated f))) ∙ n ∙ once (accepted ty vs used) l (omega arith) (omega arith)

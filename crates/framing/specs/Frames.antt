@@ -22,15 +22,15 @@ unfoldable pub readHeader : List ℕ → Result Header
 readHeader s =
     after (readNum 4 s) (λ size r. cond (ltb size 4) (bad R.SizeBelowFour 0) (readTypeTag (take (size - 4) r)))
 
--- the refusal with its place where the header can't be read (F4.4); else a tag beside the body's answer (F4.5)
+-- the refusal with its place where the header can't be read (F4.4); else the frame's position, and its tag beside the body's answer (F4.5)
 pub data Frame : Type 0 where
   headless : Refusal → ℕ → Frame
-  framed : ℕ → Answer → Frame
+  framed : ℕ → ℕ → Answer → Frame
 
--- the body by its type (F4.2); spans count from the frame's first byte, so the body begins at 7 (F4.16)
+-- the body by its type (F4.2). A single frame has position 0, and its spans count from its first byte, so the body begins at 7 (F4.16)
 abbrev pub frameOf : List Row → Result Header → Frame
 frameOf rows (bad k at) = headless k at
-frameOf rows (ok h d) = framed (h .tag) (bodyOf (lookup rows (h .ty)) (h .ty) 7 d)
+frameOf rows (ok h d) = framed 0 (h .tag) (bodyOf (lookup rows (h .ty)) (h .ty) 7 d)
 
 unfoldable pub readFrame : List Row → List ℕ → Frame
 readFrame rows s = frameOf rows (readHeader s)
@@ -38,5 +38,5 @@ readFrame rows s = frameOf rows (readHeader s)
 -- a failed body refuses a reply (F4.6)
 abbrev pub refusedWhole : Frame → Frame
 refusedWhole (headless k at) = headless k at
-refusedWhole (framed tag (accepted ty vs n)) = framed tag (accepted ty vs n)
-refusedWhole (framed tag (refused k at)) = headless k at
+refusedWhole (framed p tag (accepted ty vs n)) = framed p tag (accepted ty vs n)
+refusedWhole (framed p tag (refused k at)) = headless k at

@@ -124,12 +124,12 @@ module _ {s : List ℕ} {x e n : ℕ} {q : Place} (r : NumRead 4 s (At 0) x q) (
 
 -- ---- the frame
 
-pub frame-is : {s : List ℕ} {n ty tag : ℕ} (rs : List Row) → Bytes s → Headed s n ty tag → framed tag (readBody rs ty (take n s) (At 7)) ≡ readFrame rs s
+pub frame-is : {s : List ℕ} {n ty tag : ℕ} (rs : List Row) → Bytes s → Headed s n ty tag → framed 0 tag (readBody rs ty (take n s) (At 7)) ≡ readFrame rs s
 unfolding readFrame
 frame-is {s} {n} {ty} {tag} rs b h =
     let a = length-take-le n s (h .held) in
     let c = h .seven in
-    rw (h .reads) (ap (framed tag) (body-is rs ty (take n s) 7 (bytes-take n s b) (omega arith)))
+    rw (h .reads) (ap (framed 0 tag) (body-is rs ty (take n s) 7 (bytes-take n s b) (omega arith)))
 
 pub frame-headless : (s : List ℕ) {k : Refusal} (rs : List Row) → readHeader s ≡ bad k 0 → headless k 0 ≡ readFrame rs s
 unfolding readFrame

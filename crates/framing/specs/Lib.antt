@@ -1,10 +1,12 @@
 pub mod Frames
+pub mod Raising
 pub mod Writing
 pub mod Local
 pub mod Stretch
 pub mod Headers
 pub mod Cuts
 pub mod HeaderLaws
+pub mod RaisedLaws
 pub mod WritingLaws
 pub mod CutLaws
 pub mod One
@@ -16,4 +18,6 @@ pub mod Demand
 pub mod ReadBack
 pub mod Breaks
 pub mod Broken
+pub mod Positions
 pub mod Lent
+pub mod Shown

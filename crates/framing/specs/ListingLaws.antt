@@ -15,6 +15,7 @@ use Rattle.numbers.specs.declared.Refusal.the-variants as R
 use Rattle.layouts.specs.Tables.{Row}
 use Rattle.layouts.specs.Bodies.{Answer}
 use Rattle.framing.specs.Local.{sizeIn}
+use Rattle.framing.specs.Raising.{raise}
 use Rattle.framing.specs.Stretch.{typeIn, tagIn, answerOf, tailIn, Step, frame, end, stop, listedFrame, front, frameAt, Listing, entry, ends, stops, listFrom, listing}
 
 -- ---- what stands at the front
@@ -45,8 +46,8 @@ module _ (ts rs : List Row) (p : ℕ) (xs : List ℕ) where
 
 -- ---- the listing, one frame on
 
-entry-sized : {p ty tag m n : ℕ} {a : Answer} {l l' : Listing} → m ≡ n → l ≡ l' → entry p m ty tag a (tailIn m a) l ≡ entry p n ty tag a (tailIn n a) l'
-entry-sized e f = rw (e, f)
+entry-sized : {p ty tag m n : ℕ} (a : Answer) {l l' : Listing} → m ≡ n → l ≡ l' → entry p m ty tag (raise p a) (tailIn m a) l ≡ entry p n ty tag (raise p a) (tailIn n a) l'
+entry-sized a e f = rw (e, f)
 
 module _ (ts rs : List Row) where
   list-frame : (p x : ℕ) (xs : List ℕ) {at n ty tag tail next : ℕ} {a : Answer} → front ts rs p (x ∷ xs) ≡ frame at n ty tag a tail next
@@ -67,13 +68,13 @@ module _ (ts rs : List Row) where
 
   -- a frame at the front is listed, and the listing goes on after it
   pub list-next : (p n : ℕ) (xs : List ℕ) → Front xs n
-      → listFrom ts rs p 0 xs ≡ entry p n (typeIn (take n xs)) (tagIn (take n xs)) (answerOf ts rs (take n xs)) (tailIn n (answerOf ts rs (take n xs))) (listFrom ts rs (p + n) 0 (drop n xs))
+      → listFrom ts rs p 0 xs ≡ entry p n (typeIn (take n xs)) (tagIn (take n xs)) (raise p (answerOf ts rs (take n xs))) (tailIn n (answerOf ts rs (take n xs))) (listFrom ts rs (p + n) 0 (drop n xs))
   list-next p n [] f = absurd (let h = f .four in omega arith)
   list-next p zero (x ∷ xs) f = absurd (let h = f .seven in omega arith)
   list-next p (suc n) (x ∷ xs) f =
       let l : length (take (suc n) (x ∷ xs)) ≡ suc n = length-take-le (suc n) (x ∷ xs) (f .held) in
       list-frame p x xs (front-frame ts rs p (x ∷ xs) f)
-      ∙ entry-sized l
+      ∙ entry-sized (answerOf ts rs (take (suc n) (x ∷ xs))) l
       (ap (λ m. listFrom ts rs (suc p) (pred m) xs) l ∙ skip-from xs (suc p) n (let h = f .held in omega arith) ∙ ap (λ q. listFrom ts rs q 0 (drop n xs)) (omega arith))
 
 -- ---- it is what asking at each position gives
@@ -109,8 +110,23 @@ module _ (ts rs : List Row) (s : List ℕ) where
       front-case ts rs p (drop p s)
       (λ n f e.
       let z : length (take n (drop p s)) ≡ n = length-take-le n (drop p s) (f .held) in
-      rw (before-end p l, e) (list-next ts rs p n (drop p s) f ∙ entry-sized (sym z) (ap (listFrom ts rs (p + n) 0) (drop-drop n p s) ∙ ap listed (ap (λ m. p + m) (sym z)))))
+      rw (before-end p l, e) (list-next ts rs p n (drop p s) f ∙ entry-sized (answerOf ts rs (take n (drop p s))) (sym z) (ap (listFrom ts rs (p + n) 0) (drop-drop n p s) ∙ ap listed (ap (λ m. p + m) (sym z)))))
       (λ k e. rw (before-end p l, e) (stopped p (drop p s) (omega arith) e)))
+
+  -- a frame that is listed stands whole at its position
+  pub whole-at : {X : Type 0} {p at n ty tag tail next : ℕ} {a : Answer} → frameAt ts rs s p ≡ frame at n ty tag a tail next
+      → ((m : ℕ) → Front (drop p s) m → listedFrame ts rs p (take m (drop p s)) ≡ frame at n ty tag a tail next → X) → X
+  unfolding frameAt
+  whole-at {p = p} e f =
+      or-else (length s) p (λ l. absurd (none l))
+      (λ l. front-case ts rs p (drop p s) (λ m x g. f m x (sym g ∙ sym (before-end p l) ∙ e))
+      (λ k g. absurd (let u = sym g ∙ sym (before-end p l) ∙ e in let c : _≡_ {A = ℕ} 0 1 = cc u in omega arith)))
+    where
+      none : length s ≤ p → ⊥
+      none l =
+          or-else p (length s)
+          (λ m. let u = (rw (le-ltb (length s) p (omega arith), eq-eqb (length s) p (omega arith)) at e) in let c : _≡_ {A = ℕ} 0 1 = cc u in omega arith)
+          (λ m. let u = (rw (lt-ltb (length s) p m) at e) in let c : _≡_ {A = ℕ} 0 1 = cc u in omega arith)
 
   -- a step moves on by seven bytes or more (F6.8)
   pub record Moved (p n next : ℕ) : Type 0 where
@@ -119,28 +135,16 @@ module _ (ts rs : List Row) (s : List ℕ) where
     pub within : next ≤ length s
 
   pub moves-on : {p at n ty tag tail next : ℕ} {a : Answer} → frameAt ts rs s p ≡ frame at n ty tag a tail next → Moved p n next
-  unfolding frameAt
-  moves-on {p} {at} {n} {ty} {tag} {tail} {next} {a} e =
-      or-else (length s) p
-      (λ l. absurd (none l))
-      (λ l.
-      let d = length-drop p s in
-      front-case ts rs p (drop p s)
-      (λ m f g.
+  moves-on {p} {at} {n} {ty} {tag} {tail} {next} e =
+      whole-at e
+      (λ m f u.
       let z : length (take m (drop p s)) ≡ m = length-take-le m (drop p s) (f .held) in
-      let u = sym g ∙ sym (before-end p l) ∙ e in
       let x : length (take m (drop p s)) ≡ n = cc u in
       let y : p + length (take m (drop p s)) ≡ next = cc u in
+      let d = length-drop p s in
       let v = f .seven in
       let w = f .held in
       record { seven = omega arith; on = omega arith; within = omega arith })
-      (λ k g. absurd (let u = sym g ∙ sym (before-end p l) ∙ e in let c : _≡_ {A = ℕ} 0 1 = cc u in omega arith)))
-    where
-      none : length s ≤ p → ⊥
-      none l =
-          or-else p (length s)
-          (λ m. let u = (rw (le-ltb (length s) p (omega arith), eq-eqb (length s) p (omega arith)) at e) in let c : _≡_ {A = ℕ} 0 1 = cc u in omega arith)
-          (λ m. let u = (rw (lt-ltb (length s) p m) at e) in let c : _≡_ {A = ℕ} 0 1 = cc u in omega arith)
 
 -- ---- the sizes listed add up to the position where it ends (F6.8)
 

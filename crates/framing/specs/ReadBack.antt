@@ -142,7 +142,7 @@ wrote (ok is r) ty tag {n} {o} x y =
 pub record Back (rows : List Row) (fs : Layout) (ty tag : ℕ) (lent : List ℕ) (vs : List Value) (o' : List ℕ) (n : ℕ) : Type 0 where
   pub values : List Value
   pub items : List Item
-  pub reads : readFrame rows o' ≡ framed tag (accepted ty values n)
+  pub reads : readFrame rows o' ≡ framed 0 tag (accepted ty values n)
   pub left : List ℕ
   pub before : shows fs lent vs ≡ ok items left
   pub after : shows fs o' values ≡ ok items []
@@ -161,7 +161,7 @@ read-back rows {fs} {ty} {tag} {n} {lent} {o} {o'} {vs} k t g b f w =
     record {
       values = places 7 is;
       items = is;
-      reads = ap (readFrame rows) e ∙ reads-frame rows n ty tag is [] (drop n o) s (simp append-nil (omega arith)) ∙ ap (λ m. framed tag (accepted ty (places 7 is) m)) (sym u);
+      reads = ap (readFrame rows) e ∙ reads-frame rows n ty tag is [] (drop n o) s (simp append-nil (omega arith)) ∙ ap (λ m. framed 0 tag (accepted ty (places 7 is) m)) (sym u);
       left = W .left;
       before = W .shown;
       after = ap₂ (λ l (x : List ℕ). shows l x (places 7 is)) (sym (G .0)) h ∙ shows-items is (headBytes n ty tag) (drop n o) 7 (G .1) (head-length n ty tag);

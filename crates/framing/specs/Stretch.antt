@@ -10,6 +10,7 @@ use Rattle.numbers.specs.declared.Refusal.the-variants as R
 use Rattle.layouts.specs.Tables.{Row}
 use Rattle.layouts.specs.Bodies.{Answer, accepted, refused}
 use Rattle.framing.specs.Frames.{Frame, headless, framed, readFrame}
+use Rattle.framing.specs.Raising.{raise}
 use Rattle.framing.specs.Local.{sizeIn}
 
 -- ---- a whole frame
@@ -28,7 +29,7 @@ tableFor ts rs ty = cond (eqb (ty % 2) 0) ts rs
 -- what is listed as the answer, in both directions: the body's, or the header's refusal (F6.4)
 abbrev pub answerIn : Frame → Answer
 answerIn (headless k at) = refused k at
-answerIn (framed tag a) = a
+answerIn (framed p tag a) = a
 
 unfoldable pub answerOf : List Row → List Row → List ℕ → Answer
 answerOf ts rs f = answerIn (readFrame (tableFor ts rs (typeIn f)) f)
@@ -46,8 +47,9 @@ pub data Step : Type 0 where
   end : ℕ → Step
   stop : Refusal → ℕ → Step
 
+-- what is read of the frame alone, its positions counted from the stretch's first byte (F6.9)
 abbrev pub listedFrame : List Row → List Row → ℕ → List ℕ → Step
-listedFrame ts rs p f = frame p (length f) (typeIn f) (tagIn f) (answerOf ts rs f) (tailIn (length f) (answerOf ts rs f)) (p + length f)
+listedFrame ts rs p f = frame p (length f) (typeIn f) (tagIn f) (raise p (answerOf ts rs f)) (tailIn (length f) (answerOf ts rs f)) (p + length f)
 
 -- of the bytes that are left: fewer than four, or than the size, are 12; a size below seven is 13, and comes first where four are there (F6.2)
 unfoldable pub front : List Row → List Row → ℕ → List ℕ → Step

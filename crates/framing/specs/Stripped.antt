@@ -74,13 +74,13 @@ module _ (rows : List Row) (s : List ℕ) {ty tag used : ℕ} {vs : List Value} 
   }
 
   -- a stripped frame gives the same record
-  pub stripped-read : readFrame rows (resized used s) ≡ framed tag (accepted ty vs used)
+  pub stripped-read : readFrame rows (resized used s) ≡ framed 0 tag (accepted ty vs used)
   stripped-read =
       let i : List ℕ = itemsBytes (A .items) in
       let e : headBytes used ty tag ++ i ≡ headBytes used ty tag ++ (i ++ []) ++ [] = simp append-nil in
       let u = A .uses in
       ap (readFrame rows) (stripped-is ∙ e) ∙ reads-frame rows used ty tag (A .items) [] [] (stands-at used used-within) (simp append-nil (omega arith))
-      ∙ ap₂ (λ v n. framed tag (accepted ty v n)) (sym (A .values)) (sym u)
+      ∙ ap₂ (λ v n. framed 0 tag (accepted ty v n)) (sym (A .values)) (sym u)
 
   -- what the record shows of the frame's bytes
   pub shows-record : {l : Layout} → lookup rows ty ≡ some l → shows l s vs ≡ ok (A .items) []

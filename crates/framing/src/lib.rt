@@ -5,9 +5,11 @@ use numbers::Place;
 use numbers::Refusal;
 ghost use mathlib.Core.Path.{_≡_};
 ghost use Prim.Native.Nat.{min};
+ghost use lib.ListN.{length};
 ghost use Rattle.framing.specs.Writing.{HeadPut};
 ghost use Rattle.framing.specs.Headers.{TypeTag, HeadIs};
 ghost use Rattle.framing.specs.Cuts.{CutAt};
+ghost use Rattle.framing.specs.Raising.{bodyPlace, since};
 
 // Where a frame's body begins: after its size, its type and its tag.
 pub const BODY: usize = 7;
@@ -55,6 +57,26 @@ pub fn read_header(s: &[u8]) -> Head
         }
         Place::Refused(k, _) => Head::Refused(k),
     }
+}
+
+// Where the body begins of a frame that stands from `at` to the end of the bytes; 1 where they end before.
+pub fn body_at(s: &[u8], at: usize) -> Place
+    ensures { λ r. ⌜ r ≡ bodyPlace (length (now (s .entry))) at ⌝ }
+{
+    if numbers::within(at, BODY, s.len()) {
+        return Place::At(at + BODY);
+    }
+    Place::Refused(Refusal::Short, 0)
+}
+
+// How many bytes of the frame at `at` are used where its fields end: they are no position. A refusal stays as it is.
+pub fn used(at: usize, end: Place) -> Place
+    ensures { λ r. ⌜ r ≡ since at end ⌝ }
+{
+    let Place::At(n) = end else {
+        return end;
+    };
+    Place::At(numbers::saturating_sub(n, at))
 }
 
 // The header in front of a body that ends at `end`: 11 where there is no room for it, and nothing is put where the body was refused. Size

@@ -19,6 +19,7 @@ use Rattle.numbers.specs.declared.Place.{Place}
 use Rattle.numbers.specs.declared.Place.the-variants.{At, Refused}
 use Rattle.layouts.specs.Tables.{Row, tableT, tableR}
 use Rattle.layouts.specs.Bodies.{Answer, accepted, refused}
+use Rattle.framing.specs.Raising.{raise}
 use Rattle.framing.specs.Stretch.{typeIn, tagIn, tailIn, answerOf, front, stop, Listing, entry, ends, stops, listFrom, listing}
 use Rattle.framing.specs.ListingLaws.{front-case, list-next}
 use Rattle.listing.specs.Text.{figures, decimal, joined, newline, fieldPieces, answerNumber, linePieces, endWord, stopWord, lastPieces, linesFrom, report, ReportPut, HasPosition, room, Reported}
@@ -120,13 +121,13 @@ record Lines (bytes text : ℕ) : Type 0 where
 
 -- one line more
 one-more : (at size ty tag n left bytes : ℕ) (a : Answer) (l : Listing) → at < 10 ^ 5 → size < 10 ^ 5 → ty < 10 ^ 3 → tag < 10 ^ 5 → 7 ≤ size → size + left ≤ bytes
-    → Lines left (length (joined (linesFrom (suc n) l))) → Lines bytes (length (joined (linesFrom n (entry at size ty tag a (tailIn size a) l))))
+    → Lines left (length (joined (linesFrom (suc n) l))) → Lines bytes (length (joined (linesFrom n (entry at size ty tag (raise at a) (tailIn size a) l))))
 unfolding linesFrom
 one-more at size ty tag n left bytes a l h1 h2 h3 h4 h5 h6 i =
-    let e = answer-most a in
+    let e = answer-most (raise at a) in
     let f = tail-within size a in
     let g = line-most h1 h2 h3 h4 e (let z : tailIn size a < 10 ^ 5 = omega arith in z) in
-    let j = joined-append (linePieces at size ty tag (answerNumber a) (tailIn size a)) (linesFrom (suc n) l) in
+    let j = joined-append (linePieces at size ty tag (answerNumber (raise at a)) (tailIn size a)) (linesFrom (suc n) l) in
     let s = i .seven in
     let m = i .most in
     record { frames = suc (i .frames); seven = omega arith; most = omega arith }

@@ -22,10 +22,11 @@ use Rattle.framing.specs.WritingLaws.{head-length}
 use Rattle.framing.specs.Local.{sizeIn, local}
 use Rattle.framing.specs.Stretch.{typeIn, tagIn, answerIn, answerOf, Step, frame, end, stop, frameAt, Listing, entry, ends, stops, listing}
 use Rattle.framing.specs.ListingLaws.{goesOn, listed, list-step, moves-on}
-use Rattle.framing.specs.Accepted.{Accepts, accepts}
+use Rattle.framing.specs.Accepted.{at-front, Accepts, accepts}
 use Rattle.framing.specs.ReadBack.{Readable, Back, read-back}
 use Rattle.framing.specs.Stripped.{resized, stripped-is, stripped-read, stripped-written, cutAt, cut-short}
-use Rattle.framing.specs.Demand.{Whole, Edited, oldLines, newLines, old-listed, new-listed, recordsIn, same-records, repeated, accident}
+use Rattle.framing.specs.Demand.{Whole, Edited, oldLines, newLines, old-listed, new-listed, repeated, accident}
+use Rattle.framing.specs.Shown.{recordsIn, same-records}
 
 -- ---- `frame_at`, asked at a position and then at each next one
 
@@ -52,12 +53,12 @@ module _ (rowsT rowsR : List Row) where
   lists s a = lists-from s (omega arith) a
 
   -- 1. lengthened and inserted
-  pub lists-edited : {old new : List ℕ} {L N : Listing} (e : Edited rowsT rowsR old new) → Bytes old → Bytes new → Lists old 0 L → Lists new 0 N → (L ≡ oldLines 0 e) × (N ≡ newLines 0 e) × (recordsIn N ≡ recordsIn L)
+  pub lists-edited : {old new : List ℕ} {L N : Listing} (e : Edited rowsT rowsR old new) → Bytes old → Bytes new → Lists old 0 L → Lists new 0 N → (L ≡ oldLines 0 e) × (N ≡ newLines 0 e) × (recordsIn rowsT rowsR new N ≡ recordsIn rowsT rowsR old L)
   unfolding listing
   lists-edited {old} {new} e b c x y =
       let l = lists old x in
       let n = lists new y in
-      (l ∙ old-listed rowsT rowsR e 0 b, n ∙ new-listed rowsT rowsR e 0 b c, ap recordsIn n ∙ same-records e b c ∙ ap recordsIn (sym l))
+      (l ∙ old-listed rowsT rowsR e 0 b, n ∙ new-listed rowsT rowsR e 0 b c, ap (recordsIn rowsT rowsR new) n ∙ same-records rowsT rowsR e b c ∙ ap (recordsIn rowsT rowsR old) (sym l))
 
   -- 6. a frame with a copy of itself after its last field, inside its size, is listed as one, and the copy is its tail
   pub lists-once : (f : List ℕ) {ty used : ℕ} {vs : List Value} {L : Listing} → Bytes f → Whole f → length f + length f < 256 ^ 4 → answerOf rowsT rowsR f ≡ accepted ty vs used → Lists (repeated f) 0 L
@@ -94,7 +95,7 @@ pub record Direction : Type 1 where
   pub view : Read → Frame
   pub one : (r r' : Read) → view r ≡ view r' → r ≡ r'
   pub whole : Frame → Frame
-  pub good : (x : Frame) (tag ty n : ℕ) (vs : List Value) → whole x ≡ framed tag (accepted ty vs n) → x ≡ framed tag (accepted ty vs n)
+  pub good : (x : Frame) (p tag ty n : ℕ) (vs : List Value) → whole x ≡ framed p tag (accepted ty vs n) → x ≡ framed p tag (accepted ty vs n)
   pub same : (x : Frame) → answerIn (whole x) ≡ answerIn x
 
 module _ (d : Direction) where
@@ -102,16 +103,16 @@ module _ (d : Direction) where
   abbrev pub Reads : List ℕ → d .Read → Type 0
   Reads s r = d .view r ≡ d .whole (readFrame (d .rows) s)
 
-  module _ (s : List ℕ) (f : d .Read) (m : d .Message) (tag used : ℕ) (b : Bytes s) (v : d .view f ≡ framed tag (accepted (d .type m) (d .values m) used)) (c : Reads s f) where
-    got : readFrame (d .rows) s ≡ framed tag (accepted (d .type m) (d .values m) used)
-    got = d .good (readFrame (d .rows) s) tag (d .type m) used (d .values m) (sym c ∙ v)
+  module _ (s : List ℕ) (f : d .Read) (m : d .Message) (p tag used : ℕ) (b : Bytes s) (v : d .view f ≡ framed p tag (accepted (d .type m) (d .values m) used)) (c : Reads s f) where
+    got : readFrame (d .rows) s ≡ framed p tag (accepted (d .type m) (d .values m) used)
+    got = d .good (readFrame (d .rows) s) p tag (d .type m) used (d .values m) (sym c ∙ v)
 
     abbrev is : Accepts (d .rows) s (d .type m) tag (d .values m) used
     is = accepts (d .rows) s b got
 
     -- 2. stripped: the same frame is read
     pub stripped : (r : d .Read) → Reads (resized used s) r → r ≡ f
-    stripped r e = d .one r f (e ∙ ap (d .whole) (stripped-read (d .rows) s is ∙ sym got) ∙ sym c)
+    stripped r e = d .one r f (e ∙ ap (d .whole) (stripped-read (d .rows) s is ∙ ap (λ x. framed x tag (accepted (d .type m) (d .values m) used)) (sym (at-front (d .rows) s got)) ∙ sym got) ∙ sym c)
 
     -- and writing it, given room, gives those bytes
     pub written : {o o' : List ℕ} {q : Place} → used ≤ length o → FrameWritten (d .layout m) (d .type m) tag s (d .values m) o o' q → (o' ≡ over o 0 (resized used s)) × (q ≡ At used)

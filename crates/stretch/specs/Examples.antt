@@ -1,12 +1,14 @@
--- F8.9: an example of a listing, B, C, K and J of F10 joined, computed from the definition.
+-- F8.9: examples of a listing, B, C, K and J of F10 joined, and of its positions, computed from the definition.
 use Prim.Native.Nat.{ℕ}
 use mathlib.Core.Path.{_≡_, refl}
 use mathlib.Core.List.{List, [], _∷_}
 use Rattle.numbers.specs.Numbers.{fromLE, toLE}
 use Rattle.numbers.specs.Reading.{raw, readNum}
 use Rattle.numbers.specs.declared.Refusal.the-variants as R
-use Rattle.fields.specs.Layouts.{readField, readFields, itemBytes, itemsBytes}
-use Rattle.fields.specs.Values.{val, places}
+use Rattle.utf8.specs.Utf8.{char, chars, utf8, sound, soundStart, noZero, zeroAt}
+use Rattle.strings.specs.Strings.{readString, stringBytes}
+use Rattle.fields.specs.Layouts.{readMany, readField, readFields, manyBytes, itemBytes, itemsBytes}
+use Rattle.fields.specs.Values.{val, span, part, places}
 use Rattle.layouts.specs.Tables.{tableT, tableR}
 use Rattle.layouts.specs.Bodies.{accepted, refused}
 use Rattle.framing.specs.Frames.{readTypeTag, readHeader, readFrame}
@@ -19,3 +21,16 @@ pub b-c-k-j :
     (entry 9 7 109 1 (accepted 109 [] 7) 0 (entry 16 11 108 1 (accepted 108 (val 2 ∷ []) 9) 2 (entry 27 7 106 5 (refused R.UnknownType 0) 0 (ends 34))))
 unfolding fromLE toLE raw readNum readField readFields itemBytes itemsBytes places readTypeTag readHeader readFrame answerOf front listFrom listing
 b-c-k-j = refl
+
+-- positions from the first byte of the stretch (F6.9): B, E, A, F and L of F10 joined. The part of E, the span of A, the empty part of F and the
+-- place of L are raised by where their frames stand; numbers, bytes used and tails are not
+pub b-e-a-f-l :
+    listing tableT tableR
+    (9 ∷ 0 ∷ 0 ∷ 0 ∷ 108 ∷ 1 ∷ 0 ∷ 2 ∷ 0 ∷ 24 ∷ 0 ∷ 0 ∷ 0 ∷ 110 ∷ 3 ∷ 0 ∷ 1 ∷ 0 ∷ 0 ∷ 0 ∷ 2 ∷ 0 ∷ 0 ∷ 0 ∷ 2 ∷ 0 ∷ 1 ∷ 0 ∷ 97 ∷ 2 ∷ 0 ∷ 98 ∷ 99 ∷ 21 ∷ 0 ∷ 0 ∷ 0 ∷ 100 ∷ 255 ∷ 255 ∷ 0 ∷ 32 ∷ 0 ∷ 0 ∷ 8 ∷ 0 ∷ 57 ∷ 80
+    ∷ 50 ∷ 48 ∷ 48 ∷ 48 ∷ 46 ∷ 76 ∷ 9 ∷ 0 ∷ 0 ∷ 0 ∷ 111 ∷ 3 ∷ 0 ∷ 0 ∷ 0 ∷ 15 ∷ 0 ∷ 0 ∷ 0 ∷ 100 ∷ 255 ∷ 255 ∷ 0 ∷ 32 ∷ 0 ∷ 0 ∷ 2 ∷ 0 ∷ 192 ∷ 128 ∷ [])
+    ≡ entry 0 9 108 1 (accepted 108 (val 2 ∷ []) 9) 0
+    (entry 9 24 110 3 (accepted 110 (val 1 ∷ val 2 ∷ part 2 26 7 ∷ []) 24) 0
+    (entry 33 21 100 65535 (accepted 100 (val 8192 ∷ span 46 8 ∷ []) 21) 0
+    (entry 54 9 111 3 (accepted 111 (part 0 63 0 ∷ []) 9) 0 (entry 63 15 100 65535 (refused R.NotUtf8 76) 0 (ends 78)))))
+unfolding fromLE toLE raw readNum char chars utf8 sound soundStart noZero zeroAt readString stringBytes readMany readField readFields manyBytes itemBytes itemsBytes places readTypeTag readHeader readFrame answerOf front listFrom listing
+b-e-a-f-l = refl

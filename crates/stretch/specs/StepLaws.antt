@@ -1,18 +1,18 @@
 -- What each way of asking at a position answers, over plain variables.
 use Prim.Native.Nat.{ℕ, _-_, _%_}
 use native.Mathlib.Omega.{arith}
-use mathlib.Core.Path.{_≡_, sym, ap, _∙_}
+use mathlib.Core.Path.{_≡_, ap₂, _∙_}
 use mathlib.Core.List.{List}
-use lib.ListN.{length, drop}
+use lib.ListN.{length, take}
+use lib.Seq.{length-take-le}
 use borrow.Author.Tests.{ne-eqb, eq-eqb}
-use Rattle.numbers.specs.Numbers.{Bytes, bytes-take, bytes-drop}
+use Rattle.numbers.specs.Numbers.{Bytes}
 use Rattle.numbers.specs.declared.Refusal.{Refusal}
-use Rattle.numbers.specs.declared.Place.the-variants.{At}
 use Rattle.layouts.specs.Tables.{tableT, tableR}
-use Rattle.layouts.specs.Bodies.{readBody}
-use Rattle.framing.specs.Stretch.{typeIn, tagIn, answerOf, tailIn, end, stop, frameAt}
+use Rattle.framing.specs.Raising.{raise, bodyFrom}
+use Rattle.framing.specs.Stretch.{answerOf, tailIn, end, stop, frameAt}
 use Rattle.framing.specs.Cuts.{between, WholeAt}
-use Rattle.framing.specs.CutLaws.{answer-is, frame-same, length-whole}
+use Rattle.framing.specs.CutLaws.{answer-there, tail-raised, frame-same, length-whole}
 use Rattle.stretch.specs.Views.{viewBody, BodyOf, Leaves, ListedAs, viewStep, Asked}
 use Rattle.requests.specs.Views.{viewT}
 use Rattle.requests.specs.declared.Tmessage.{Tmessage}
@@ -27,28 +27,28 @@ use Rattle.stretch.specs.declared.Body.the-variants as B
 use Rattle.stretch.specs.declared.Listed.{Listed}
 use Rattle.stretch.specs.declared.Step.the-variants as S
 
-pub at-frame : {s : List ℕ} {p ty tag e : ℕ} (l : Listed) → Bytes s → WholeAt s p ty tag e → ListedAs (between p e s) ty tag p e l → Asked s p (S.Frame l)
+pub at-frame : {s : List ℕ} {p ty tag e : ℕ} (l : Listed) → Bytes s → WholeAt s p ty tag e → ListedAs (take e s) ty tag p l → Asked s p (S.Frame l)
 unfolding viewStep
 at-frame {s} {p} {ty} {tag} {e} l b w k =
     let f : List ℕ = between p e s in
     let h = w .seven in
     let z : length f ≡ e - p = length-whole w in
-    let ety : l .ty ≡ typeIn f = k .ty ∙ w .ty in
-    let etag : l .tag .0 ≡ tagIn f = k .tag ∙ w .tag in
-    let ea : viewBody (l .body) ≡ answerOf tableT tableR f =
-    (rw ety at (k .body)) ∙ answer-is tableT tableR f (bytes-take (e - p) (drop p s) (bytes-drop p s b)) (omega arith) (w .size ∙ sym z) in
+    let n : length (take e s) ≡ e = length-take-le e s (w .held) in
+    let size : l .size ≡ length f = k .size ∙ (omega arith) in
+    let ea : viewBody (l .body) ≡ raise p (answerOf tableT tableR f) = (rw (k .ty) at (k .body)) ∙ answer-there tableT tableR b w in
+    let tail : l .tail ≡ tailIn (length f) (answerOf tableT tableR f) = k .tail ∙ ap₂ tailIn size ea ∙ tail-raised p (length f) (answerOf tableT tableR f) in
     record {
-      is = frame-same (k .at) (k .size) ety etag ea (k .tail ∙ ap (tailIn (length f)) ea) (k .next ∙ (let y = z in omega arith)) ∙ w .is tableT tableR;
+      is = frame-same (k .at) size (k .ty ∙ w .ty) (k .tag ∙ w .tag) ea tail (k .next ∙ (let y = z in omega arith)) ∙ w .is tableT tableR;
       way = k .way;
     }
 
 -- ---- bodies
 
-pub request-body : {f : List ℕ} {ty : ℕ} (b : Tbody) → ty % 2 ≡ 0 → viewT b ≡ readBody tableT ty f (At 7) → BodyOf f ty (B.Request b)
+pub request-body : {s : List ℕ} {ty p : ℕ} (b : Tbody) → ty % 2 ≡ 0 → viewT b ≡ bodyFrom tableT ty s p → BodyOf s ty p (B.Request b)
 unfolding viewBody
 request-body {ty = ty} b e h = record { is = rw (eq-eqb (ty % 2) 0 e) h; way = e }
 
-pub reply-body : {f : List ℕ} {ty : ℕ} (b : Rbody) → (ty % 2 ≡ 0 → ⊥) → viewR b ≡ readBody tableR ty f (At 7) → BodyOf f ty (B.Reply b)
+pub reply-body : {s : List ℕ} {ty p : ℕ} (b : Rbody) → (ty % 2 ≡ 0 → ⊥) → viewR b ≡ bodyFrom tableR ty s p → BodyOf s ty p (B.Reply b)
 unfolding viewBody
 reply-body {ty = ty} b e h = record { is = rw (ne-eqb (ty % 2) 0 e) h; way = e }
 

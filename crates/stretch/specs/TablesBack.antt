@@ -40,7 +40,7 @@ in-table k m {ty} {tag} w =
 
 -- a frame whose bytes are those of other items is read as those, and shows them
 record FrameBack (rows : List Row) (ty tag n : ℕ) (o' : List ℕ) (ks : List Item) : Type 0 where
-  pub reads : readFrame rows o' ≡ framed tag (accepted ty (places 7 ks) n)
+  pub reads : readFrame rows o' ≡ framed 0 tag (accepted ty (places 7 ks) n)
   pub after : shows (map kind ks) o' (places 7 ks) ≡ ok ks []
 
 frame-back : {rows : List Row} {m : Result (List Item)} {ty tag n : ℕ} {o o' : List ℕ} {ks : List Item} (W : Wrote m ty tag o o' n) → itemsBytes (W .items) ≡ itemsBytes ks → Stands rows n ty tag ks
@@ -53,14 +53,14 @@ frame-back {rows} {m} {ty} {tag} {n} {o} {o'} {ks} W i s =
     = W .front ∙ ap (λ (x : List ℕ). headBytes n ty tag ++ x ++ drop n o) i ∙ append-assoc (headBytes n ty tag) (itemsBytes ks) (drop n o) in
     let v : 7 + length (itemsBytes ks ++ []) ≡ n = ap (λ (x : List ℕ). 7 + length x) (append-nil (itemsBytes ks)) ∙ (omega arith) in
     record {
-      reads = ap (readFrame rows) a ∙ reads-frame rows n ty tag ks [] (drop n o) s v ∙ ap (λ k. framed tag (accepted ty (places 7 ks) k)) (omega arith);
+      reads = ap (readFrame rows) a ∙ reads-frame rows n ty tag ks [] (drop n o) s v ∙ ap (λ k. framed 0 tag (accepted ty (places 7 ks) k)) (omega arith);
       after = ap (λ (x : List ℕ). shows (map kind ks) x (places 7 ks)) b ∙ shows-items ks (headBytes n ty tag) (drop n o) 7 (s .goods) (head-length n ty tag);
     }
 
 -- what is read and shown of one output is one
 frame-one : {rows : List Row} {ty tag n tag' n' : ℕ} {o' : List ℕ} {ks ks' : List Item} → map kind ks ≡ map kind ks' → FrameBack rows ty tag n o' ks → FrameBack rows ty tag' n' o' ks' → (tag ≡ tag') × (n ≡ n') × (ks ≡ ks')
 frame-one {ty = ty} {tag} {n} {tag'} {n'} {o'} {ks} {ks'} k B C =
-    let d : framed tag (accepted ty (places 7 ks) n) ≡ framed tag' (accepted ty (places 7 ks') n') = sym (B .reads) ∙ C .reads in
+    let d : framed 0 tag (accepted ty (places 7 ks) n) ≡ framed 0 tag' (accepted ty (places 7 ks') n') = sym (B .reads) ∙ C .reads in
     let v : places 7 ks ≡ places 7 ks' = cc d in
     let e : ok ks [] ≡ ok ks' [] = sym (B .after) ∙ ap₂ (λ l x. shows l o' x) k v ∙ C .after in
     (cc d, cc d, cc e)
@@ -101,7 +101,7 @@ pub record TwalkBack (tag fid newfid : ℕ) (lent : List ℕ) (t : List (List �
   pub names : List (List ℕ)
   pub left : List ℕ
   pub shown : shows (nameFields t) lent (nameValues t) ≡ ok (map string names) left
-  pub reads : readFrame tableT o' ≡ framed tag (accepted 110 (places 7 (number 4 fid ∷ number 4 newfid ∷ strings names ∷ [])) n)
+  pub reads : readFrame tableT o' ≡ framed 0 tag (accepted 110 (places 7 (number 4 fid ∷ number 4 newfid ∷ strings names ∷ [])) n)
   pub after : shows layoutTwalk o' (places 7 (number 4 fid ∷ number 4 newfid ∷ strings names ∷ [])) ≡ ok (number 4 fid ∷ number 4 newfid ∷ strings names ∷ []) []
 
 walk-inv : {X : Type 0} (t : List (List ℕ)) (lent : List ℕ) (fid newfid k : ℕ) {is : List Item} {r : List ℕ} → shows (walkFields t) lent (walkValues fid newfid k t) ≡ ok is r
@@ -153,7 +153,7 @@ twalk-one B C =
 
 -- the qids that were written stand in the frame that is read, 13 bytes each, and are shown of its bytes
 pub record RwalkBack (tag : ℕ) (t : List Qid) (o' : List ℕ) (n : ℕ) : Type 0 where
-  pub reads : readFrame tableR o' ≡ framed tag (accepted 111 (places 7 (qids (length t) (qidsBytes t) ∷ [])) n)
+  pub reads : readFrame tableR o' ≡ framed 0 tag (accepted 111 (places 7 (qids (length t) (qidsBytes t) ∷ [])) n)
   pub after : shows layoutRwalk o' (places 7 (qids (length t) (qidsBytes t) ∷ [])) ≡ ok (qids (length t) (qidsBytes t) ∷ []) []
 
 pub rwalk-back : {tag n : ℕ} {o o' : List ℕ} (t : List Qid) → tag < 256 ^ 2 → RwalkWritten tag t o o' (At n) → RwalkBack tag t o' n

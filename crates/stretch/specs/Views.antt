@@ -3,11 +3,11 @@ use Prim.Native.Nat.{ℕ, _-_, _%_}
 use mathlib.Core.Path.{_≡_}
 use mathlib.Core.List.{List}
 use lib.ListN.{length}
-use Rattle.numbers.specs.declared.Place.the-variants.{At}
 use Rattle.layouts.specs.Tables.{tableT, tableR}
-use Rattle.layouts.specs.Bodies.{Answer, readBody}
+use Rattle.layouts.specs.Bodies.{Answer}
 use Rattle.requests.specs.Views.{viewT}
 use Rattle.replies.specs.Views.{viewR}
+use Rattle.framing.specs.Raising.{bodyFrom}
 use Rattle.framing.specs.Stretch.{tableFor, tailIn, Step, frame, end, stop, frameAt}
 use Rattle.stretch.specs.declared.Body.{Body}
 use Rattle.stretch.specs.declared.Body.the-variants as B
@@ -24,25 +24,25 @@ abbrev pub Way : ℕ → Body → Type 0
 Way ty (B.Request b) = ty % 2 ≡ 0
 Way ty (B.Reply b) = ty % 2 ≡ 0 → ⊥
 
--- a frame's body, by its type
-pub record BodyOf (f : List ℕ) (ty : ℕ) (b : Body) : Type 0 where
-  pub is : viewBody b ≡ readBody (tableFor tableT tableR ty) ty f (At 7)
+-- the body of a frame that stands from p to the end of s, by its type
+pub record BodyOf (s : List ℕ) (ty p : ℕ) (b : Body) : Type 0 where
+  pub is : viewBody b ≡ bodyFrom (tableFor tableT tableR ty) ty s p
   pub way : Way ty b
 
 -- where the fields end, so far that what is left of the size is the tail
 pub record Leaves (size : ℕ) (a : Answer) (used : ℕ) : Type 0 where
   pub is : size - used ≡ tailIn size a
 
--- a frame of the bytes f, the type k and the tag g, that stands from p to e
-pub record ListedAs (f : List ℕ) (k g p e : ℕ) (l : Listed) : Type 0 where
+-- a frame of the type k and the tag g, that stands from p to the end of s
+pub record ListedAs (s : List ℕ) (k g p : ℕ) (l : Listed) : Type 0 where
   pub at : l .at ≡ p
-  pub size : l .size ≡ length f
+  pub size : l .size ≡ length s - p
   pub ty : l .ty ≡ k
   pub tag : l .tag .0 ≡ g
-  pub body : viewBody (l .body) ≡ readBody (tableFor tableT tableR (l .ty)) (l .ty) f (At 7)
+  pub body : viewBody (l .body) ≡ bodyFrom (tableFor tableT tableR (l .ty)) (l .ty) s p
   pub way : Way (l .ty) (l .body)
-  pub tail : l .tail ≡ tailIn (length f) (viewBody (l .body))
-  pub next : l .next ≡ e
+  pub tail : l .tail ≡ tailIn (l .size) (viewBody (l .body))
+  pub next : l .next ≡ length s
 
 unfoldable pub viewStep : Answered → Step
 viewStep (S.Frame l) = frame (l .at) (l .size) (l .ty) (l .tag .0) (viewBody (l .body)) (l .tail) (l .next)

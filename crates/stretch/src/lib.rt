@@ -16,7 +16,8 @@ pub enum Body {
     Reply(Rbody),
 }
 
-// A frame as it is listed. Spans count from its first byte. The tail is 0 where the body is refused.
+// A frame as it is listed. Spans and places count from the first byte of the stretch; bytes used, size and tail are no positions. The tail is 0
+// where the body is refused.
 pub struct Listed {
     pub at: usize,
     pub size: usize,
@@ -34,13 +35,14 @@ pub enum Step {
     Refused(Refusal, usize),
 }
 
-fn read_body(frame: &[u8], ty: u8) -> Body
-    ensures { λ r. ⌜ BodyOf (now (frame .entry)) ty r ⌝ }
+// Of a frame that stands from `at` to the end of the bytes.
+fn read_body(s: &[u8], ty: u8, at: usize) -> Body
+    ensures { λ r. ⌜ BodyOf (now (s .entry)) ty at r ⌝ }
 {
     if ty % 2 == 0 {
-        return Body::Request(requests::read_tmessage(frame, ty, Place::At(framing::BODY)));
+        return Body::Request(frames::request_at(s, ty, at));
     }
-    Body::Reply(replies::read_rmessage(frame, ty, Place::At(framing::BODY)))
+    Body::Reply(frames::reply_at(s, ty, at))
 }
 
 // Where the fields of an accepted frame end; its end where the body is refused, so that there is no tail.
@@ -59,16 +61,18 @@ fn used_of(size: usize, body: Body) -> usize
     }
 }
 
-// A frame of exactly these bytes: what the reader of its direction says of its body.
-fn whole_frame(frame: &[u8], ty: u8, tag: u16, at: usize, next: usize) -> Listed
-    ensures { λ r. ⌜ ListedAs (now (frame .entry)) ty tag at next r ⌝ }
+// A frame that stands from `at` to the end of the bytes: what the reader of its direction says of its body.
+fn whole_frame(s: &[u8], ty: u8, tag: u16, at: usize) -> Listed
+    ensures { λ r. ⌜ ListedAs (now (s .entry)) ty tag at r ⌝ }
 {
-    let body = read_body(frame, ty);
-    let tail = numbers::saturating_sub(frame.len(), used_of(frame.len(), body));
+    let body = read_body(s, ty, at);
+    let next = s.len();
+    let size = numbers::saturating_sub(next, at);
+    let tail = numbers::saturating_sub(size, used_of(size, body));
     let tag = Tag(tag);
     Listed {
         at,
-        size: frame.len(),
+        size,
         ty,
         tag,
         body,
@@ -83,9 +87,7 @@ pub fn frame_at(bytes: &[u8], position: usize) -> Step
 {
     let cut = framing::cut_at(bytes, position);
     match cut {
-        Cut::Whole(ty, tag, next) => {
-            Step::Frame(whole_frame(&bytes[position..next], ty, tag, position, next))
-        }
+        Cut::Whole(ty, tag, next) => Step::Frame(whole_frame(&bytes[..next], ty, tag, position)),
         Cut::End => Step::End(position),
         Cut::Refused(k) => Step::Refused(k, position),
     }

@@ -1,6 +1,7 @@
 -- A whole frame, the end, or a refusal, as the cut says.
 use borrow.Author.Needs.{needs}
-use native.Mathlib.Omega.{arith}
+use mathlib.Core.Path.{sym}
+use lib.Seq.{length-take-le}
 use Rattle.numbers.specs.Numbers.{bytes-all}
 use Rattle.layouts.specs.Tables.{tableT, tableR}
 use Rattle.framing.specs.CutLaws.{cut-whole, cut-end, cut-stop}
@@ -17,14 +18,9 @@ enum-told c = search needs
 enum-known-cut-2 : tie.Need-enum-known-cut-2
 enum-known-cut-2 c = search needs
 
-sub-whole-frame : tie.Need-sub-whole-frame
-sub-whole-frame c = let h = cut-whole _ _ (c .before .before .before .cut-at .ensures) (c .before .cut .given .1) .seven in omega arith
-
-part-whole-frame-start : tie.Need-part-whole-frame-start
-part-whole-frame-start c = let h = cut-whole _ _ (c .before .before .before .cut-at .ensures) (c .before .cut .given .1) .seven in omega arith
-
-part-whole-frame-end : tie.Need-part-whole-frame-end
-part-whole-frame-end c = let h = cut-whole _ _ (c .before .before .before .cut-at .ensures) (c .before .cut .given .1) .held in search needs
+slice-aggregate-whole-frame : tie.Need-slice-aggregate-whole-frame
+slice-aggregate-whole-frame c =
+    let d = c .before .before in sym (length-take-le _ _ (cut-whole _ _ (d .before .before .cut-at .ensures) (d .cut .given .1) .held))
 
 returns : tie.Need-returns
 returns c =
@@ -45,9 +41,7 @@ frame-at-spec =
     (tie.spec
     (λ _ _. tt)
     enum-known-cut
-    sub-whole-frame
-    part-whole-frame-start
-    part-whole-frame-end
+    slice-aggregate-whole-frame
     (λ _ _. tt)
     enum-told
     enum-known-cut-2

@@ -4,18 +4,18 @@ use Rattle.stretch.specs.StepLaws.{request-body, reply-body}
 use Rattle.stretch.proofs.read_body.Statement.{statement}
 use Rattle.stretch.proofs.read_body.Tie as tie
 
-read-tmessage-requires : tie.Need-read-tmessage-requires
-read-tmessage-requires c κs = tt
+request-at-requires : tie.Need-request-at-requires
+request-at-requires c κs = tt
 
 returns : tie.Need-returns
-returns c = request-body _ (c .before .if1 .taken) (c .read-tmessage .ensures)
+returns c = request-body _ (c .before .if1 .taken) (c .request-at .ensures)
 
-read-rmessage-requires : tie.Need-read-rmessage-requires
-read-rmessage-requires c κs = tt
+reply-at-requires : tie.Need-reply-at-requires
+reply-at-requires c κs = tt
 
 returns-2 : tie.Need-returns-2
-returns-2 c = reply-body _ (c .before .if1 .left) (c .read-rmessage .ensures)
+returns-2 c = reply-body _ (c .before .if1 .left) (c .reply-at .ensures)
 
 pub read-body-spec : {M : Type 1} → statement M
 read-body-spec =
-    tie.close (tie.spec read-tmessage-requires returns read-rmessage-requires returns-2)
+    tie.close (tie.spec request-at-requires returns reply-at-requires returns-2)
