@@ -16,6 +16,21 @@ pub fn read_r(bytes: &[u8], values: &mut [u64; R_VALUES]) -> Outcome {
     unsafe { sheafsledge_read_rframe(bytes.as_ptr(), bytes.len(), values) }
 }
 
+/// The body of a request that stands from a place to the end of the bytes. Spans, and a refusal's place,
+/// count from the first of these, the bytes used from that place.
+#[inline]
+pub fn read_tbody(bytes: &[u8], at: usize, ty: u8, values: &mut [u64; T_VALUES]) -> Outcome {
+    // SAFETY: as for `read_t`; any place and any type are answered.
+    unsafe { sheafsledge_read_tbody(bytes.as_ptr(), bytes.len(), at, ty, values) }
+}
+
+/// The same of a reply.
+#[inline]
+pub fn read_rbody(bytes: &[u8], at: usize, ty: u8, values: &mut [u64; R_VALUES]) -> Outcome {
+    // SAFETY: as for `read_tbody`.
+    unsafe { sheafsledge_read_rbody(bytes.as_ptr(), bytes.len(), at, ty, values) }
+}
+
 #[inline]
 pub fn frame_at(bytes: &[u8], position: usize) -> Outcome {
     // SAFETY: as for `read_t`; any position is answered.

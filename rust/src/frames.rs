@@ -10,7 +10,7 @@ use crate::records::Onward;
 use crate::{ffi, tables, Refusal, Rmessage, Tag, Tmessage, WalkHead};
 
 /// How many bytes stand before a frame's first field: its size, its type and its tag.
-const HEADER: usize = 7;
+pub(crate) const HEADER: usize = 7;
 
 const TWALK: u8 = 110;
 

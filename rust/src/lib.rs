@@ -5,7 +5,7 @@
 //! are longer than 512 bytes together ([`Names::of`]). Where a frame ends is what its size says:
 //! bytes after the last field are a tail, and never another request; [`stream::Frames`] cuts a
 //! stream into frames by that, in a buffer that it allocates once, and [`stretch()`] bytes that
-//! hold several. The entries of a directory are given by [`Rreaddir::entries`]. The example
+//! hold several: [`Listed::fields`] says where each field of theirs stands. The entries of a directory are given by [`Rreaddir::entries`]. The example
 //! `server` shows a directory with these, and is meant to be started from.
 //!
 //! ```
@@ -52,6 +52,7 @@ mod ffi;
 mod fields;
 mod frames;
 mod ids;
+mod places;
 mod records;
 mod refusal;
 #[cfg(feature = "std")]
@@ -68,6 +69,7 @@ pub use data::Data;
 pub use dirents::{Dirent, Dirents};
 pub use frames::{Decoded, Make, Rframe, Tframe};
 pub use ids::{Fid, Gid, Tag};
+pub use places::{FieldAt, Fields, Value};
 pub use records::*;
 pub use refusal::{Refusal, Sentence};
 pub use stretch::{answers, stretch, Body, Listed, Mark, Stop, Stretch};

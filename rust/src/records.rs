@@ -1,6 +1,7 @@
 //! The records under the seller's names, and the two enums that hold them.
 
 use crate::fields::{fill, Field, Filling, Taken};
+use crate::places::Named;
 use crate::walks::{Names, Qids};
 use crate::{Data, Fid, Gid, Qid, Refusal, Tag, Text};
 
@@ -30,6 +31,21 @@ macro_rules! record {
 
             fn size(&self) -> usize {
                 0 $(+ self.$field.size())*
+            }
+        }
+
+        impl<'a> $name $(<$a>)? {
+            /// Its field of that number, from 0 on.
+            fn field(&self, number: usize) -> Option<Named<'a>> {
+                let mut skipped = 0..number;
+                $(if skipped.next().is_none() {
+                    return Some(Named {
+                        name: stringify!($field),
+                        size: self.$field.size(),
+                        value: self.$field.into(),
+                    });
+                })*
+                None
             }
         }
     };
@@ -106,6 +122,14 @@ macro_rules! message {
                 match self {
                     $(Self::$case(record) => record.size(),)*
                     $(Self::$empty => ().size(),)*
+                }
+            }
+
+            /// Its field of that number, from 0 on, in the layout's order.
+            pub(crate) fn field(&self, number: usize) -> Option<Named<'a>> {
+                match self {
+                    $(Self::$case(record) => record.field(number),)*
+                    $(Self::$empty => None,)*
                 }
             }
 

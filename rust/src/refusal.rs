@@ -18,9 +18,10 @@ macro_rules! refusals {
     ($($number:literal $name:ident $({ $at:ident })? $kind:ident $text:literal)*) => {
         /// Why a frame was not read or not written. Later versions of the requirements have more.
         ///
-        /// 5 and 6 say `at` which byte. In reading it counts from the frame's first byte, or from
-        /// that of the slice which a directory entry stands in; in writing from the first byte of the
-        /// string itself, or of the text that [`write_twalk`](crate::write_twalk) takes.
+        /// 5 and 6 say `at` which byte. In reading it counts from the first byte that was lent: of the
+        /// frame, of the stretch that the frame is listed from, or of the slice which a directory
+        /// entry stands in; in writing from the first byte of the string itself, or of the text that
+        /// [`write_twalk`](crate::write_twalk) takes.
         ///
         /// ```
         /// use sheafsledge::{Refusal, Tframe};

@@ -4,7 +4,10 @@
 use core::fmt;
 use core::iter::FusedIterator;
 
-use crate::{ffi, Decoded, Make, Refusal, Rframe, Rmessage, Tag, Tframe, Tmessage};
+use crate::boundary::{Outcome, R_VALUES, T_VALUES};
+use crate::fields::Taken;
+use crate::records::Onward;
+use crate::{ffi, Refusal, Rmessage, Tag, Tmessage};
 
 /// What a frame holds: a request if its type is even, else a reply.
 #[derive(Clone, Copy, Debug, PartialEq, Eq)]
@@ -15,10 +18,28 @@ pub enum Body<'a> {
     Reply(Result<Rmessage<'a>, Refusal>),
 }
 
+impl<'a> From<Result<Tmessage<'a>, Refusal>> for Body<'a> {
+    #[inline(always)]
+    fn from(msg: Result<Tmessage<'a>, Refusal>) -> Self {
+        Self::Request(msg)
+    }
+}
+
+impl<'a> From<Result<Rmessage<'a>, Refusal>> for Body<'a> {
+    #[inline(always)]
+    fn from(msg: Result<Rmessage<'a>, Refusal>) -> Self {
+        Self::Reply(msg)
+    }
+}
+
 /// A frame of a stretch.
+///
+/// Positions count from the stretch's first byte: `at`, `next`, the byte that a refusal 5 or 6 of the
+/// body tells of, and all ranges. The strings and the data of the body are slices of the stretch.
+/// `size` and `tail` are numbers of bytes, and no positions.
 #[derive(Clone, Copy, Debug, PartialEq, Eq)]
 pub struct Listed<'a> {
-    /// Where it starts in the stretch.
+    /// Where it starts in the stretch: its position.
     pub at: usize,
     /// How long it says that it is, and is.
     pub size: usize,
@@ -35,6 +56,11 @@ pub struct Listed<'a> {
 }
 
 impl Listed<'_> {
+    /// Where it starts in the stretch, as `at` says. A frame that is read alone has position 0.
+    pub fn position(&self) -> usize {
+        self.at
+    }
+
     /// What it is paired by, also where its body is refused.
     pub fn mark(&self) -> Mark {
         let (ty, tag) = (self.ty, self.tag);
@@ -110,62 +136,83 @@ impl<'a> Iterator for Stretch<'a> {
         }
         let next = step.place;
         self.position = Some(next);
-        let frame = &self.bytes[at..next];
-        let size = frame.len();
-        let (ty, tag) = (step.ty, Tag(step.tag));
-        let bodiless = Bodiless(Listed {
+        let frame = Unread {
+            bytes: &self.bytes[..next],
             at,
-            size,
-            ty,
-            tag,
-            body: Body::Reply(Err(Refusal::UnknownType)),
-            tail: 0,
-            next,
-        });
-        Some(Ok(match ty % 2 {
-            0 => Tframe::decode_into(frame, bodiless),
-            _ => Rframe::decode_into(frame, bodiless),
+            ty: step.ty,
+            tag: Tag(step.tag),
+        };
+        Some(Ok(match frame.ty % 2 {
+            0 => frame.listed::<Tmessage, T_VALUES>(ffi::read_tbody, Tmessage::take),
+            _ => frame.listed::<Rmessage, R_VALUES>(ffi::read_rbody, Rmessage::take),
         }))
     }
 }
 
-/// A frame whose body is still to be read; some refusal stands for it.
-struct Bodiless(Listed<'static>);
+/// A whole frame whose body is still to be read.
+#[derive(Clone, Copy)]
+struct Unread<'a> {
+    /// The stretch, up to where the frame ends.
+    bytes: &'a [u8],
+    at: usize,
+    ty: u8,
+    tag: Tag,
+}
 
-impl<'a> Make<Tframe<'a>> for Bodiless {
-    type Made = Listed<'a>;
-
+impl<'a> Unread<'a> {
+    /// By what reads the values of its direction, and what makes a message of them.
     #[inline(always)]
-    fn make(self, read: Result<Decoded<Tframe<'a>>, Refusal>) -> Listed<'a> {
-        match read {
-            Ok(Decoded { frame, used }) => {
-                let tail = frame.msg.map_or(0, |_| self.0.size - used);
-                let body = Body::Request(frame.msg);
-                Listed {
-                    body,
-                    tail,
-                    ..self.0
-                }
-            }
-            Err(refusal) => {
-                let body = Body::Request(Err(refusal));
-                Listed { body, ..self.0 }
+    fn listed<M, const N: usize>(
+        self,
+        read: impl FnOnce(&[u8], usize, u8, &mut [u64; N]) -> Outcome,
+        take: impl FnOnce(u8, &mut Taken<'a, '_>, Read<'a>) -> Listed<'a>,
+    ) -> Listed<'a>
+    where
+        Body<'a>: From<Result<M, Refusal>>,
+    {
+        let Self { bytes, at, ty, .. } = self;
+        let mut values = [0; N];
+        let told = read(bytes, at, ty, &mut values);
+        let (frame, used) = (self, told.place);
+        let read = Read { frame, used };
+        match Refusal::of(told.refusal, told.place) {
+            Some(refusal) => Onward::<M>::on(read, Err(refusal)),
+            None => {
+                let (values, frame) = (values.iter(), bytes);
+                take(ty, &mut Taken { values, frame }, read)
             }
         }
     }
 }
 
-impl<'a> Make<Rframe<'a>> for Bodiless {
-    type Made = Listed<'a>;
+/// A frame whose message is being made, and how many bytes it has without its tail.
+struct Read<'a> {
+    frame: Unread<'a>,
+    used: usize,
+}
+
+impl<'a, M> Onward<M> for Read<'a>
+where
+    Body<'a>: From<Result<M, Refusal>>,
+{
+    type Answer = Listed<'a>;
 
     #[inline(always)]
-    fn make(self, read: Result<Decoded<Rframe<'a>>, Refusal>) -> Listed<'a> {
-        let tail = read.map_or(0, |read| self.0.size - read.used);
-        let body = Body::Reply(read.map(|read| read.frame.msg));
+    fn on(self, msg: Result<M, Refusal>) -> Listed<'a> {
+        let Unread { bytes, at, ty, tag } = self.frame;
+        let (size, next) = (bytes.len() - at, bytes.len());
+        let tail = match msg {
+            Ok(_) => size - self.used,
+            Err(_) => 0,
+        };
         Listed {
-            body,
+            at,
+            size,
+            ty,
+            tag,
+            body: msg.into(),
             tail,
-            ..self.0
+            next,
         }
     }
 }

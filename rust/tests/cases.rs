@@ -96,6 +96,7 @@ fn answer(line: &str) -> Option<String> {
     let (kind, numbers, bytes) = parsed(line)?;
     let room = match (kind, &numbers[..]) {
         ("t" | "r", &[room]) | ("w" | "d" | "m" | "k", &[_, room, ..]) => room,
+        ("T" | "R", &[_, _, room]) => room,
         ("S" | "W", &[_]) => MOST,
         ("N" | "Q" | "f" | "a", _) => 0,
         _ => return None,
@@ -104,6 +105,8 @@ fn answer(line: &str) -> Option<String> {
     let said = match (kind, &numbers[..]) {
         ("t", _) => frames::request(&mut out, &bytes),
         ("r", _) => frames::reply(&mut out, &bytes),
+        ("T", &[ty, at, _]) => frames::request_at(&mut out, ty as u8, at as usize, &bytes),
+        ("R", &[ty, at, _]) => frames::reply_at(&mut out, ty as u8, at as usize, &bytes),
         ("w", &[ty, _, tag, ref given @ ..]) => frames::frame(&mut out, ty, tag, given, &bytes)?,
         ("S", &[count]) => frames::letters(&mut out, count)?,
         ("d", &[at, _]) => others::entry(&mut out, at as usize, &bytes),

@@ -121,9 +121,9 @@ fn a_text_breaks_where_its_longest_sound_start_ends() {
     );
 }
 
-/// Of two strings the first that is refused, counted from the frame's first byte.
+/// Of two strings the first that is refused, counted from the first byte of what is read.
 #[test]
-fn the_place_is_the_frames() {
+fn the_place_counts_from_the_first_byte() {
     let place = |frame: &[u8]| {
         let read = Tframe::decode(frame).expect("a header").frame;
         read.msg.expect_err("a refusal").at()
@@ -136,12 +136,13 @@ fn the_place_is_the_frames() {
     // The second name of a walk, and the third after it.
     let walk = b"\x1b\0\0\0\x6e\x03\0\x01\0\0\0\x02\0\0\0\x03\0\x01\0a\x02\0b\x80\x01\0\0";
     assert_eq!(place(walk), Some(23));
-    // Bytes before the frame do not count, and those after it are not looked at.
+    // Listed, the 21 bytes before it count too; those after it are not looked at.
     let mut frames = [A, walk, A].concat();
     let listed: Vec<_> = stretch(&frames)
         .map(|frame| frame.expect("a frame").body)
         .collect();
-    assert_eq!(listed[1], Body::Request(Err(Refusal::NotUtf8 { at: 23 })));
+    let at = 21 + 23;
+    assert_eq!(listed[1], Body::Request(Err(Refusal::NotUtf8 { at })));
     // An Rreadlink: its target starts at 9.
     frames = b"\x0c\0\0\0\x17\x01\0\x03\0a\xc3b".to_vec();
     assert_eq!(Rframe::decode(&frames), Err(Refusal::NotUtf8 { at: 10 }));

@@ -1,6 +1,7 @@
-//! The proved library as C sees it: the functions of the crates `exports`, `request_exports` and
-//! `reply_exports`, and the archive that holds them, which the build script has linked. The crate
-//! `sheafsledge` is what a server calls; it adds slices, records and refusals to these.
+//! The proved library as C sees it: the functions of the crates `exports`, `request_exports`,
+//! `reply_exports` and `stretch_exports`, and the archive that holds them, which the build script has
+//! linked. The crate `sheafsledge` is what a server calls; it adds slices, records and refusals to
+//! these.
 //!
 //! Nothing joins the two texts but the names of the functions, so a difference would be read as
 //! other values. The layouts are held to C's at the end of this file, when it is compiled;
@@ -30,7 +31,8 @@ pub const SPAN_VALUES: usize = 2;
 
 /// What the library answers for all that it reads or writes: 0 and the place after it, or the
 /// refusal. Of a frame there is a tag too, and a type where it is accepted or stands at a position;
-/// `held` says that there is one. Values go to the front of the caller's room, as many as what is
+/// `held` says that there is one. Of a body alone there is neither, and the place after it counts from
+/// its frame: so many bytes are used. Values go to the front of the caller's room, as many as what is
 /// read has; after them, and where it is refused, the room is as it was. Of a refusal, `place` is
 /// where a text breaks for 5, the first zero byte for 6, and the position of what is no frame in a
 /// stretch; else it is 0. Places in a text count as spans do: from the first byte that is read, or in
@@ -89,6 +91,23 @@ extern "C" {
     pub fn sheafsledge_read_rframe(
         bytes: *const u8,
         count: usize,
+        values: *mut [u64; R_VALUES],
+    ) -> Outcome;
+    /// Reads the body of the request that stands from a place to the end of the bytes, its header
+    /// passed over. Spans count from the first of the bytes, and so from that of the stretch.
+    pub fn sheafsledge_read_tbody(
+        bytes: *const u8,
+        count: usize,
+        at: usize,
+        ty: u8,
+        values: *mut [u64; T_VALUES],
+    ) -> Outcome;
+    /// The same of a reply.
+    pub fn sheafsledge_read_rbody(
+        bytes: *const u8,
+        count: usize,
+        at: usize,
+        ty: u8,
         values: *mut [u64; R_VALUES],
     ) -> Outcome;
     /// Writes a request from values whose spans point into the lent bytes.

@@ -54,6 +54,42 @@ pub fn reply(out: &mut [u8], bytes: &[u8]) -> String {
     format!("{} {} {}", head(r), listed(&values), ended(wrote))
 }
 
+/// The body of the request that stands from a position to the end of the bytes, and written from what
+/// was read, with all of them lent.
+pub fn request_at(out: &mut [u8], ty: u8, at: usize, bytes: &[u8]) -> String {
+    let mut values = [BEFORE; T_VALUES];
+    let (from, count) = (bytes.as_ptr(), bytes.len());
+    // SAFETY: as for `read_t`.
+    let read = unsafe { sheafsledge_read_tbody(from, count, at, ty, &mut values) };
+    body(read, &values, || {
+        write_t(out, bytes, (0, ty, tag_at(bytes, at)), &values)
+    })
+}
+
+/// The same of a reply.
+pub fn reply_at(out: &mut [u8], ty: u8, at: usize, bytes: &[u8]) -> String {
+    let mut values = [BEFORE; R_VALUES];
+    let (from, count) = (bytes.as_ptr(), bytes.len());
+    // SAFETY: as for `read_t`.
+    let read = unsafe { sheafsledge_read_rbody(from, count, at, ty, &mut values) };
+    body(read, &values, || {
+        write_r(out, bytes, (0, ty, tag_at(bytes, at)), &values)
+    })
+}
+
+fn body(read: Outcome, values: &[u64], write: impl FnOnce() -> Outcome) -> String {
+    let said = format!("{} {}", ended(read), listed(values));
+    match read.refusal {
+        0 => format!("{said} {}", ended(write())),
+        _ => said,
+    }
+}
+
+/// The tag of a frame that was read at a position.
+fn tag_at(bytes: &[u8], at: usize) -> u16 {
+    u16::from_le_bytes([bytes[at + 5], bytes[at + 6]])
+}
+
 /// A frame from its first values, the others 0: a request where the type is even.
 pub fn frame(out: &mut [u8], ty: u64, tag: u64, given: &[u64], lent: &[u8]) -> Option<String> {
     let head = (0, u8::try_from(ty).ok()?, u16::try_from(tag).ok()?);

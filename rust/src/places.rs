@@ -1,0 +1,171 @@
+//! Where the fields of a listed frame stand in the stretch, for who shows its bytes.
+
+use core::iter::FusedIterator;
+use core::ops::Range;
+
+use crate::frames::HEADER;
+use crate::{Body, Data, Fid, Gid, Listed, Names, Qid, Qids, Tag, Text};
+
+/// What a field holds.
+#[derive(Clone, Copy, Debug, PartialEq, Eq)]
+pub enum Value<'a> {
+    /// A number of any width, a fid, a gid or a tag.
+    Number(u64),
+    /// A string.
+    Text(Text<'a>),
+    /// The data of a Twrite, an Rread or an Rreaddir.
+    Data(Data<'a>),
+    /// The names of a Twalk.
+    Names(Names<'a>),
+    /// The qids of an Rwalk.
+    Qids(Qids<'a>),
+    /// A qid, whose three numbers are one field.
+    Qid(Qid),
+}
+
+impl Value<'_> {
+    /// How many bytes its count is on the wire, where it has one.
+    fn count(&self) -> usize {
+        match self {
+            Self::Number(_) | Self::Qid(_) => 0,
+            Self::Text(_) | Self::Names(_) | Self::Qids(_) => 2,
+            Self::Data(_) => 4,
+        }
+    }
+}
+
+macro_rules! values {
+    ($($case:ident: $($from:ty),+;)*) => {
+        $($(impl<'a> From<$from> for Value<'a> {
+            fn from(held: $from) -> Self {
+                Self::$case(held.into())
+            }
+        })+)*
+    };
+}
+
+values! {
+    Number: u8, u16, u32, u64;
+    Text: Text<'a>;
+    Data: Data<'a>;
+    Names: Names<'a>;
+    Qids: Qids<'a>;
+    Qid: Qid;
+}
+
+macro_rules! ids {
+    ($($id:ident)*) => {
+        $(impl From<$id> for Value<'_> {
+            fn from(id: $id) -> Self {
+                id.0.into()
+            }
+        })*
+    };
+}
+
+ids!(Fid Gid Tag);
+
+/// A field by its name, and how many bytes it is on the wire.
+#[derive(Clone, Copy)]
+pub struct Named<'a> {
+    pub name: &'static str,
+    pub size: usize,
+    pub value: Value<'a>,
+}
+
+/// A field of a listed frame, and where it stands.
+#[derive(Clone, Debug, PartialEq, Eq)]
+pub struct FieldAt<'a> {
+    /// Its name in the record.
+    pub name: &'static str,
+    /// All its bytes in the stretch: its count, too, where it has one.
+    pub range: Range<usize>,
+    /// What it holds.
+    pub value: Value<'a>,
+}
+
+impl<'a> FieldAt<'a> {
+    /// Its bytes without its count: those of the text, the data or the elements alone.
+    pub fn shown(&self) -> Range<usize> {
+        self.range.start + self.value.count()..self.range.end
+    }
+
+    /// Each string that it holds, and where its letters stand: a string itself, the names of a walk,
+    /// each without its count. Nothing of other fields.
+    pub fn texts(&self) -> impl Iterator<Item = (Range<usize>, Text<'a>)> {
+        let (text, names, mut at) = match self.value {
+            Value::Text(text) => (Some(text), Names::default(), self.range.start),
+            Value::Names(names) => (None, names, self.shown().start),
+            _ => (None, Names::default(), self.range.end),
+        };
+        text.into_iter().chain(names).map(move |text| {
+            let start = at + Value::Text(text).count();
+            at = start + text.len();
+            (start..at, text)
+        })
+    }
+}
+
+impl<'a> Listed<'a> {
+    /// Where its size, its type and its tag stand.
+    pub fn header_range(&self) -> Range<usize> {
+        self.at..self.at + HEADER
+    }
+
+    /// Its fields in the layout's order, and where each stands in the stretch; none where the body is
+    /// refused. The header, the fields and the tail of a frame that is not have each of its bytes
+    /// once.
+    ///
+    /// ```
+    /// use sheafsledge::{stretch, Value};
+    /// // An Rflush, and a Tversion at byte 7.
+    /// let bytes = b"\x07\0\0\0\x6d\x01\0\x13\0\0\0\x64\xff\xff\0\x20\0\0\x06\09P2000";
+    /// let version = stretch(bytes).last().unwrap()?;
+    /// assert_eq!((version.position(), version.header_range()), (7, 7..14));
+    ///
+    /// let [msize, version] = [0, 1].map(|i| version.fields().nth(i).unwrap());
+    /// assert_eq!((msize.name, msize.range, msize.value), ("msize", 14..18, Value::Number(8192)));
+    /// assert_eq!((version.name, &version.range), ("version", &(18..26)));
+    /// assert_eq!(&bytes[version.shown()], b"9P2000");
+    /// # Ok::<(), sheafsledge::Stop>(())
+    /// ```
+    pub fn fields(&self) -> Fields<'a> {
+        Fields {
+            body: self.body,
+            number: 0,
+            at: self.header_range().end,
+        }
+    }
+
+    /// Where the bytes after its last field stand; an empty range where there are none, or the body
+    /// is refused.
+    pub fn tail_range(&self) -> Range<usize> {
+        self.next - self.tail..self.next
+    }
+}
+
+/// The fields of a listed frame, see [`Listed::fields`].
+#[derive(Clone, Copy, Debug)]
+pub struct Fields<'a> {
+    body: Body<'a>,
+    number: usize,
+    at: usize,
+}
+
+impl<'a> Iterator for Fields<'a> {
+    type Item = FieldAt<'a>;
+
+    fn next(&mut self) -> Option<FieldAt<'a>> {
+        let Named { name, size, value } = match &self.body {
+            Body::Request(msg) => msg.as_ref().ok()?.field(self.number),
+            Body::Reply(msg) => msg.as_ref().ok()?.field(self.number),
+        }?;
+        let start = self.at;
+        self.number += 1;
+        self.at += size;
+        let range = start..self.at;
+        Some(FieldAt { name, range, value })
+    }
+}
+
+impl FusedIterator for Fields<'_> {}
