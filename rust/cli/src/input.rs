@@ -13,6 +13,8 @@ pub struct Input {
     file: File,
     /// Whether bytes can be passed over unread.
     regular: bool,
+    /// Where it was opened: standard input may have been read from before.
+    start: u64,
     read: u64,
     progress: Progress,
 }
@@ -32,10 +34,15 @@ impl Input {
             return Err(ErrorKind::IsADirectory.into());
         }
         let regular = about.is_file();
+        let start = match regular {
+            true => file.stream_position()?,
+            false => 0,
+        };
         let progress = Progress::of(&named(word), regular.then_some(about.len()), watched);
         Ok(Self {
             file,
             regular,
+            start,
             read: 0,
             progress,
         })
@@ -80,6 +87,15 @@ impl Source for Input {
             return self.read_over(1);
         }
         self.read_over(count)
+    }
+
+    fn end(&mut self) -> io::Result<u64> {
+        if self.regular {
+            let end = self.file.seek(SeekFrom::End(0))?;
+            return Ok(end.saturating_sub(self.start));
+        }
+        self.read_over(u64::MAX)?;
+        Ok(self.read)
     }
 }
 

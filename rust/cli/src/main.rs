@@ -5,6 +5,7 @@
 
 mod command;
 mod digits;
+mod fields;
 mod help;
 mod input;
 mod list;
@@ -24,7 +25,12 @@ use command::Command;
 use status::{Failure, Status};
 use words::Words;
 
-const COMMANDS: &[Command] = &[list::COMMAND, pairs::COMMAND, r#where::COMMAND];
+const COMMANDS: &[Command] = &[
+    list::COMMAND,
+    pairs::COMMAND,
+    r#where::COMMAND,
+    fields::COMMAND,
+];
 
 fn main() -> ExitCode {
     let words: Vec<OsString> = env::args_os().skip(1).collect();

@@ -33,6 +33,8 @@ const FIELDS: usize = 33_554_432 + 23;
 pub trait Source: Read {
     /// Passes over so many bytes; whether so many were there.
     fn pass(&mut self, count: u64) -> io::Result<bool>;
+    /// Passes over all that is left, and says how many bytes there were from the start on.
+    fn end(&mut self) -> io::Result<u64>;
 }
 
 /// A frame's place and what is answered for it.
@@ -42,6 +44,7 @@ pub struct Row {
     pub size: u32,
     pub ty: u8,
     pub tag: u16,
+    /// If it tells of a byte, that counts as the frame's position does.
     pub refusal: Option<Refusal>,
     /// 0 where it is refused.
     pub tail: u32,
@@ -57,7 +60,7 @@ impl Row {
             size: frame.size as u32,
             ty: frame.ty,
             tag: frame.tag.0,
-            refusal: refusal(&frame.body),
+            refusal: refusal(&frame.body).map(|refusal| counted_on(start, refusal)),
             tail: frame.tail as u32,
         }
     }
@@ -71,7 +74,13 @@ impl Row {
     /// Whether it is refused for a string, and so with a place.
     #[inline]
     pub fn breaks(&self) -> bool {
-        self.refusal.and_then(Refusal::at).is_some()
+        self.place().is_some()
+    }
+
+    /// Where in the frame that is.
+    fn place(&self) -> Option<usize> {
+        let place = self.refusal.and_then(Refusal::at)?;
+        place.checked_sub(self.at as usize)
     }
 }
 
@@ -123,11 +132,29 @@ impl<S: Source> Recording<S> {
         &self.broken
     }
 
+    /// What one of the rows holds, read once more, as a stretch of its own: a listing without bodies
+    /// does not wait for them.
+    pub fn frame(&self, row: &Row) -> Listed<'_> {
+        let size = row.size as usize;
+        let bytes = match size > self.piece {
+            true => &self.buffer,
+            false => &self.buffer[self.left.start - (self.start - row.at) as usize..][..size],
+        };
+        front(bytes, size)
+    }
+
+    /// How many bytes the recording has. After it has ended, what is left of it is passed over.
+    pub fn end(&mut self) -> io::Result<u64> {
+        self.source.end()
+    }
+
     /// Goes on to the next frames, at least one; none at the end alone, and how it ended. After that,
     /// and after an error, it is not called again.
     pub fn go_on(&mut self) -> io::Result<Option<Ended>> {
         self.rows.clear();
         self.broken.clear();
+        self.buffer.truncate(self.piece);
+        self.buffer.shrink_to_fit();
         loop {
             let stop = self.take();
             if let Some(last) = self.rows.last() {
@@ -194,7 +221,7 @@ impl<S: Source> Recording<S> {
     }
 
     /// Looks at a frame that is longer than a piece, of which the front is in the buffer and nothing
-    /// else is. False where the recording ends in it.
+    /// else is; what its fields need of it stays there. False where the recording ends in it.
     fn long_frame(&mut self, size: usize) -> io::Result<bool> {
         let mut wanted = self.piece;
         let row = loop {
@@ -207,7 +234,7 @@ impl<S: Source> Recording<S> {
             }
             wanted = more(wanted).min(size);
         };
-        if let Some(place) = row.refusal.and_then(Refusal::at) {
+        if let Some(place) = row.place() {
             wanted = wanted.max(broken::end(place, size));
         }
         if !self.fill(wanted)? || !self.source.pass((size - wanted) as u64)? {
@@ -217,8 +244,6 @@ impl<S: Source> Recording<S> {
         self.rows.push(row);
         self.start += size as u64;
         self.left = 0..0;
-        self.buffer.truncate(self.piece);
-        self.buffer.shrink_to_fit();
         Ok(true)
     }
 
@@ -290,6 +315,17 @@ fn front(bytes: &[u8], size: usize) -> Listed<'_> {
         body,
         tail,
         next,
+    }
+}
+
+/// The same, its place counted from the recording's first byte: that of the piece stands there.
+#[cold]
+fn counted_on(start: u64, refusal: Refusal) -> Refusal {
+    let counted = |at| start as usize + at;
+    match refusal {
+        Refusal::NotUtf8 { at } => Refusal::NotUtf8 { at: counted(at) },
+        Refusal::ZeroByte { at } => Refusal::ZeroByte { at: counted(at) },
+        other => other,
     }
 }
 

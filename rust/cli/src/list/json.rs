@@ -3,7 +3,7 @@
 use std::ffi::OsStr;
 use std::fmt::Write;
 
-use sheafsledge::message_name;
+use sheafsledge::{message_name, Refusal};
 
 use crate::digits::push;
 use crate::recording::{Ended, Row};
@@ -31,14 +31,7 @@ impl Json {
     /// What a frame's object ends with: its name, and why it is refused.
     #[inline]
     pub fn close(&self, text: &mut Vec<u8>, row: &Row) {
-        match message_name(row.ty) {
-            Some(name) => string(text, ",\"name\":", name),
-            None => text.extend_from_slice(b",\"name\":null"),
-        }
-        if let Some(refusal) = row.refusal {
-            string(text, ",\"sentence\":", refusal.meaning());
-        }
-        text.extend_from_slice(b"}\n");
+        named(text, message_name(row.ty), row.refusal);
     }
 }
 
@@ -75,16 +68,29 @@ impl Form for Json {
     }
 }
 
+/// The end of an object: what a message is called, and why it is refused.
+#[inline]
+pub fn named(text: &mut Vec<u8>, name: Option<&str>, refusal: Option<Refusal>) {
+    match name {
+        Some(name) => string(text, ",\"name\":", name),
+        None => text.extend_from_slice(b",\"name\":null"),
+    }
+    if let Some(refusal) = refusal {
+        string(text, ",\"sentence\":", refusal.meaning());
+    }
+    text.extend_from_slice(b"}\n");
+}
+
 /// The key has its quotes, and the marks around them.
 #[inline]
-fn number(text: &mut Vec<u8>, key: &str, n: u64) {
+pub fn number(text: &mut Vec<u8>, key: &str, n: u64) {
     text.extend_from_slice(key.as_bytes());
     push(text, n);
 }
 
 /// Of a text that needs no escapes: the crate's names and sentences have none.
 #[inline]
-fn string(text: &mut Vec<u8>, key: &str, value: &str) {
+pub fn string(text: &mut Vec<u8>, key: &str, value: &str) {
     text.extend_from_slice(key.as_bytes());
     text.push(b'"');
     text.extend_from_slice(value.as_bytes());
@@ -92,7 +98,7 @@ fn string(text: &mut Vec<u8>, key: &str, value: &str) {
 }
 
 /// As RFC 8259 wants it; control characters that it would let stand are escaped too.
-fn quoted(text: &str) -> String {
+pub fn quoted(text: &str) -> String {
     let mut quoted = String::from("\"");
     for letter in text.chars() {
         match letter {

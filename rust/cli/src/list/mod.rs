@@ -1,7 +1,7 @@
 //! `sheafsledge list`: the proved lister's columns, for recordings of any length.
 
 mod form;
-mod json;
+pub mod json;
 mod lines;
 mod summary;
 
@@ -20,7 +20,7 @@ use crate::words::{Opt, Words};
 pub use form::Form;
 pub use json::Json;
 pub use lines::{name_it, Lines};
-pub use summary::Summary;
+pub use summary::{numbered, Summary};
 
 pub const NAMES: Opt = Opt {
     long: "names",
@@ -157,6 +157,9 @@ impl Listing {
                 break ended;
             }
         };
+        if let Err(error) = form.rest(&ended, || recording.end(), self.output.text()) {
+            return Ok(Err(error));
+        }
         self.summary.ended(&ended);
         form.end(&ended, frames, self.output.text());
         form.summed(&mut self.summary);
@@ -172,6 +175,7 @@ impl Listing {
         for row in recording.rows() {
             self.summary.row(row);
             form.row(row, self.output.text());
+            form.body(row, || recording.frame(row), self.output.text());
             self.output.settle()?;
         }
         for broken in recording.broken() {

@@ -109,7 +109,7 @@ fn sum(counts: &[Count; 256]) -> u64 {
 }
 
 /// `1 frame`, `2 frames`
-fn numbered(n: u64, what: &str) -> String {
+pub fn numbered(n: u64, what: &str) -> String {
     let plural = if n == 1 { "" } else { "s" };
     format!("{n} {what}{plural}")
 }

@@ -1,7 +1,5 @@
 //! A frame with a string that breaks, and the bytes around the place where it does.
 
-use sheafsledge::Refusal;
-
 use super::Row;
 
 /// How many bytes are kept on either side of the one at the place.
@@ -27,7 +25,7 @@ impl Broken {
     /// Of a frame by its bytes, or by as many as have to be seen. None where no string breaks.
     #[cold]
     pub fn of(row: Row, frame: &[u8]) -> Option<Self> {
-        let place = row.refusal.and_then(Refusal::at)?;
+        let place = row.place()?;
         let from = place.saturating_sub(AROUND);
         let to = end(place, row.size as usize);
         let (before, after) = (place - from, to.checked_sub(place + 1)?);

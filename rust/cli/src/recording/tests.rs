@@ -21,16 +21,18 @@ struct Slow<'a> {
     /// How many bytes come before it fails.
     fails: Option<usize>,
     interrupted: bool,
+    all: u64,
 }
 
 impl<'a> Slow<'a> {
     fn new(bytes: &'a [u8], step: usize) -> Self {
-        let (fails, interrupted) = (None, false);
+        let (fails, interrupted, all) = (None, false, bytes.len() as u64);
         Self {
             bytes,
             step,
             fails,
             interrupted,
+            all,
         }
     }
 }
@@ -61,6 +63,10 @@ impl Source for Slow<'_> {
         let there = self.bytes.len() >= count;
         self.bytes = &self.bytes[count.min(self.bytes.len())..];
         Ok(there)
+    }
+
+    fn end(&mut self) -> io::Result<u64> {
+        Ok(self.all)
     }
 }
 
@@ -119,7 +125,7 @@ fn shown(broken: &Broken) -> Shown {
 
 /// The same of a row, from all the bytes.
 fn breaks(row: &Row, bytes: &[u8]) -> Option<Shown> {
-    let place = row.at as usize + row.refusal?.at()?;
+    let place = row.refusal?.at()?;
     let (start, end) = (row.at as usize, row.at as usize + row.size as usize);
     let (from, to) = (start.max(place - 8), end.min(place + 9));
     let sides = [bytes[from..place].to_vec(), bytes[place..to].to_vec()];
@@ -211,6 +217,38 @@ fn drawn_stretches_are_listed_as_one() {
         }
     }
     assert!(broken > 20, "{broken} broken strings");
+}
+
+/// Where a frame's header, its fields and its tail stand.
+fn ranges(start: u64, frame: &Listed) -> Vec<(u64, usize)> {
+    let fields = frame.fields().map(|field| field.range);
+    let front = [frame.header_range()].into_iter().chain(fields);
+    let all = front.chain([frame.tail_range()]);
+    all.map(|range| (start + range.start as u64, range.len()))
+        .collect()
+}
+
+/// What is read once more of a row stands where it does in one stretch.
+#[test]
+fn fields_stand_where_those_of_one_stretch_do() {
+    let (frames, draws) = (frames(), &mut Draws(3));
+    for _ in 0..60 {
+        let bytes = drawn(&frames, draws);
+        let owed: Vec<_> = stretch(&bytes)
+            .flatten()
+            .flat_map(|frame| ranges(0, &frame))
+            .collect();
+        for piece in [7, 11, 23, 64, 1 << 20] {
+            let source = Slow::new(&bytes, 1 + draws.below(400));
+            let (mut recording, mut told) = (Recording::new(source, piece), Vec::new());
+            while recording.go_on().expect("it can be read").is_none() {
+                let rows = recording.rows().iter();
+                told.extend(rows.flat_map(|row| ranges(row.at, &recording.frame(row))));
+            }
+            assert_eq!(told, owed, "pieces of {piece}");
+            assert_eq!(recording.end().expect("its length"), bytes.len() as u64);
+        }
+    }
 }
 
 /// In a long frame the bytes after the place may be none of those that its fields need.
@@ -315,6 +353,10 @@ impl Source for Sparse<'_> {
         let there = self.zeros >= count;
         self.zeros -= count.min(self.zeros);
         Ok(there)
+    }
+
+    fn end(&mut self) -> io::Result<u64> {
+        unreachable!("nobody asks how long it is")
     }
 }
 

@@ -1,5 +1,6 @@
 //! The command as users run it.
 
+mod fields;
 mod manners;
 mod memory;
 mod outputs;

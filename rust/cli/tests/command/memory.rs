@@ -9,9 +9,9 @@ use std::thread;
 use crate::running::*;
 
 /// The most that it had in memory, in bytes, when it has read all of its input, which comes by a pipe.
-fn peak(write: impl FnOnce(&mut dyn Write) + Send) -> u64 {
+fn peak(name: &str, write: impl FnOnce(&mut dyn Write) + Send) -> u64 {
     let mut command = command();
-    command.args(["list", "-"]);
+    command.args([name, "-"]);
     command.stdin(Stdio::piped()).stdout(Stdio::null());
     let mut child = command.stderr(Stdio::null()).spawn().expect("it starts");
     let mut pipe = child.stdin.take().expect("a pipe");
@@ -36,15 +36,17 @@ fn repeat(pipe: &mut dyn Write, bytes: &[u8], times: usize) {
 fn memory_does_not_grow_with_the_file() {
     const MB: u64 = 1_000_000;
     let many = SESSION.repeat(100);
-    let short = peak(|pipe| repeat(pipe, &many, 4));
-    let long = peak(|pipe| repeat(pipe, &many, 40));
-    assert!(long < short + 2 * MB, "{short} {long}");
+    let short = peak("list", |pipe| repeat(pipe, &many, 4));
+    for (name, times) in [("list", 40), ("fields", 12)] {
+        let long = peak(name, |pipe| repeat(pipe, &many, times));
+        assert!(long < short + 2 * MB, "{name}: {short} {long}");
+    }
 
     // A Twrite of one byte, and a tail of 100 MB.
     let mut front = b"\0\0\0\0\x76\x01\0\x02\0\0\0\0\0\0\0\0\0\0\0\x01\0\0\0".to_vec();
     front[..4].copy_from_slice(&100_000_023_u32.to_le_bytes());
     let tail = vec![1; 1 << 20];
-    let with_tail = peak(|pipe| {
+    let with_tail = peak("list", |pipe| {
         pipe.write_all(&front).expect("it reads");
         repeat(pipe, &tail, 90);
     });
@@ -52,7 +54,7 @@ fn memory_does_not_grow_with_the_file() {
 
     // The longest data in the same frame: that much has to be looked at.
     front[19..23].copy_from_slice(&33_554_432_u32.to_le_bytes());
-    let with_data = peak(|pipe| {
+    let with_data = peak("fields", |pipe| {
         pipe.write_all(&front).expect("it reads");
         repeat(pipe, &tail, 90);
     });

@@ -78,6 +78,22 @@ fn of_a_broken_string_the_byte_stands_out() {
     }
 }
 
+#[test]
+fn parts_that_are_no_fields_stand_out() {
+    let folder = Folder::new();
+    let file = folder.file("a", &[TAIL, UNKNOWN, &[1]].concat());
+    let Some(painted) = shown(&format!("fields {file}"), &[]) else {
+        return;
+    };
+    for owed in [
+        "\n0 108 oldtag 7 2 2\n\x1b[33m0 108 tail 9 2 2 bytes\x1b[0m\n",
+        "\n\x1b[31m11 106 refused 18 0 3 the message type is unknown\x1b[0m\n",
+        "\n\x1b[31m18 - rest 18 1 12 the stretch of frames is cut\x1b[0m\n",
+    ] {
+        assert!(painted.contains(owed), "{owed:?} in {painted:?}");
+    }
+}
+
 /// A pipe that is slow, so that the line comes however fast the machine is.
 #[test]
 fn a_long_wait_has_a_line_that_is_cleared() {
