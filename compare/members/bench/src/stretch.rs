@@ -52,14 +52,14 @@ fn ours(bytes: &[u8]) -> usize {
         if !step.held {
             return accepted;
         }
-        let frame = &bytes[at..step.place];
+        let frame = &bytes[..step.place];
         accepted += usize::from(match step.ty % 2 {
             0 => {
-                request.read(frame);
+                request.read_body(frame, at, step.ty);
                 black_box(&request).outcome.refusal == 0
             }
             _ => {
-                reply.read(frame);
+                reply.read_body(frame, at, step.ty);
                 black_box(&reply).outcome.refusal == 0
             }
         });

@@ -30,12 +30,14 @@ pub type CrossedT = Crossed<T_VALUES>;
 pub type CrossedR = Crossed<R_VALUES>;
 
 impl<const N: usize> Crossed<N> {
-    /// As if another frame had been read there.
-    fn used() -> Self {
-        Self {
+    /// Read as if another frame had been read there.
+    fn told(read: impl FnOnce(&mut Self)) -> Flat {
+        let mut frame = Self {
             outcome: Outcome::default(),
             values: [UNWRITTEN; N],
-        }
+        };
+        read(&mut frame);
+        frame.into()
     }
 }
 
@@ -48,21 +50,30 @@ impl<const N: usize> Default for Crossed<N> {
     }
 }
 
-/// What crosses the boundary for a direction. Both functions are the library's and no more, so that
+/// What crosses the boundary for a direction. All functions are the library's and no more, so that
 /// nothing else is in their time.
 pub trait Crossing: Copy + Default {
     fn read(&mut self, bytes: &[u8]);
+    /// The body of a frame that stands from a position to the end of the bytes.
+    fn read_body(&mut self, bytes: &[u8], at: usize, ty: u8);
     fn write(&self, out: &mut [u8], lent: &[u8]) -> Outcome;
 }
 
 macro_rules! crossing {
-    ($crossed:ident $read:ident $write:ident) => {
+    ($crossed:ident $read:ident $body:ident $write:ident) => {
         impl Crossing for $crossed {
             #[inline]
             fn read(&mut self, bytes: &[u8]) {
                 // SAFETY: the pointer and the count are a slice's, which the library reads and
                 // does not keep; the values are borrowed alone, and as many as the function takes.
                 self.outcome = unsafe { $read(bytes.as_ptr(), bytes.len(), &mut self.values) };
+            }
+
+            #[inline]
+            fn read_body(&mut self, bytes: &[u8], at: usize, ty: u8) {
+                let (from, count) = (bytes.as_ptr(), bytes.len());
+                // SAFETY: as in reading a frame.
+                self.outcome = unsafe { $body(from, count, at, ty, &mut self.values) };
             }
 
             #[inline]
@@ -78,21 +89,21 @@ macro_rules! crossing {
     };
 }
 
-crossing!(CrossedT sheafsledge_read_tframe sheafsledge_write_tframe);
-crossing!(CrossedR sheafsledge_read_rframe sheafsledge_write_rframe);
+crossing!(CrossedT sheafsledge_read_tframe sheafsledge_read_tbody sheafsledge_write_tframe);
+crossing!(CrossedR sheafsledge_read_rframe sheafsledge_read_rbody sheafsledge_write_rframe);
 
 pub fn read(direction: Direction, bytes: &[u8]) -> Flat {
     match direction {
-        Direction::T => {
-            let mut frame = CrossedT::used();
-            frame.read(bytes);
-            frame.into()
-        }
-        Direction::R => {
-            let mut frame = CrossedR::used();
-            frame.read(bytes);
-            frame.into()
-        }
+        Direction::T => CrossedT::told(|frame| frame.read(bytes)),
+        Direction::R => CrossedR::told(|frame| frame.read(bytes)),
+    }
+}
+
+/// The body of a frame that stands from a position to the end of the bytes.
+pub fn read_body(direction: Direction, bytes: &[u8], at: usize, ty: u8) -> Flat {
+    match direction {
+        Direction::T => CrossedT::told(|frame| frame.read_body(bytes, at, ty)),
+        Direction::R => CrossedR::told(|frame| frame.read_body(bytes, at, ty)),
     }
 }
 

@@ -86,7 +86,7 @@ fn again(direction: Direction, bytes: &[u8], draws: &mut Draws) -> Outcome {
     first_difference(all.map(|of| asked(*of, &frame, draws)))
 }
 
-/// A frame read, and the record written again where there is one.
+/// A frame read, alone and in a stretch, and the record written again where there is one.
 fn read(direction: Direction, bytes: &[u8]) -> Outcome {
     let ours = ours::read(direction, bytes);
     if wraps(direction, bytes) {
@@ -95,6 +95,9 @@ fn read(direction: Direction, bytes: &[u8]) -> Outcome {
     let theirs = theirs::read(direction, bytes);
     if ours != theirs.flat || !theirs.shown {
         return differs(format!("{ours:?}"), read_by(&theirs));
+    }
+    if let Some(outcome) = stretches::moved(direction, bytes, &theirs) {
+        return outcome;
     }
     let outcome = match &theirs.again {
         None => Outcome::Refused,

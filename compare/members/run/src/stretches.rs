@@ -1,13 +1,19 @@
-//! A stretch, frame by frame: cut as the paper says, and each frame answered by the seller's Rust.
+//! A stretch, frame by frame: cut as the paper says, and each frame answered by the seller's Rust. What
+//! is read of it in its place is held to what it is alone.
 
-use judge::cases::unknown;
+use std::ops::Range;
+
+use judge::cases::{header, unknown, DIRECTIONS};
 use judge::stretch::whole;
 use judge::Direction;
 use ours::{Flat, Outcome as Told};
 use p9::draw::Draws;
 
-use crate::compare::{differs, told, Outcome};
-use crate::theirs;
+use crate::compare::{differs, in_a_room, told, Outcome};
+use crate::theirs::{self, Theirs};
+
+/// A frame's size, its type and its tag.
+const HEADER: usize = 7;
 
 /// From 0 on to the end or a refusal, and then at a few positions where no frame need start.
 pub fn stretch(bytes: &[u8], draws: &mut Draws) -> Outcome {
@@ -21,14 +27,17 @@ pub fn stretch(bytes: &[u8], draws: &mut Draws) -> Outcome {
         if !theirs.held {
             break;
         }
+        let (at, ty) = (position, theirs.ty);
         position = theirs.place;
-        if let Some(outcome) = pairs(theirs.ty, theirs.tag) {
+        let in_place = || in_its_place(way(ty), bytes, at..position, ty);
+        if let Some(outcome) = pairs(ty, theirs.tag).or_else(in_place) {
             return outcome;
         }
     }
     for _ in 0..3 {
         let position = draws.below(bytes.len() + 3);
-        if let Some(outcome) = beside(bytes, position, &step(bytes, position)) {
+        let anywhere = || any_body(bytes, position, draws);
+        if let Some(outcome) = beside(bytes, position, &step(bytes, position)).or_else(anywhere) {
             return outcome;
         }
     }
@@ -48,10 +57,75 @@ fn beside(bytes: &[u8], position: usize, theirs: &Step) -> Option<Outcome> {
     (ours != *theirs).then(|| differs(format!("{ours:?}"), format!("{theirs:?}")))
 }
 
+/// The bytes from a position on as a body, up to any end, of any type and either direction.
+fn any_body(bytes: &[u8], at: usize, draws: &mut Draws) -> Option<Outcome> {
+    let end = at + draws.below(bytes.len().saturating_sub(at) + 1);
+    let types = [draws.byte(), draws.one_of(&[108, 110, 111, 100, 117, 23])];
+    let way = draws.one_of(&DIRECTIONS);
+    let range = at..end.min(bytes.len());
+    types
+        .into_iter()
+        .find_map(|ty| in_its_place(way, bytes, range.clone(), ty))
+}
+
+/// The body at a position, beside what the same frame is alone.
+fn in_its_place(way: Direction, bytes: &[u8], range: Range<usize>, ty: u8) -> Option<Outcome> {
+    let Range { start: at, end } = range;
+    let Some(body) = bytes.get(at + HEADER..end) else {
+        // The type is looked for first.
+        let refusal = if unknown(way).contains(&ty) { 3 } else { 1 };
+        let ours = ours::read_body(way, &bytes[..end], at, ty);
+        return unlike(&ours, &theirs::refused((refusal, 0)).flat);
+    };
+    let tag = u16::from_le_bytes([bytes[at + 5], bytes[at + 6]]);
+    let frame = [&header((end - at) as u32, ty, tag), body].concat();
+    let theirs = theirs::read(way, &frame);
+    in_a_stretch(way, &frame, &theirs, 0, &frame)
+        .or_else(|| in_a_stretch(way, bytes, &theirs, at, &frame))
+}
+
+/// A frame that was read alone, after some bytes and before others. No byte after its size counts.
+pub fn moved(way: Direction, frame: &[u8], theirs: &Theirs) -> Option<Outcome> {
+    let size = u32::from_le_bytes(*frame.first_chunk()?) as usize;
+    let own = frame.get(..size).unwrap_or(frame);
+    if own.len() < HEADER {
+        return None;
+    }
+    let draws = &mut Draws::new(frame.len() as u64);
+    let at = draws.below(300);
+    let stretch = [&draws.bytes(at), frame].concat();
+    in_a_stretch(way, &stretch, theirs, at, own)
+}
+
+/// What is read at a position of a stretch, where that frame's body stands: the values of the frame
+/// alone, raised by the position. And it is written again, with all of the stretch lent.
+fn in_a_stretch(
+    way: Direction,
+    stretch: &[u8],
+    theirs: &Theirs,
+    at: usize,
+    frame: &[u8],
+) -> Option<Outcome> {
+    let ty = frame[4];
+    let mut ours = ours::read_body(way, &stretch[..at + frame.len()], at, ty);
+    let owed = theirs::raised(way, ty, &theirs.flat, at);
+    unlike(&ours, &owed).or_else(|| {
+        let again = theirs.again.clone().filter(|_| owed.outcome.refusal == 0)?;
+        ours.outcome.ty = ty;
+        ours.outcome.tag = u16::from_le_bytes([frame[5], frame[6]]);
+        let write = |out: &mut [u8]| ours::write(way, out, stretch, &ours);
+        Some(in_a_room(frame.len(), again, write)).filter(Outcome::differs)
+    })
+}
+
+fn unlike(ours: &Flat, theirs: &Flat) -> Option<Outcome> {
+    (ours != theirs).then(|| differs(format!("{ours:?}"), format!("{theirs:?}")))
+}
+
 /// The type of an Rlerror, which answers any request.
 pub const RLERROR: u8 = 7;
 
-fn way(ty: u8) -> Direction {
+pub fn way(ty: u8) -> Direction {
     match ty % 2 {
         0 => Direction::T,
         _ => Direction::R,

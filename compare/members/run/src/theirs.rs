@@ -27,6 +27,35 @@ pub struct Theirs {
     pub again: Option<Again>,
 }
 
+/// What is told of a frame's body at a position of a stretch, by what the frame is alone: spans and
+/// parts, the empty ones too, and the place of a text count from the stretch's first byte; numbers,
+/// and the bytes used, are as they were. There is neither a type nor a tag.
+pub fn raised(direction: Direction, ty: u8, alone: &Flat, by: usize) -> Flat {
+    let Outcome { refusal, place, .. } = alone.outcome;
+    let place = match refusal {
+        5 | 6 => place + by,
+        _ => place,
+    };
+    let mut values = alone.values;
+    if refusal == 0 {
+        let mut at = 0;
+        for field in layout(direction, ty).unwrap_or_default() {
+            // Which of its values is a position, if one is, and how many it has.
+            let (position, count) = match field {
+                Value::Number(..) => (None, 1),
+                Value::String(_) | Value::Data(_) => (Some(at), 2),
+                Value::Names(_) | Value::Qids(_) => (Some(at + 1), 3),
+            };
+            if let Some(at) = position {
+                values[at] += by as u64;
+            }
+            at += count;
+        }
+    }
+    let outcome = compare::told(refusal, place);
+    Flat { outcome, values }
+}
+
 /// What the paper has of the seller's answer: all of it, but for walks of more than sixteen elements,
 /// which the seller reads.
 pub fn read(direction: Direction, bytes: &[u8]) -> Theirs {

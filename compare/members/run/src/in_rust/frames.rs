@@ -71,7 +71,7 @@ fn read<'a, F: Frame<'a>>(bytes: &'a [u8]) -> Found {
     let ty = ours.as_ref().map_or_else(|refusal| Err(*refusal), F::ty);
     let placed = ours.difference(&theirs).or_else(|| {
         let refusal = ty.err()?;
-        placed(F::DIRECTION, bytes, refusal)
+        placed(F::DIRECTION, bytes, refusal, 0)
     });
     placed.or_else(|| {
         let (ours, theirs) = (ours.ok()?, theirs.ok()?);
@@ -81,10 +81,11 @@ fn read<'a, F: Frame<'a>>(bytes: &'a [u8]) -> Found {
     })
 }
 
-/// Which byte it tells of, beside the standard library's.
-pub fn placed(direction: Direction, frame: &[u8], ours: Refusal) -> Found {
-    let theirs = in_a_frame(direction, frame, ours.number());
-    unequal(&ours.at().unwrap_or(0), &theirs)
+/// Which byte it tells of, beside the standard library's, of a frame at a position.
+pub fn placed(direction: Direction, frame: &[u8], ours: Refusal, at: usize) -> Found {
+    let number = ours.number();
+    let theirs = in_a_frame(direction, frame, number).saturating_add(at);
+    unequal(&ours.at(), &matches!(number, 5 | 6).then_some(theirs))
 }
 
 /// Row 13 of docs/DIFFERENCES.md is known.

@@ -43,7 +43,7 @@ pub fn asked(of: Of, bytes: &[u8]) -> Found {
         Of::Table(Direction::R) => parts::rwalk(bytes, draws),
         Of::Over(Direction::T) => parts::too_many_names(bytes),
         Of::Over(Direction::R) => parts::too_many_qids(bytes),
-        Of::Stretch => stretches::stretch(bytes),
+        Of::Stretch => stretches::stretch(bytes, draws),
         Of::Text => text(bytes),
         // The crate takes no flat values, and what is asked again is asked in the other ways.
         Of::Raw(_) | Of::Again(_) | Of::Row(_) => None,
