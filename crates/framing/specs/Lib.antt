@@ -21,3 +21,5 @@ pub mod Broken
 pub mod Positions
 pub mod Lent
 pub mod Shown
+pub mod Joining
+pub mod JoiningLaws

@@ -27,6 +27,18 @@ pub record Front (xs : List ℕ) (n : ℕ) : Type 0 where
   pub seven : 7 ≤ n
   pub held : n ≤ length xs
 
+-- a frame or a refusal, whatever the position
+pub front-either : (ts rs : List Row) (xs : List ℕ) {X : Type 0} → ((n : ℕ) → Front xs n → X) → ((k : Refusal) → ((p : ℕ) → front ts rs p xs ≡ stop k p) → X) → X
+unfolding front
+front-either ts rs xs f g =
+    or-else 4 (length xs)
+    (λ a. or-else 7 (sizeIn xs)
+    (λ b. or-else (sizeIn xs) (length xs)
+    (λ c. f (sizeIn xs) (record { four = a; size = refl; seven = b; held = c }))
+    (λ c. g R.StretchCut (λ p. rw (le-ltb (length xs) 4 a, le-ltb (sizeIn xs) 7 b, lt-ltb (length xs) (sizeIn xs) c))))
+    (λ b. g R.StretchSize (λ p. rw (le-ltb (length xs) 4 a, lt-ltb (sizeIn xs) 7 b))))
+    (λ a. g R.StretchCut (λ p. rw (lt-ltb (length xs) 4 a)))
+
 module _ (ts rs : List Row) (p : ℕ) (xs : List ℕ) where
   pub front-frame : {n : ℕ} → Front xs n → front ts rs p xs ≡ listedFrame ts rs p (take n xs)
   unfolding front
@@ -34,15 +46,7 @@ module _ (ts rs : List Row) (p : ℕ) (xs : List ℕ) where
 
   -- it is a frame, or a refusal at that position
   pub front-case : {X : Type 0} → ((n : ℕ) → Front xs n → front ts rs p xs ≡ listedFrame ts rs p (take n xs) → X) → ((k : Refusal) → front ts rs p xs ≡ stop k p → X) → X
-  unfolding front
-  front-case f g =
-      or-else 4 (length xs)
-      (λ a. or-else 7 (sizeIn xs)
-      (λ b. or-else (sizeIn xs) (length xs)
-      (λ c. let h : Front xs (sizeIn xs) = record { four = a; size = refl; seven = b; held = c } in f (sizeIn xs) h (front-frame h))
-      (λ c. g R.StretchCut (rw (le-ltb (length xs) 4 a, le-ltb (sizeIn xs) 7 b, lt-ltb (length xs) (sizeIn xs) c))))
-      (λ b. g R.StretchSize (rw (le-ltb (length xs) 4 a, lt-ltb (sizeIn xs) 7 b))))
-      (λ a. g R.StretchCut (rw (lt-ltb (length xs) 4 a)))
+  front-case f g = front-either ts rs xs (λ n h. f n h (front-frame h)) (λ k e. g k (e p))
 
 -- ---- the listing, one frame on
 
@@ -50,12 +54,12 @@ entry-sized : {p ty tag m n : ℕ} (a : Answer) {l l' : Listing} → m ≡ n →
 entry-sized a e f = rw (e, f)
 
 module _ (ts rs : List Row) where
-  list-frame : (p x : ℕ) (xs : List ℕ) {at n ty tag tail next : ℕ} {a : Answer} → front ts rs p (x ∷ xs) ≡ frame at n ty tag a tail next
+  pub list-frame : (p x : ℕ) (xs : List ℕ) {at n ty tag tail next : ℕ} {a : Answer} → front ts rs p (x ∷ xs) ≡ frame at n ty tag a tail next
       → listFrom ts rs p 0 (x ∷ xs) ≡ entry at n ty tag a tail (listFrom ts rs (suc p) (pred n) xs)
   unfolding listFrom
   list-frame p x xs e = rw (e, listFrom)
 
-  list-stop : (p x : ℕ) (xs : List ℕ) {k : Refusal} → front ts rs p (x ∷ xs) ≡ stop k p → listFrom ts rs p 0 (x ∷ xs) ≡ stops k p
+  pub list-stop : (p x : ℕ) (xs : List ℕ) {k : Refusal} → front ts rs p (x ∷ xs) ≡ stop k p → listFrom ts rs p 0 (x ∷ xs) ≡ stops k p
   unfolding listFrom
   list-stop p x xs e = rw (e, listFrom)
 

@@ -1,7 +1,7 @@
 -- Demand 3 of the functions of any dialect, over its rows, its messages, what its readers answer, and how that is seen as a frame.
 use Prim.Native.Nat.{ℕ, _+_, _-_, _^_, _≤_, _<_}
 use native.Mathlib.Omega.{arith}
-use mathlib.Core.Path.{_≡_, refl, sym, ap, _∙_}
+use mathlib.Core.Path.{_≡_, refl, sym, ap, ap₂, _∙_, subst}
 use mathlib.Core.List.{List, _++_}
 use mathlib.Core.Option.{some}
 use lib.ListN.{length, take, drop, length-append}
@@ -21,12 +21,14 @@ use Rattle.framing.specs.Writing.{headBytes, FrameWritten}
 use Rattle.framing.specs.WritingLaws.{head-length}
 use Rattle.framing.specs.Local.{sizeIn, local}
 use Rattle.framing.specs.Stretch.{typeIn, tagIn, answerIn, answerOf, Step, frame, end, stop, frameAt, Listing, entry, ends, stops, listing}
-use Rattle.framing.specs.ListingLaws.{goesOn, listed, list-step, moves-on}
+use Rattle.framing.specs.ListingLaws.{goesOn, listed, list-step, moves-on, stopsAt}
 use Rattle.framing.specs.Accepted.{at-front, Accepts, accepts}
 use Rattle.framing.specs.ReadBack.{Readable, Back, read-back}
 use Rattle.framing.specs.Stripped.{resized, stripped-is, stripped-read, stripped-written, cutAt, cut-short}
 use Rattle.framing.specs.Demand.{Whole, Edited, oldLines, newLines, old-listed, new-listed, repeated, accident}
 use Rattle.framing.specs.Shown.{recordsIn, same-records}
+use Rattle.framing.specs.Joining.{joined, Ends}
+use Rattle.framing.specs.JoiningLaws.{end-is-length, joined-listing}
 
 -- ---- `frame_at`, asked at a position and then at each next one
 
@@ -64,6 +66,13 @@ module _ (rowsT rowsR : List Row) where
   pub lists-once : (f : List ℕ) {ty used : ℕ} {vs : List Value} {L : Listing} → Bytes f → Whole f → length f + length f < 256 ^ 4 → answerOf rowsT rowsR f ≡ accepted ty vs used → Lists (repeated f) 0 L
       → L ≡ entry 0 (length f + length f) (typeIn f) (tagIn f) (accepted ty vs used) (length f - used + length f) (ends (length f + length f))
   lists-once f b w h a x = lists (repeated f) x ∙ accident rowsT rowsR f b w a h
+
+  -- 7. two stretches joined, of which the first reads to its end
+  pub lists-joined : (s t : List ℕ) {L M N : Listing} → Lists s 0 L → Lists t 0 M → Lists (s ++ t) 0 N → Ends L → (stopsAt L ≡ length s) × (N ≡ joined L M)
+  lists-joined s t x y z e =
+      let l = lists s x in
+      let h = subst Ends l e in
+      (ap stopsAt l ∙ end-is-length rowsT rowsR s h, lists (s ++ t) z ∙ joined-listing rowsT rowsR s t h ∙ ap₂ joined (sym l) (sym (lists t y)))
 
 -- ---- a stripped frame has nothing left to strip
 

@@ -1,4 +1,4 @@
--- F8.9: examples of a listing, B, C, K and J of F10 joined, and of its positions, computed from the definition.
+-- F8.9: examples of a listing, B, C, K and J of F10 joined, of its positions, and of listings joined, computed from the definition.
 use Prim.Native.Nat.{ℕ}
 use mathlib.Core.Path.{_≡_, refl}
 use mathlib.Core.List.{List, [], _∷_}
@@ -12,7 +12,8 @@ use Rattle.fields.specs.Values.{val, span, part, places}
 use Rattle.layouts.specs.Tables.{tableT, tableR}
 use Rattle.layouts.specs.Bodies.{accepted, refused}
 use Rattle.framing.specs.Frames.{readTypeTag, readHeader, readFrame}
-use Rattle.framing.specs.Stretch.{answerOf, front, entry, ends, listFrom, listing}
+use Rattle.framing.specs.Stretch.{answerOf, front, entry, ends, stops, listFrom, listing}
+use Rattle.framing.specs.Joining.{joined}
 
 pub b-c-k-j :
     listing tableT tableR
@@ -34,3 +35,19 @@ pub b-e-a-f-l :
     (entry 54 9 111 3 (accepted 111 (part 0 63 0 ∷ []) 9) 0 (entry 63 15 100 65535 (refused R.NotUtf8 76) 0 (ends 78)))))
 unfolding fromLE toLE raw readNum char chars utf8 sound soundStart noZero zeroAt readString stringBytes readMany readField readFields manyBytes itemBytes itemsBytes places readTypeTag readHeader readFrame answerOf front listFrom listing
 b-e-a-f-l = refl
+
+-- joined (F6.10): B and L, and then E with three bytes more. Of the second its frame, its part and its last line are 24 later; the refused body of the first does not end it
+pub b-l-and-e :
+    joined (listing tableT tableR (9 ∷ 0 ∷ 0 ∷ 0 ∷ 108 ∷ 1 ∷ 0 ∷ 2 ∷ 0 ∷ 15 ∷ 0 ∷ 0 ∷ 0 ∷ 100 ∷ 255 ∷ 255 ∷ 0 ∷ 32 ∷ 0 ∷ 0 ∷ 2 ∷ 0 ∷ 192 ∷ 128 ∷ []))
+    (listing tableT tableR
+    (24 ∷ 0 ∷ 0 ∷ 0 ∷ 110 ∷ 3 ∷ 0 ∷ 1 ∷ 0 ∷ 0 ∷ 0 ∷ 2 ∷ 0 ∷ 0 ∷ 0 ∷ 2 ∷ 0 ∷ 1 ∷ 0 ∷ 97 ∷ 2 ∷ 0 ∷ 98 ∷ 99 ∷ 9 ∷ 0 ∷ 0 ∷ []))
+    ≡ entry 0 9 108 1 (accepted 108 (val 2 ∷ []) 9) 0
+    (entry 9 15 100 65535 (refused R.NotUtf8 22) 0 (entry 24 24 110 3 (accepted 110 (val 1 ∷ val 2 ∷ part 2 41 7 ∷ []) 24) 0 (stops R.StretchCut 48)))
+unfolding fromLE toLE raw readNum char chars utf8 sound soundStart noZero zeroAt readString stringBytes readMany readField readFields manyBytes itemBytes itemsBytes places readTypeTag readHeader readFrame answerOf front listFrom listing
+b-l-and-e = refl
+
+-- why the first has to read to its end: B without its last byte, and then C. The first byte of C is taken for what B lacks, and the rest of C for no frame
+pub cut-b-and-c :
+    listing tableT tableR (9 ∷ 0 ∷ 0 ∷ 0 ∷ 108 ∷ 1 ∷ 0 ∷ 2 ∷ 7 ∷ 0 ∷ 0 ∷ 0 ∷ 109 ∷ 1 ∷ 0 ∷ []) ≡ entry 0 9 108 1 (accepted 108 (val 1794 ∷ []) 9) 0 (stops R.StretchCut 9)
+unfolding fromLE toLE raw readNum readField readFields itemBytes itemsBytes places readTypeTag readHeader readFrame answerOf front listFrom listing
+cut-b-and-c = refl

@@ -2,7 +2,7 @@
 use Prim.Native.Nat.{ℕ, _+_, _-_, _%_, _^_, _≤_, _<_}
 use native.Mathlib.Omega.{arith}
 use mathlib.Core.Path.{_≡_, refl, sym, ap, _∙_}
-use mathlib.Core.List.{List}
+use mathlib.Core.List.{List, _++_}
 use mathlib.Core.Option.{some}
 use lib.ListN.{length, take}
 use mir.Val.{WT}
@@ -37,7 +37,7 @@ use Rattle.frames.specs.declared.ReadTframe.the-variants as T
 use Rattle.frames.specs.declared.ReadRframe.{ReadRframe}
 use Rattle.frames.specs.declared.ReadRframe.the-variants as Q
 use Rattle.framing.specs.Stretch.{typeIn, tagIn, tableFor, answerIn, answerOf, Listing, entry, ends, stops, listing}
-use Rattle.framing.specs.ListingLaws.{goesOn, listed}
+use Rattle.framing.specs.ListingLaws.{goesOn, listed, stopsAt}
 use Rattle.stretch.specs.Views.{viewBody, viewStep, Asked}
 use Rattle.framing.specs.ReadBack.{Back}
 use Rattle.stretch.specs.Limits.{Limited}
@@ -46,9 +46,10 @@ use Rattle.stretch.specs.Known.{row-of-request, type-of-request, row-of-
 use Rattle.framing.specs.Stripped.{resized, cutAt}
 use Rattle.framing.specs.Demand.{Whole, Edited, oldLines, newLines, repeated}
 use Rattle.framing.specs.Shown.{recordsIn}
+use Rattle.framing.specs.Joining.{joined, Ends}
 use Rattle.framing.specs.Positions.{listed-written}
 use Rattle.framing.specs.Cuts.{between}
-use Rattle.stretch.specs.Dialects.{frames, ended, stopped, Lists, listed-by, lists, lists-edited, lists-once, Direction, stripped, written, written-again, cut, back, local-read}
+use Rattle.stretch.specs.Dialects.{frames, ended, stopped, Lists, listed-by, lists, lists-edited, lists-once, lists-joined, Direction, stripped, written, written-again, cut, back, local-read}
 use Rattle.stretch.specs.declared.Body.the-variants as B
 use Rattle.stretch.specs.declared.Listed.{Listed}
 use Rattle.stretch.specs.declared.Step.{Step}
@@ -230,3 +231,8 @@ module _ (s : List ℕ) {p used : ℕ} (l : Listed) (b : Bytes s) (a : Asked s p
 pub accident-of-the-leap-second : (f : List ℕ) {used : ℕ} {vs : List Value} {L : Listing} → Bytes f → Whole f → length f + length f < 256 ^ 4 → answerOf tableT tableR f ≡ accepted 118 vs used → Asks (repeated f) 0 L
     → L ≡ entry 0 (length f + length f) (typeIn f) (tagIn f) (accepted 118 vs used) (length f - used + length f) (ends (length f + length f))
 accident-of-the-leap-second f b w h a x = lists-once tableT tableR f b w h a (seen (repeated f) x)
+
+-- ---- 8. joined: if the first stretch reads to its end, that is its length, and both are listed as the first is, and then as the second is, later by so much
+
+pub both-listed : (s t : List ℕ) {L M N : Listing} → Asks s 0 L → Asks t 0 M → Asks (s ++ t) 0 N → Ends L → (stopsAt L ≡ length s) × (N ≡ joined L M)
+both-listed s t x y z e = lists-joined tableT tableR s t (seen s x) (seen t y) (seen (s ++ t) z) e
