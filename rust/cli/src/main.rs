@@ -8,6 +8,7 @@ mod digits;
 mod fields;
 mod help;
 mod input;
+mod join;
 mod list;
 mod output;
 mod pairs;
@@ -30,6 +31,7 @@ const COMMANDS: &[Command] = &[
     pairs::COMMAND,
     r#where::COMMAND,
     fields::COMMAND,
+    join::COMMAND,
 ];
 
 fn main() -> ExitCode {

@@ -42,6 +42,17 @@ impl Output {
         }
     }
 
+    /// A file that appears whole or not at all: standard output and devices can't.
+    pub fn whole(word: &OsStr) -> Result<Self, Failure> {
+        let opened = match about(word) {
+            Ok(Some(about)) if !about.is_file() && !about.is_dir() => Err(no_file()),
+            Ok(_) if is_standard(word) => Err(no_file()),
+            Ok(_) => file(word),
+            Err(error) => Err(error),
+        };
+        opened.map_err(|error| Failure::file(&shown(word), error))
+    }
+
     fn new(name: String, file: File, pending: Option<Pending>) -> Self {
         let terminal = file.is_terminal();
         let (most, text) = match terminal {
@@ -109,14 +120,23 @@ fn standard() -> io::Result<Output> {
     Ok(Output::new("standard output".into(), file, None))
 }
 
+/// What is there under that name, if anything is.
+fn about(word: &OsStr) -> io::Result<Option<Metadata>> {
+    match fs::metadata(word) {
+        Ok(about) => Ok(Some(about)),
+        Err(error) if error.kind() == ErrorKind::NotFound => Ok(None),
+        Err(error) => Err(error),
+    }
+}
+
+fn no_file() -> io::Error {
+    io::Error::other("not a file, so it cannot appear whole or not at all")
+}
+
 /// A device or a pipe is written as it is: a rename would replace it.
 fn file(word: &OsStr) -> io::Result<Output> {
     let wanted = Path::new(word);
-    let about = match fs::metadata(wanted) {
-        Ok(about) => Some(about),
-        Err(error) if error.kind() == ErrorKind::NotFound => None,
-        Err(error) => return Err(error),
-    };
+    let about = about(word)?;
     let (file, pending) = match about {
         Some(about) if !about.is_file() => (OpenOptions::new().write(true).open(wanted)?, None),
         about => {

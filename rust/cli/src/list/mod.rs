@@ -75,11 +75,8 @@ fn run(words: &Words) -> Result<Status, Failure> {
     })
 }
 
-/// The files that are named, by a command whose lines are a frame's each.
-pub fn listed(
-    words: &Words,
-    form: impl FnOnce(Paint, Listing, &[OsString]) -> Result<Status, Failure>,
-) -> Result<Status, Failure> {
+/// At least one file, and standard input at most once.
+pub fn named_files(words: &Words) -> Result<&[OsString], Failure> {
     let files = words.files();
     if files.is_empty() {
         return Err(words.wrong("name a file, or '-' for standard input".into()));
@@ -87,6 +84,15 @@ pub fn listed(
     if files.iter().filter(|file| is_standard(file)).count() > 1 {
         return Err(words.wrong("standard input, '-', is named twice".into()));
     }
+    Ok(files)
+}
+
+/// The files that are named, by a command whose lines are a frame's each.
+pub fn listed(
+    words: &Words,
+    form: impl FnOnce(Paint, Listing, &[OsString]) -> Result<Status, Failure>,
+) -> Result<Status, Failure> {
+    let files = named_files(words)?;
     let output = Output::open(words.value(OUTPUT.long))?;
     let watched = is_watched(output.is_terminal());
     let paint = Paint::on(output.is_terminal());

@@ -1,6 +1,7 @@
 //! The command as users run it.
 
 mod fields;
+mod join;
 mod manners;
 mod memory;
 mod outputs;
