@@ -133,6 +133,16 @@ pub fn write_r(
     unsafe { sheafsledge_write_rframe(to, room, from, count, 0, ty, crossing(tag), values) }
 }
 
+/// An Rgetattr, which has no spans.
+#[inline]
+pub fn write_rgetattr(out: &mut [u8], tag: Tag, values: &[u64; R_VALUES]) -> Outcome {
+    let (to, room, lent): (_, _, &[u8]) = (out.as_mut_ptr(), out.len(), &[]);
+    // SAFETY: as for `write_t`.
+    unsafe {
+        sheafsledge_write_rgetattr(to, room, lent.as_ptr(), lent.len(), crossing(tag), values)
+    }
+}
+
 pub fn write_dirent(
     out: &mut [u8],
     at: usize,

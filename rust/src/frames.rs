@@ -228,10 +228,19 @@ impl<'a> Rframe<'a> {
         if let Some(ty) = self.msg.empty() {
             return ffi::write_r(out, &[], (ty, self.tag), &[0; R_VALUES]).told();
         }
-        if let Rmessage::Walk(walk) = &self.msg {
-            if let Some(qids) = walk.wqids.lent() {
-                return ffi::write_rwalk(out, self.tag, qids);
+        match &self.msg {
+            Rmessage::Walk(walk) => {
+                if let Some(qids) = walk.wqids.lent() {
+                    return ffi::write_rwalk(out, self.tag, qids);
+                }
             }
+            // Every file is asked for it, and no arm has to be found for it on either side.
+            Rmessage::GetAttr(attr) => {
+                let mut values = [0; R_VALUES];
+                fill(&mut values, attr);
+                return ffi::write_rgetattr(out, self.tag, &values).told();
+            }
+            _ => {}
         }
         written_r(self.tag, &self.msg, out).told()
     }

@@ -1,6 +1,7 @@
 // The functions that Rust calls, but for those of a frame, which stand in `request_exports`, `reply_exports` and `stretch_exports`. Nothing is decided in
 // them: what the crates below answer is taken apart and laid flat, and what they take is put together.
 
+pub mod attributes;
 pub mod dirents;
 pub mod stretches;
 pub mod texts;

@@ -144,6 +144,15 @@ extern "C" {
         tag: Tag,
         values: *const [u64; R_VALUES],
     ) -> Outcome;
+    /// Writes an Rgetattr, type 25, as `sheafsledge_write_rframe` does.
+    pub fn sheafsledge_write_rgetattr(
+        out: *mut u8,
+        room: usize,
+        lent: *const u8,
+        count: usize,
+        tag: Tag,
+        values: *const [u64; R_VALUES],
+    ) -> Outcome;
     /// Reads the directory entry at a place.
     pub fn sheafsledge_read_dirent(
         bytes: *const u8,
