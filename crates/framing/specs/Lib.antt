@@ -23,3 +23,5 @@ pub mod Lent
 pub mod Shown
 pub mod Joining
 pub mod JoiningLaws
+pub mod Damage
+pub mod DamageLaws

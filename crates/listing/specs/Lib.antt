@@ -3,5 +3,6 @@ pub mod TextLaws
 pub mod AnswerLaws
 pub mod ListLaws
 pub mod RoomLaws
+pub mod Lines
 pub mod Inputs
 pub mod Examples

@@ -29,6 +29,8 @@ use Rattle.framing.specs.Demand.{Whole, Edited, oldLines, newLines, old-listed,
 use Rattle.framing.specs.Shown.{recordsIn, same-records}
 use Rattle.framing.specs.Joining.{joined, Ends}
 use Rattle.framing.specs.JoiningLaws.{end-is-length, joined-listing}
+use Rattle.framing.specs.Damage.{Has, Damaged, EqualBut}
+use Rattle.framing.specs.DamageLaws.{damaged-listing}
 
 -- ---- `frame_at`, asked at a position and then at each next one
 
@@ -73,6 +75,13 @@ module _ (rowsT rowsR : List Row) where
       let l = lists s x in
       let h = subst Ends l e in
       (ap stopsAt l ∙ end-is-length rowsT rowsR s h, lists (s ++ t) z ∙ joined-listing rowsT rowsR s t h ∙ ap₂ joined (sym l) (sym (lists t y)))
+
+  -- 8. a stretch and one that differs from it inside one of its frames
+  pub lists-damaged : {p n : ℕ} {s t : List ℕ} {L M : Listing} → Damaged p n s t → Lists s 0 L → Lists t 0 M → Has p n L → EqualBut p n L M
+  lists-damaged {p} {n} {s} {t} {L} d x y h =
+      let l = lists s x in
+      let e = damaged-listing rowsT rowsR d (subst (Has p n) l h) in
+      subst (EqualBut p n L) (sym (lists t y)) (subst (λ z. EqualBut p n z (listing rowsT rowsR t)) (sym l) e)
 
 -- ---- a stripped frame has nothing left to strip
 

@@ -1,4 +1,4 @@
--- F8.9: examples of a listing, B, C, K and J of F10 joined, of its positions, and of listings joined, computed from the definition.
+-- F8.9: examples of a listing, B, C, K and J of F10 joined, of its positions, of listings joined and of damage, computed from the definition.
 use Prim.Native.Nat.{ℕ}
 use mathlib.Core.Path.{_≡_, refl}
 use mathlib.Core.List.{List, [], _∷_}
@@ -51,3 +51,21 @@ pub cut-b-and-c :
     listing tableT tableR (9 ∷ 0 ∷ 0 ∷ 0 ∷ 108 ∷ 1 ∷ 0 ∷ 2 ∷ 7 ∷ 0 ∷ 0 ∷ 0 ∷ 109 ∷ 1 ∷ 0 ∷ []) ≡ entry 0 9 108 1 (accepted 108 (val 1794 ∷ []) 9) 0 (stops R.StretchCut 9)
 unfolding fromLE toLE raw readNum readField readFields itemBytes itemsBytes places readTypeTag readHeader readFrame answerOf front listFrom listing
 cut-b-and-c = refl
+
+-- damaged (F6.11): B, C, and B with another type and another tag, which turns it into a reply with a tail. C is listed as it was
+pub b-turned :
+    listing tableT tableR (9 ∷ 0 ∷ 0 ∷ 0 ∷ 109 ∷ 255 ∷ 7 ∷ 2 ∷ 0 ∷ 7 ∷ 0 ∷ 0 ∷ 0 ∷ 109 ∷ 1 ∷ 0 ∷ [])
+    ≡ entry 0 9 109 2047 (accepted 109 [] 7) 2 (entry 9 7 109 1 (accepted 109 [] 7) 0 (ends 16))
+unfolding fromLE toLE raw readNum readField readFields itemBytes itemsBytes places readTypeTag readHeader readFrame answerOf front listFrom listing
+b-turned = refl
+
+-- but a change of its four size bytes can move all that comes after it: with 16 for 9, C is the tail of B; with 10, all after B is lost
+pub c-swallowed :
+    listing tableT tableR (16 ∷ 0 ∷ 0 ∷ 0 ∷ 108 ∷ 1 ∷ 0 ∷ 2 ∷ 0 ∷ 7 ∷ 0 ∷ 0 ∷ 0 ∷ 109 ∷ 1 ∷ 0 ∷ []) ≡ entry 0 16 108 1 (accepted 108 (val 2 ∷ []) 9) 7 (ends 16)
+unfolding fromLE toLE raw readNum readField readFields itemBytes itemsBytes places readTypeTag readHeader readFrame answerOf front listFrom listing
+c-swallowed = refl
+
+pub c-lost :
+    listing tableT tableR (10 ∷ 0 ∷ 0 ∷ 0 ∷ 108 ∷ 1 ∷ 0 ∷ 2 ∷ 0 ∷ 7 ∷ 0 ∷ 0 ∷ 0 ∷ 109 ∷ 1 ∷ 0 ∷ []) ≡ entry 0 10 108 1 (accepted 108 (val 2 ∷ []) 9) 1 (stops R.StretchCut 10)
+unfolding fromLE toLE raw readNum readField readFields itemBytes itemsBytes places readTypeTag readHeader readFrame answerOf front listFrom listing
+c-lost = refl

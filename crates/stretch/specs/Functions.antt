@@ -47,9 +47,10 @@ use Rattle.framing.specs.Stripped.{resized, cutAt}
 use Rattle.framing.specs.Demand.{Whole, Edited, oldLines, newLines, repeated}
 use Rattle.framing.specs.Shown.{recordsIn}
 use Rattle.framing.specs.Joining.{joined, Ends}
+use Rattle.framing.specs.Damage.{Has, Damaged, EqualBut}
 use Rattle.framing.specs.Positions.{listed-written}
 use Rattle.framing.specs.Cuts.{between}
-use Rattle.stretch.specs.Dialects.{frames, ended, stopped, Lists, listed-by, lists, lists-edited, lists-once, lists-joined, Direction, stripped, written, written-again, cut, back, local-read}
+use Rattle.stretch.specs.Dialects.{frames, ended, stopped, Lists, listed-by, lists, lists-edited, lists-once, lists-joined, lists-damaged, Direction, stripped, written, written-again, cut, back, local-read}
 use Rattle.stretch.specs.declared.Body.the-variants as B
 use Rattle.stretch.specs.declared.Listed.{Listed}
 use Rattle.stretch.specs.declared.Step.{Step}
@@ -236,3 +237,8 @@ accident-of-the-leap-second f b w h a x = lists-once tableT tableR f b w h a (se
 
 pub both-listed : (s t : List ℕ) {L M N : Listing} → Asks s 0 L → Asks t 0 M → Asks (s ++ t) 0 N → Ends L → (stopsAt L ≡ length s) × (N ≡ joined L M)
 both-listed s t x y z e = lists-joined tableT tableR s t (seen s x) (seen t y) (seen (s ++ t) z) e
+
+-- ---- 9. damaged: what is done to a frame after its four size bytes changes its own line and no other
+
+pub one-harmed : {p n : ℕ} {s t : List ℕ} {L M : Listing} → Damaged p n s t → Asks s 0 L → Asks t 0 M → Has p n L → EqualBut p n L M
+one-harmed {s = s} {t = t} d x y h = lists-damaged tableT tableR d (seen s x) (seen t y) h
