@@ -4,6 +4,7 @@ pub mod compare;
 mod dirents;
 mod elements;
 mod frames;
+mod harmed;
 mod in_rust;
 pub mod kinds;
 mod limits;

@@ -10,12 +10,14 @@ use ours::{Flat, Outcome as Told};
 use p9::draw::Draws;
 
 use crate::compare::{differs, in_a_room, told, Outcome};
+use crate::harmed::harmed;
 use crate::theirs::{self, Theirs};
 
 /// A frame's size, its type and its tag.
 const HEADER: usize = 7;
 
-/// From 0 on to the end or a refusal, and then at a few positions where no frame need start.
+/// From 0 on to the end or a refusal, then at a few positions where no frame need start, and last with
+/// one of its frames damaged.
 pub fn stretch(bytes: &[u8], draws: &mut Draws) -> Outcome {
     let mut position = 0;
     loop {
@@ -41,10 +43,11 @@ pub fn stretch(bytes: &[u8], draws: &mut Draws) -> Outcome {
             return outcome;
         }
     }
-    match position == bytes.len() {
+    let whole = position == bytes.len();
+    harmed(bytes, draws).unwrap_or(match whole {
         true => Outcome::Accepted,
         false => Outcome::Refused,
-    }
+    })
 }
 
 /// What is at a position, and what the reader of its direction says of a frame there.
