@@ -64,6 +64,9 @@ number-most R.PartMalformed = lit< tt
 number-most R.NoSuchElement = lit< tt
 number-most R.HoldsRefusal = lit< tt
 number-most R.TooManyElements = lit< tt
+number-most R.TableFull = lit< tt
+number-most R.MsizeTooSmall = lit< tt
+number-most R.EndTooFar = lit< tt
 
 answer-most : (a : Answer) → answerNumber a < 10 ^ 2
 answer-most (accepted ty vs used) = lit< tt

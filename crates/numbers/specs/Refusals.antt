@@ -24,12 +24,15 @@ numberOf R.PartMalformed = 14
 numberOf R.NoSuchElement = 15
 numberOf R.HoldsRefusal = 16
 numberOf R.TooManyElements = 17
+numberOf R.TableFull = 24
+numberOf R.MsizeTooSmall = 26
+numberOf R.EndTooFar = 27
 
 -- ---- no two have one number, so that a promise which fixes the refusal fixes its number, and the other way round
 
--- in the order of their numbers, from 0 on; there is no refusal 0
+-- in the order of their numbers, from 0 on; `Short` stands where a number is no refusal's
 abbrev byNumber : List Refusal
-byNumber = R.Short ∷ R.Short ∷ R.SizeBelowFour ∷ R.UnknownType ∷ R.DataTooLong ∷ R.NotUtf8 ∷ R.ZeroByte ∷ R.StringTooLong ∷ R.TableTooLong ∷ R.SpanOutside ∷ R.FrameTooLong ∷ R.NoRoom ∷ R.StretchCut ∷ R.StretchSize ∷ R.PartMalformed ∷ R.NoSuchElement ∷ R.HoldsRefusal ∷ R.TooManyElements ∷ []
+byNumber = R.Short ∷ R.Short ∷ R.SizeBelowFour ∷ R.UnknownType ∷ R.DataTooLong ∷ R.NotUtf8 ∷ R.ZeroByte ∷ R.StringTooLong ∷ R.TableTooLong ∷ R.SpanOutside ∷ R.FrameTooLong ∷ R.NoRoom ∷ R.StretchCut ∷ R.StretchSize ∷ R.PartMalformed ∷ R.NoSuchElement ∷ R.HoldsRefusal ∷ R.TooManyElements ∷ R.Short ∷ R.Short ∷ R.Short ∷ R.Short ∷ R.Short ∷ R.Short ∷ R.TableFull ∷ R.Short ∷ R.MsizeTooSmall ∷ R.EndTooFar ∷ []
 
 there : (k : Refusal) → getD byNumber (numberOf k) R.Short ≡ k
 there R.Short = refl
@@ -49,6 +52,9 @@ there R.PartMalformed = refl
 there R.NoSuchElement = refl
 there R.HoldsRefusal = refl
 there R.TooManyElements = refl
+there R.TableFull = refl
+there R.MsizeTooSmall = refl
+there R.EndTooFar = refl
 
 pub number-one : {j k : Refusal} → numberOf j ≡ numberOf k → j ≡ k
 number-one {j} {k} e = sym (there j) ∙ ap (λ n. getD byNumber n R.Short) e ∙ there k

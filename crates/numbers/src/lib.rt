@@ -26,6 +26,9 @@ pub enum Refusal {
     NoSuchElement,
     HoldsRefusal,
     TooManyElements,
+    TableFull,
+    MsizeTooSmall,
+    EndTooFar,
 }
 
 // The refusal's number (F9).
@@ -50,6 +53,9 @@ pub fn number(k: Refusal) -> u8
         Refusal::NoSuchElement => 15,
         Refusal::HoldsRefusal => 16,
         Refusal::TooManyElements => 17,
+        Refusal::TableFull => 24,
+        Refusal::MsizeTooSmall => 26,
+        Refusal::EndTooFar => 27,
     }
 }
 

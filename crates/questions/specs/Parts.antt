@@ -26,7 +26,7 @@ partOf s from to = cond (leb to (length s)) (take (to - from) (drop from s)) []
 pub record LineHeld (line : List ℕ) (n : ℕ) : Type 0 where
   pub fits : (n ≡ 18446744073709551615 → ⊥) → n ≤ length line
 
--- the refusal that has the number n, or the nearest that one has
+-- the refusal that has the number n among those of frames, F9.1 to F9.17, or the nearest there
 pub record Numbered (n : ℕ) (k : Refusal) : Type 0 where
   pub is : numberOf k ≡ max 1 (min n 17)
 

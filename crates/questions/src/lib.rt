@@ -275,7 +275,7 @@ pub fn read(line: &[u8], bytes: &mut [u8]) -> Question
     }
 }
 
-// F9: the refusal of that number, or of the nearest that one has.
+// The refusal of that number among those of frames, F9.1 to F9.17, or of the nearest there.
 fn refusal(n: u64) -> Refusal
     ensures { λ r. ⌜ Numbered n r ⌝ }
 {

@@ -1,0 +1,4 @@
+pub mod Plans
+pub mod PlanLaws
+pub mod Fewest
+pub mod Examples
