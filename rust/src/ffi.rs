@@ -176,6 +176,22 @@ pub fn write_rwalk(out: &mut [u8], tag: Tag, qids: &[Qid]) -> Result<usize, Refu
     unsafe { sheafsledge_write_rwalk(to, room, tag.0, qids.as_ptr(), qids.len()) }.told()
 }
 
+/// How many rows of the table the plan has.
+pub fn plan(
+    table: &mut [[u64; PIECE_VALUES]],
+    first: u64,
+    len: u64,
+    msize: u32,
+) -> Result<usize, Refusal> {
+    // SAFETY: pointer and count are a slice's, which is borrowed alone; any numbers are answered.
+    unsafe { sheafsledge_plan(table.as_mut_ptr(), table.len(), first, len, msize) }.told()
+}
+
+pub fn accepts(pieces: &[[u64; PIECE_VALUES]], first: u64, len: u64, msize: u32) -> bool {
+    // SAFETY: pointer and count are a slice's; any numbers are answered.
+    unsafe { sheafsledge_accepts(pieces.as_ptr(), pieces.len(), first, len, msize) }
+}
+
 /// A tag as it crosses.
 #[inline(always)]
 fn crossing(tag: Tag) -> boundary::Tag {

@@ -5,8 +5,10 @@
 //! are longer than 512 bytes together ([`Names::of`]). Where a frame ends is what its size says:
 //! bytes after the last field are a tail, and never another request; [`stream::Frames`] cuts a
 //! stream into frames by that, in a buffer that it allocates once, and [`stretch()`] bytes that
-//! hold several: [`Listed::fields`] says where each field of theirs stands. The entries of a directory are given by [`Rreaddir::entries`]. The example
-//! `server` shows a directory with these, and is meant to be started from.
+//! hold several: [`Listed::fields`] says where each field of theirs stands. The entries of a
+//! directory are given by [`Rreaddir::entries`]. [`plan_writes`] cuts a large write into Twrites no
+//! longer than the msize. The example `server` shows a directory with these, and is meant to be
+//! started from.
 //!
 //! ```
 //! use sheafsledge::{Fid, Names, Rframe, Rmessage, Tag, Tframe, Tmessage, Twalk};
@@ -53,6 +55,7 @@ mod fields;
 mod frames;
 mod ids;
 mod places;
+mod plans;
 mod records;
 mod refusal;
 #[cfg(feature = "std")]
@@ -70,6 +73,7 @@ pub use dirents::{Dirent, Dirents};
 pub use frames::{Decoded, Make, Rframe, Tframe};
 pub use ids::{Fid, Gid, Tag};
 pub use places::{FieldAt, Fields, Value};
+pub use plans::{accepts_plan, plan_writes, twrites, Twrites};
 pub use records::*;
 pub use refusal::{Refusal, Sentence};
 pub use stretch::{answers, stretch, Body, Listed, Mark, Stop, Stretch};

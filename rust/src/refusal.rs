@@ -1,4 +1,4 @@
-//! Why a frame is refused: the numbers of the requirements.
+//! Why a frame or a plan is refused: the numbers of the requirements.
 
 use core::fmt;
 #[cfg(feature = "std")]
@@ -16,7 +16,7 @@ macro_rules! about_the_place {
 
 macro_rules! refusals {
     ($($number:literal $name:ident $({ $at:ident })? $kind:ident $text:literal)*) => {
-        /// Why a frame was not read or not written. Later versions of the requirements have more.
+        /// Why a frame was not read or not written, or a plan not made. Later versions of the requirements have more.
         ///
         /// 5 and 6 say `at` which byte. In reading it counts from the first byte that was lent: of the
         /// frame, of the stretch that the frame is listed from, or of the slice which a directory
@@ -122,6 +122,9 @@ refusals! {
     15 NoSuchElement InvalidInput "a vector has no element of that number"
     16 HoldsRefusal InvalidData "the frame holds a refusal, and no message to write"
     17 TooManyElements InvalidInput "a walk has more than sixteen elements"
+    24 TableFull InvalidInput "the table has too few rows"
+    26 MsizeTooSmall InvalidInput "the msize is below 24, and no Twrite with data fits"
+    27 EndTooFar InvalidInput "the end of the write is above 18,446,744,073,709,551,615"
     255 Foreign Other "the library is another than this crate is for: it answers a number that is not known here"
 }
 
@@ -196,7 +199,7 @@ mod tests {
             let told = Refusal::of(number, 14).map(Refusal::number);
             let owed = match number {
                 0 => None,
-                1..=17 => Some(number),
+                1..=17 | 24 | 26 | 27 => Some(number),
                 _ => Some(255),
             };
             assert_eq!(told, owed);

@@ -1,7 +1,7 @@
 //! The proved library as C sees it: the functions of the crates `exports`, `request_exports`,
-//! `reply_exports` and `stretch_exports`, and the archive that holds them, which the build script has
-//! linked. The crate `sheafsledge` is what a server calls; it adds slices, records and refusals to
-//! these.
+//! `reply_exports`, `stretch_exports` and `planning_exports`, and the archive that holds them, which
+//! the build script has linked. The crate `sheafsledge` is what a server calls; it adds slices,
+//! records and refusals to these.
 //!
 //! Nothing joins the two texts but the names of the functions, so a difference would be read as
 //! other values. The layouts are held to C's at the end of this file, when it is compiled;
@@ -28,6 +28,8 @@ pub const ENTRY_VALUES: usize = 7;
 pub const QID_VALUES: usize = 3;
 /// How many values an element of a walk has: where it starts, and its length.
 pub const SPAN_VALUES: usize = 2;
+/// How many values a piece of a plan has: its offset, and its length.
+pub const PIECE_VALUES: usize = 2;
 
 /// What the library answers for all that it reads or writes: 0 and the place after it, or the
 /// refusal. Of a frame there is a tag too, and a type where it is accepted or stands at a position;
@@ -225,6 +227,23 @@ extern "C" {
         qids: *const Qid,
         qids_count: usize,
     ) -> Outcome;
+    /// Plans the Twrites of a large write, a row for each, over the first rows of the table. The place
+    /// that is answered is the row after them; refused, the table is as it was.
+    pub fn sheafsledge_plan(
+        table: *mut [u64; PIECE_VALUES],
+        rows: usize,
+        first: u64,
+        len: u64,
+        msize: u32,
+    ) -> Outcome;
+    /// Whether pieces are a plan of a large write.
+    pub fn sheafsledge_accepts(
+        pieces: *const [u64; PIECE_VALUES],
+        rows: usize,
+        first: u64,
+        len: u64,
+        msize: u32,
+    ) -> bool;
     /// The frame at a position of a stretch, by its size.
     pub fn sheafsledge_frame_at(bytes: *const u8, count: usize, position: usize) -> Outcome;
     /// Answers 4, the number of the boundary.
@@ -274,6 +293,7 @@ sized!([u64; R_VALUES]: 176, 8);
 sized!([u64; ENTRY_VALUES]: 56, 8);
 sized!([u64; QID_VALUES]: 24, 8);
 sized!([u64; SPAN_VALUES]: 16, 8);
+sized!([u64; PIECE_VALUES]: 16, 8);
 sized!([usize; 2]: 16, 8);
 sized!(usize: 8, 8);
 sized!(*const u8: 8, 8);
