@@ -4,12 +4,12 @@ _sheafsledge() {
     local word=${COMP_WORDS[COMP_CWORD]} before=${COMP_WORDS[COMP_CWORD - 1]} offers='' i
     COMPREPLY=()
     if [ "$COMP_CWORD" -eq 1 ]; then
-        mapfile -t COMPREPLY < <(compgen -W 'list pairs where fields join --help -h --version -V' -- "$word")
+        mapfile -t COMPREPLY < <(compgen -W 'list pairs where fields join plan --help -h --version -V' -- "$word")
         return
     fi
     case ${COMP_WORDS[1]} in
     list | where) offers='--names --json --output -o --help -h' ;;
-    pairs) offers='--output -o --help -h' ;;
+    pairs | plan) offers='--output -o --help -h' ;;
     fields) offers='--json --output -o --help -h' ;;
     join) offers='--last-may-stop --output -o --help -h' ;;
     esac

@@ -12,6 +12,7 @@ mod join;
 mod list;
 mod output;
 mod pairs;
+mod plan;
 mod recording;
 mod status;
 mod terminal;
@@ -32,6 +33,7 @@ const COMMANDS: &[Command] = &[
     r#where::COMMAND,
     fields::COMMAND,
     join::COMMAND,
+    plan::COMMAND,
 ];
 
 fn main() -> ExitCode {

@@ -6,6 +6,7 @@ mod manners;
 mod memory;
 mod outputs;
 mod pairs;
+mod plan;
 mod running;
 mod terminals;
 mod texts;

@@ -235,6 +235,7 @@ fn versions_and_help_go_to_standard_output() {
         &["list", "x", "-h"],
         &["pairs", "--help"],
         &["fields", "--help"],
+        &["plan", "--help"],
     ] {
         let told = run(words);
         assert_eq!((told.status, told.err.as_str()), (Some(0), ""));
