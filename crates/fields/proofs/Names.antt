@@ -16,6 +16,7 @@ use Rattle.numbers.specs.declared.Refusal.the-variants as R
 use Rattle.numbers.specs.declared.Place.{Place}
 use Rattle.numbers.specs.declared.Place.the-variants.{At, Refused}
 use Rattle.utf8.specs.Utf8.{_to_, inRange, chars, utf8, noZero}
+use Rattle.utf8.specs.Plain.{plainAt, plain-each}
 use Rattle.utf8.specs.Utf8Laws.{chars-over, plain-turn, plain-full, full-over}
 use Rattle.strings.specs.Strings.{okText, readString, stringBytes}
 use Rattle.strings.specs.SpanLaws.{string-cut, string-held, string-short, text-refused, text-good}
@@ -60,18 +61,12 @@ plain-byte t i l e h s = record { form = plain-turn t i l e h (s .form); full = 
 
 -- ---- and several at once
 
-both : (a b : Bool) → a && b ≡ true → (a ≡ true) × (b ≡ true)
-both true b h = (refl, h)
-both false b h = absurd (let z : _≡_ {A = ℕ} 0 1 = cc h in omega arith)
-
 module _ {s : List ℕ} {i : ℕ} where
   pub one-plain : {b : Bool} → b ≡ inRange (1 to 127) (getD s i 0) → b ≡ true → Plains s i (i + 1)
   one-plain f h = record { each = λ j l m. let e : j ≡ i = omega arith in rw e (sym f ∙ h) }
 
-  pub more-plain : {a b : Bool} (n : ℕ) → (a ≡ true → Plains s i (i + n)) → b ≡ inRange (1 to 127) (getD s (i + n) 0) → a && b ≡ true → Plains s i (i + (n + 1))
-  more-plain {a} {b} n p f h =
-      let (x, y) = both a b h in
-      record { each = λ j l m. or-else (j + 1) (i + n) (λ g. p x .each j l (omega arith)) (λ g. let d : j ≡ i + n = omega arith in rw d (sym f ∙ y)) }
+  pub eight-plain : {b : Bool} → b ≡ plainAt s i 8 → b ≡ true → Plains s i (i + 8)
+  eight-plain f h = record { each = λ j l m. plain-each s i 8 j f h l m }
 
   pub no-run : i ≤ length s → Run s i 0
   no-run l = record { held = omega arith; plain = record { each = λ j m n. absurd (omega arith) } }

@@ -5,15 +5,15 @@ use numbers::Read16;
 use numbers::Refusal;
 use strings::ReadSpan;
 use strings::Span;
+use utf8::eight_plain;
 use utf8::is_plain;
 ghost use Prim.Native.Nat.{_+_, _≤_, _<_};
 ghost use mathlib.Core.Path.{_≡_};
-ghost use mathlib.Core.Bool.{true};
 ghost use lib.ListN.{length};
 ghost use Rattle.fields.specs.Layouts.{dat, strs, quids};
 ghost use Rattle.fields.specs.Values.{span, part};
 ghost use Rattle.fields.specs.Fields.{FieldRead, CountCheck, CountRead, ManyRead, Nowhere};
-ghost use Rattle.fields.specs.Runs.{Plains, Run};
+ghost use Rattle.fields.specs.Runs.{Run};
 
 // The elements of a vector: how many they are, and the part of the bytes that holds them.
 pub struct Part {
@@ -59,21 +59,6 @@ pub fn read_data(s: &[u8], p: Place) -> ReadSpan
         value: none,
         next: Place::Refused(Refusal::Short, 0),
     }
-}
-
-// Whether the eight bytes from `i` on are plain. All are looked at, so that the compiler compares them at once.
-fn eight_plain(s: &[u8], i: usize) -> bool
-    requires { ⌜ i + 8 ≤ length (now s) ⌝ }
-    ensures { λ r. ⌜ (r ≡ true → Plains (now (s .entry)) i (i + 8)) ⌝ }
-{
-    is_plain(s[i])
-        & is_plain(s[i + 1])
-        & is_plain(s[i + 2])
-        & is_plain(s[i + 3])
-        & is_plain(s[i + 4])
-        & is_plain(s[i + 5])
-        & is_plain(s[i + 6])
-        & is_plain(s[i + 7])
 }
 
 // How many plain bytes are seen at once from `i` on: eight of them, the last eight of the text where fewer are left, and of a shorter

@@ -4,6 +4,7 @@
 
 pub mod attributes;
 pub mod directories;
+pub mod dirents;
 pub mod files;
 pub mod locks;
 pub mod sessions;

@@ -1,12 +1,12 @@
 -- The ways that the checks, the reader and the writers of strings go: one law for each way out, over plain variables.
 use Prim.Native.Nat.{ℕ, suc, _+_, _-_, _≤_, _<_, min}
 use native.Mathlib.Omega.{arith}
-use mathlib.Core.Path.{_≡_, refl, sym, ap, _∙_}
+use mathlib.Core.Path.{_≡_, refl, sym, ap, ap₂, _∙_}
 use mathlib.Core.Bool.{Bool, true, false, cond}
-use mathlib.Core.List.{List, [], _∷_, _++_, append-nil}
+use mathlib.Core.List.{List, [], _∷_, _++_, append-nil, append-assoc}
 use lib.ListN.{length, take, drop, getD, set, length-append, length-drop, take-append-drop}
 use native.Mathlib.Numerals.{add-one, unary-clauses}
-use lib.Seq.{length-take-le, take-at, take-add, drop-drop, getD-drop, paste, paste-suc}
+use lib.Seq.{length-take-le, take-at, take-add, take-take, take-append-le, take-append-add, drop-append-add, drop-drop, getD-drop, paste, paste-suc}
 use lib.Dec.{leb}
 use borrow.Author.Tests.{le-leb, lt-leb, leb-true}
 use Rattle.numbers.specs.Numbers.{toLE, length-toLE}
@@ -141,6 +141,31 @@ copy-by-way z o lent at start len h e f =
     let x = take len (drop start lent) in
     let g : take len (over z 0 x) ≡ x = take-at x (drop (0 + length x) z) len (shown-length lent start len h) in
     f ∙ ap (λ (y : List ℕ). over o at (take len y)) e ∙ ap (over o at) g
+
+-- the first eight bytes and the last eight, laid one over the other, are all of eight to sixteen
+pub copy-eights : (o lent : List ℕ) (at start len : ℕ) {o1 o2 : List ℕ} → 8 ≤ len → len ≤ 16 → at + len ≤ length o → start + len ≤ length lent → o1 ≡ over o at (take 8 (drop start lent))
+    → o2 ≡ over o1 (at + (len - 8)) (take 8 (drop (start + (len - 8)) lent)) → o2 ≡ over o at (take len (drop start lent))
+copy-eights o lent at start len {o1} {o2} g l h k e f =
+    let m : ℕ = len - 8 in
+    let x : List ℕ = drop start lent in
+    let b : List ℕ = take 8 (drop m x) in
+    let c : take 8 (drop (start + m) lent) ≡ b = ap (take 8) (sym (drop-drop m start lent)) in
+    let d : List ℕ = take at o ++ take 8 x in
+    let r : List ℕ = drop (at + length (take 8 x)) o in
+    let u : length (take 8 x) ≡ 8 = shown-length lent start 8 (omega arith) in
+    let v : length b ≡ 8 = ap length (sym c) ∙ shown-length lent (start + m) 8 (omega arith) in
+    let t : length (take at o) ≡ at = length-take-le at o (omega arith) in
+    let w : length d ≡ at + 8 = length-append (take at o) (take 8 x) ∙ omega arith in
+    let front : take (at + m) (d ++ r) ≡ take at o ++ take m x
+    = take-append-le (at + m) d r (omega arith) ∙ ap (λ n. take (n + m) d) (sym t) ∙ take-append-add (take at o) (take 8 x) m ∙ ap (λ (z : List ℕ). take at o ++ z) (take-take m 8 x (omega arith)) in
+    let n1 : at + m + length b ≡ length d + m = omega arith in
+    let n2 : at + length (take 8 x) + m ≡ at + length (take len x) = (let z = shown-length lent start len k in omega arith) in
+    let back : drop (at + m + length b) (d ++ r) ≡ drop (at + length (take len x)) o
+    = ap (λ n. drop n (d ++ r)) n1 ∙ drop-append-add d r m ∙ drop-drop m (at + length (take 8 x)) o ∙ ap (λ n. drop n o) n2 in
+    let n3 : m + 8 ≡ len = omega arith in
+    let mid : take m x ++ b ≡ take len x = sym (take-add m 8 x) ∙ ap (λ n. take n x) n3 in
+    f ∙ ap (λ (z : List ℕ). over z (at + m) (take 8 (drop (start + m) lent))) e ∙ ap (λ (z : List ℕ). over (d ++ r) (at + m) z) c
+    ∙ ap₂ (λ (y z : List ℕ). y ++ b ++ z) front back ∙ ap (λ (z : List ℕ). z ++ drop (at + length (take len x)) o) (append-assoc (take at o) (take m x) b ∙ ap (λ (z : List ℕ). take at o ++ z) mid)
 
 pub copy-none : (o : List ℕ) (at : ℕ) → o ≡ over o at []
 copy-none o at = simp (append-nil, unary-clauses) (sym (take-append-drop at o))

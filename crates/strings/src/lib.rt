@@ -58,6 +58,9 @@ fn check_text(s: &[u8], v: Span, p: Place) -> Place
     let start = v.start;
     let end = start + v.len;
     let text = &s[start..end];
+    if utf8::short_plain(text) {
+        return p;
+    }
     let e = utf8::extremes_of(text);
     if 128 <= e.high {
         let n = utf8::sound_start(text);
@@ -147,7 +150,7 @@ fn copy_block(out: &mut [u8], at: usize, lent: &[u8], start: usize, len: usize)
 }
 
 // What `copy_bytes` does, block by block.
-fn copy(out: &mut [u8], at: usize, lent: &[u8], start: usize, len: usize)
+fn copy_blocks(out: &mut [u8], at: usize, lent: &[u8], start: usize, len: usize)
     requires { ⌜ (at + len ≤ length (now out)) × (start + len ≤ length (now lent)) ⌝ }
     ensures { λ r. ⌜ now (out .exit) ≡ over (now (out .entry)) at (take len (drop start (now (lent .entry)))) ⌝ }
 {
@@ -157,6 +160,23 @@ fn copy(out: &mut [u8], at: usize, lent: &[u8], start: usize, len: usize)
         copy_block(out, at + done, lent, start + done, n);
         done += n;
     }
+}
+
+// What `copy_bytes` does. Eight to sixteen bytes, as most names have, are two blocks of eight, which may overlap: each is the move of one
+// number.
+fn copy(out: &mut [u8], at: usize, lent: &[u8], start: usize, len: usize)
+    requires { ⌜ (at + len ≤ length (now out)) × (start + len ≤ length (now lent)) ⌝ }
+    ensures { λ r. ⌜ now (out .exit) ≡ over (now (out .entry)) at (take len (drop start (now (lent .entry)))) ⌝ }
+{
+    if 8 <= len {
+        if len <= 16 {
+            let last = len - 8;
+            copy_block(out, at, lent, start, 8);
+            copy_block(out, at + last, lent, start + last, 8);
+            return;
+        }
+    }
+    copy_blocks(out, at, lent, start, len);
 }
 
 // The bytes that a span shows, put at a place: 9, 11.

@@ -6,6 +6,7 @@ ghost use Prim.Native.Nat.{_<_, min, max};
 ghost use lib.ListN.{length};
 ghost use Rattle.utf8.specs.Utf8.{_to_, inRange, CharAt, utf8, soundStart, zeroAt};
 ghost use Rattle.utf8.specs.Utf8Laws.{Rest, leastOf, greatestOf};
+ghost use Rattle.utf8.specs.Plain.{plainAt, shortPlain};
 
 // ---- The rows of RFC 3629, section 4, in their order (F2.1): an arm a row, with the range of each of its octets
 
@@ -146,6 +147,39 @@ pub fn is_plain(b: u8) -> bool
     ensures { λ r. ⌜ r ≡ inRange (1 to 127) b ⌝ }
 {
     octet(b, Octets(1, 127))
+}
+
+// Whether the eight bytes from `i` on are there, and plain. All are looked at, so that the compiler compares them at once.
+pub fn eight_plain(s: &[u8], i: usize) -> bool
+    ensures { λ r. ⌜ r ≡ plainAt (now (s .entry)) i 8 ⌝ }
+{
+    if s.len() < 8 {
+        return false;
+    }
+    if s.len() - 8 < i {
+        return false;
+    }
+    is_plain(s[i])
+        & is_plain(s[i + 1])
+        & is_plain(s[i + 2])
+        & is_plain(s[i + 3])
+        & is_plain(s[i + 4])
+        & is_plain(s[i + 5])
+        & is_plain(s[i + 6])
+        & is_plain(s[i + 7])
+}
+
+// Whether a text of eight to sixteen bytes, as most names are, is plain. Short cut: its first eight bytes and its last eight are all of it.
+pub fn short_plain(s: &[u8]) -> bool
+    ensures { λ r. ⌜ r ≡ shortPlain (now (s .entry)) ⌝ }
+{
+    if s.len() < 8 {
+        return false;
+    }
+    if 16 < s.len() {
+        return false;
+    }
+    eight_plain(s, 0) & eight_plain(s, s.len() - 8)
 }
 
 fn least(a: u8, b: u8) -> u8

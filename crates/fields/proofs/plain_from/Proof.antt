@@ -1,7 +1,7 @@
 -- Eight bytes, the last eight, or one of a shorter text; or none.
 use borrow.Author.Needs.{needs}
 use native.Mathlib.Omega.{arith}
-use Rattle.fields.proofs.Names.{one-plain, no-run, some-run}
+use Rattle.fields.proofs.Names.{one-plain, eight-plain, no-run, some-run}
 use Rattle.fields.proofs.plain_from.Statement.{statement}
 use Rattle.fields.proofs.plain_from.Tie as tie
 
@@ -17,23 +17,17 @@ returns-2 c = no-run (omega arith)
 sub-last : tie.Need-sub-last
 sub-last c = search needs
 
-eight-plain-requires : tie.Need-eight-plain-requires
-eight-plain-requires c κs = omega arith
-
 returns-3 : tie.Need-returns-3
-returns-3 c = some-run (c .before .eight-plain .ensures (c .if4 .taken)) (omega arith) (omega arith) (omega arith)
+returns-3 c = some-run (eight-plain (c .before .eight-plain .ensures) (c .if4 .taken)) (omega arith) (omega arith) (omega arith)
 
 returns-4 : tie.Need-returns-4
 returns-4 c = no-run (omega arith)
-
-eight-plain-requires-2 : tie.Need-eight-plain-requires-2
-eight-plain-requires-2 c κs = omega arith
 
 sub-result : tie.Need-sub-result
 sub-result c = search needs
 
 returns-5 : tie.Need-returns-5
-returns-5 c = some-run (c .before .eight-plain2 .ensures (c .if5 .taken)) (omega arith) (omega arith) (omega arith)
+returns-5 c = some-run (eight-plain (c .before .eight-plain2 .ensures) (c .if5 .taken)) (omega arith) (omega arith) (omega arith)
 
 returns-6 : tie.Need-returns-6
 returns-6 c = no-run (omega arith)
@@ -47,10 +41,10 @@ plain-from-spec =
     returns
     returns-2
     sub-last
-    eight-plain-requires
+    (λ _ _. tt)
     returns-3
     returns-4
-    eight-plain-requires-2
+    (λ _ _. tt)
     sub-result
     returns-5
     returns-6)
