@@ -2,7 +2,7 @@
 
 use crate::boundary::ENTRY_VALUES;
 use crate::fields::{fill, Field, Filling, Taken};
-use crate::{ffi, Qid, Refusal, Rreaddir, Text};
+use crate::{ffi, Data, Qid, Refusal, Rreaddir, Text};
 
 /// A directory entry: 24 bytes and its name on the wire.
 ///
@@ -59,6 +59,7 @@ impl<'a> Dirent<'a> {
 
 /// In the layout's order, as a record's fields cross.
 impl<'a> Field<'a> for Dirent<'a> {
+    #[inline(always)]
     fn take(taken: &mut Taken<'a, '_>) -> Self {
         Self {
             qid: Field::take(taken),
@@ -68,6 +69,7 @@ impl<'a> Field<'a> for Dirent<'a> {
         }
     }
 
+    #[inline(always)]
     fn put<const N: usize>(&self, put: &mut Filling<'_, 'a, N>) {
         self.qid.put(put);
         self.offset.put(put);
@@ -84,28 +86,113 @@ impl<'a> Rreaddir<'a> {
     /// The entries one by one. The data is whatever the server sent, so an entry may be refused;
     /// none is given after that one. 5 and 6 tell of a byte as counted from the data's first.
     pub fn entries(&self) -> Dirents<'a> {
-        let (data, at) = (self.data.0, 0);
-        Dirents { data, at }
+        Dirents::new(self.data.0)
+    }
+
+    /// Packs entries into a buffer, from the first on: as many whole ones as fit both the buffer and
+    /// the count that a Treaddir asks for. The first that does not fit is taken from the iterator, and
+    /// none after it.
+    ///
+    /// ```
+    /// use sheafsledge::{Dirent, Qid, Rreaddir, Text};
+    /// let qid = Qid { ty: 0, version: 0, path: 7 };
+    /// let entry = |(offset, name)| Ok(Dirent { qid, offset, ty: 8, name: Text::new(name)? });
+    /// let entries: Vec<_> = (1..).zip(["a", "bc", "d"]).map(entry).collect::<Result<_, _>>()?;
+    /// let mut buffer = [0; 8192];
+    ///
+    /// let packed = Rreaddir::pack(&mut buffer, 60, entries.iter().copied())?;
+    /// assert_eq!((packed.entries, packed.reply.data.len()), (2, 51));
+    /// assert_eq!(packed.left, Some(entries[2]));
+    /// assert_eq!(packed.reply.entries().collect::<Result<Vec<_>, _>>()?, entries[..2]);
+    /// # Ok::<(), sheafsledge::Refusal>(())
+    /// ```
+    pub fn pack<'e>(
+        buffer: &'a mut [u8],
+        count: u32,
+        entries: impl IntoIterator<Item = Dirent<'e>>,
+    ) -> Result<Packed<'a, 'e>, Refusal> {
+        let (mut used, mut packed, mut left) = (0, 0, None);
+        for entry in entries {
+            // What is used is no more than the count, and no more than the buffer.
+            let (rest, count) = (&mut buffer[used..], count - used as u32);
+            let mut row = [0; ENTRY_VALUES];
+            let [name, _] = fill(&mut row, &entry);
+            let [fits, bytes] = ffi::pack(rest, count, name, &[row])?;
+            if fits == 0 {
+                left = Some(entry);
+                break;
+            }
+            used += bytes;
+            packed += 1;
+        }
+        let data = Data(&buffer[..used]);
+        Ok(Packed {
+            reply: Self { data },
+            entries: packed,
+            left,
+        })
     }
 }
 
-/// The entries of an Rreaddir, see [`Rreaddir::entries`].
+/// What [`Rreaddir::pack`] made of some entries.
+#[derive(Clone, Copy, Debug, PartialEq, Eq)]
+pub struct Packed<'a, 'e> {
+    /// The reply that holds them.
+    pub reply: Rreaddir<'a>,
+    /// How many they are.
+    pub entries: usize,
+    /// The first that did not fit, if there is one. With no entries in the reply, a client would take
+    /// it that there are none left.
+    pub left: Option<Dirent<'e>>,
+}
+
+/// The entries of a block, which is what an Rreaddir has for its data: see [`Rreaddir::entries`].
+///
+/// ```
+/// use sheafsledge::{Dirents, Refusal};
+/// let block = b"\0\x01\0\0\0\x02\0\0\0\0\0\0\0\x03\0\0\0\0\0\0\0\x08\x02\0ab\0";
+/// let mut entries = Dirents::new(block);
+/// assert_eq!(entries.next().unwrap()?.name, "ab");
+/// assert_eq!(entries.position(), 26);
+/// assert_eq!(entries.next(), Some(Err(Refusal::Short)));
+/// assert_eq!(entries.next(), None);
+/// # Ok::<(), Refusal>(())
+/// ```
 #[derive(Clone, Copy, Debug)]
 pub struct Dirents<'a> {
     data: &'a [u8],
     at: usize,
 }
 
+impl<'a> Dirents<'a> {
+    /// The entries of some bytes, from the first on.
+    pub fn new(block: &'a [u8]) -> Self {
+        Self { data: block, at: 0 }
+    }
+
+    /// Where the next entry begins, in the block; after the last, and after a refused one, its end.
+    pub fn position(&self) -> usize {
+        self.at
+    }
+}
+
 impl<'a> Iterator for Dirents<'a> {
     type Item = Result<Dirent<'a>, Refusal>;
 
+    #[inline]
     fn next(&mut self) -> Option<Self::Item> {
-        if self.at >= self.data.len() {
-            return None;
+        let mut values = [0; ENTRY_VALUES];
+        match ffi::entry_at(self.data, self.at, &mut values) {
+            Ok(next) => {
+                self.at = next?;
+                let (values, frame) = (values.iter(), self.data);
+                Some(Ok(Dirent::take(&mut Taken { values, frame })))
+            }
+            Err(refusal) => {
+                self.at = self.data.len();
+                Some(Err(refusal))
+            }
         }
-        let read = Dirent::decode(self.data, self.at);
-        self.at = read.as_ref().map_or(self.data.len(), |(_, next)| *next);
-        Some(read.map(|(entry, _)| entry))
     }
 }
 

@@ -47,6 +47,18 @@ pub fn read_dirent(
     unsafe { sheafsledge_read_dirent(bytes.as_ptr(), bytes.len(), at, values) }.told()
 }
 
+/// The entry at a position of a block, and the place after it; none where the block ends there.
+#[inline]
+pub fn entry_at(
+    block: &[u8],
+    position: usize,
+    values: &mut [u64; ENTRY_VALUES],
+) -> Result<Option<usize>, Refusal> {
+    // SAFETY: as for `read_t`; any position is answered.
+    let step = unsafe { sheafsledge_entry_at(block.as_ptr(), block.len(), position, values) };
+    step.told().map(|next| step.held.then_some(next))
+}
+
 pub fn read_qid(bytes: &[u8], at: usize) -> Result<[u64; QID_VALUES], Refusal> {
     let mut values = [0; QID_VALUES];
     // SAFETY: as for `read_dirent`.
@@ -152,6 +164,25 @@ pub fn write_dirent(
     let (to, room) = (out.as_mut_ptr(), out.len());
     // SAFETY: as for `write_t`; any place is answered.
     unsafe { sheafsledge_write_dirent(to, room, at, lent.as_ptr(), lent.len(), values) }.told()
+}
+
+/// How many entries were packed, and how many bytes they are.
+#[inline]
+pub fn pack(
+    out: &mut [u8],
+    count: u32,
+    names: &[u8],
+    rows: &[[u64; ENTRY_VALUES]],
+) -> Result<[usize; 2], Refusal> {
+    let (to, room, from, len) = (out.as_mut_ptr(), out.len(), names.as_ptr(), names.len());
+    // SAFETY: as for `write_t`; the rows are a slice's too, and a name out of the lent bytes is
+    // refused with 9.
+    let Packed {
+        refusal,
+        entries,
+        place,
+    } = unsafe { sheafsledge_pack(to, room, count, from, len, rows.as_ptr(), rows.len()) };
+    Refusal::of(refusal, place).map_or(Ok([entries, place]), Err)
 }
 
 pub fn write_twalk(

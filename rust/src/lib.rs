@@ -6,9 +6,9 @@
 //! bytes after the last field are a tail, and never another request; [`stream::Frames`] cuts a
 //! stream into frames by that, in a buffer that it allocates once, and [`stretch()`] bytes that
 //! hold several: [`Listed::fields`] says where each field of theirs stands. The entries of a
-//! directory are given by [`Rreaddir::entries`]. [`plan_writes`] cuts a large write into Twrites no
-//! longer than the msize. The example `server` shows a directory with these, and is meant to be
-//! started from.
+//! directory are given by [`Rreaddir::entries`], and [`Rreaddir::pack`] packs them. [`plan_writes`]
+//! cuts a large write into Twrites no longer than the msize. The example `server` shows a directory
+//! with these, and is meant to be started from.
 //!
 //! ```
 //! use sheafsledge::{Fid, Names, Rframe, Rmessage, Tag, Tframe, Tmessage, Twalk};
@@ -69,7 +69,7 @@ use sheafsledge_sys as boundary;
 
 pub use boundary::Qid;
 pub use data::Data;
-pub use dirents::{Dirent, Dirents};
+pub use dirents::{Dirent, Dirents, Packed};
 pub use frames::{Decoded, Make, Rframe, Tframe};
 pub use ids::{Fid, Gid, Tag};
 pub use places::{FieldAt, Fields, Value};

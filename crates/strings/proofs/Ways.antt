@@ -19,6 +19,7 @@ use Rattle.numbers.specs.declared.Refusal.the-variants as R
 use Rattle.numbers.specs.declared.Place.{Place}
 use Rattle.numbers.specs.declared.Place.the-variants.{At, Refused}
 use Rattle.utf8.specs.Utf8.{utf8, soundStart, noZero, zeroAt}
+use Rattle.utf8.specs.Plain.{shortPlain, short-text}
 use Rattle.utf8.specs.StartLaws.{zero-in}
 use Rattle.strings.specs.Strings.{okText, readString, stringBytes}
 use Rattle.strings.specs.SpanLaws.{first-refuses, shown-in, shown-out, shown-length, passed, string-passed, passing, string-cut, start-bad, string-held, string-short, text-refused, text-passed}
@@ -61,6 +62,10 @@ module _ {s : List ℕ} {x y a : ℕ} {p : Place} where
       let v = rw n at u in
       let w = rw n at z in
       record { is = rw (e, v, w) }
+
+-- a short plain text, cut out
+pub text-plain : {s : List ℕ} {x y a : ℕ} {b : Bool} {p : Place} → p ≡ At a → b ≡ shortPlain (between x (x + y) s) → b ≡ true → TextCheck s x y p p
+text-plain {s} {x} {y} e f h = let t = short-text (between x (x + y) s) f h in text-fine e (t .0) (t .1)
 
 -- ---- a span
 

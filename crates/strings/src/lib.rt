@@ -58,9 +58,6 @@ fn check_text(s: &[u8], v: Span, p: Place) -> Place
     let start = v.start;
     let end = start + v.len;
     let text = &s[start..end];
-    if utf8::short_plain(text) {
-        return p;
-    }
     let e = utf8::extremes_of(text);
     if 128 <= e.high {
         let n = utf8::sound_start(text);
@@ -77,7 +74,8 @@ fn check_text(s: &[u8], v: Span, p: Place) -> Place
     p
 }
 
-// A string of the lent bytes that is to be written: the place itself; or 9, 7, 5, 6.
+// A string of the lent bytes that is to be written: the place itself; or 9, 7, 5, 6. Short cut, here and in reading: a short plain text, as
+// most names are, passes without a call.
 pub fn check_str(lent: &[u8], v: Span, p: Place) -> Place
     ensures { λ r. ⌜ StrCheck (now (lent .entry)) (v .start) (v .len) p r ⌝ }
 {
@@ -87,6 +85,11 @@ pub fn check_str(lent: &[u8], v: Span, p: Place) -> Place
     };
     if 65535 < v.len {
         return Place::Refused(Refusal::StringTooLong, 0);
+    }
+    let start = v.start;
+    let end = start + v.len;
+    if utf8::short_plain(&lent[start..end]) {
+        return q;
     }
     check_text(lent, v, q)
 }
@@ -108,6 +111,12 @@ pub fn read_str(s: &[u8], p: Place) -> ReadSpan
     if numbers::within(start, len, s.len()) {
         let end = start + len;
         let some = Span { start, len };
+        if utf8::short_plain(&s[start..end]) {
+            return ReadSpan {
+                value: some,
+                next: Place::At(end),
+            };
+        }
         let q = check_text(s, some, Place::At(end));
         let Place::At(_) = q else {
             return ReadSpan {

@@ -5,6 +5,7 @@
 
 mod command;
 mod digits;
+mod entries;
 mod fields;
 mod help;
 mod input;
@@ -34,6 +35,7 @@ const COMMANDS: &[Command] = &[
     fields::COMMAND,
     join::COMMAND,
     plan::COMMAND,
+    entries::COMMAND,
 ];
 
 fn main() -> ExitCode {

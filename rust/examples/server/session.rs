@@ -178,17 +178,16 @@ impl Session {
         let Some(Open::Directory(listing)) = &self.fid(asked.fid)?.open else {
             return Err(Errno::BAD_FID);
         };
-        let mut end = 0;
-        for entry in listing.from(asked.offset) {
-            match entry.encode(place, end) {
-                Ok(next) => end = next,
-                // An answer without entries would say that there are no more.
-                Err(refusal) if end == 0 => return Err(refusal.into()),
-                Err(_) => break,
-            }
+        let packed = Rreaddir::pack(place, asked.count, listing.from(asked.offset))?;
+        match packed {
+            // An answer without entries would say that there are no more.
+            Packed {
+                entries: 0,
+                left: Some(_),
+                ..
+            } => Err(Refusal::NoRoom.into()),
+            Packed { reply, .. } => Ok(Rmessage::Readdir(reply)),
         }
-        let data = Data(&place[..end]);
-        Ok(Rmessage::Readdir(Rreaddir { data }))
     }
 
     fn clunk(&mut self, fid: Fid) -> Result<(), Errno> {

@@ -54,6 +54,19 @@ pub struct Outcome {
     pub place: usize,
 }
 
+/// What the library answers once entries were packed: 0, how many of them and how many bytes; or the
+/// refusal of a name with its place, as in an [`Outcome`], and no entries.
+#[repr(C)]
+#[derive(Clone, Copy, Debug, Default, PartialEq, Eq)]
+pub struct Packed {
+    /// 0, or the number of the refusal.
+    pub refusal: u8,
+    /// How many entries stand in the output.
+    pub entries: usize,
+    /// How many bytes they are, or what a refusal tells of.
+    pub place: usize,
+}
+
 /// What a server calls a file: 13 bytes on the wire.
 #[repr(C)]
 #[derive(Clone, Copy, Debug, Default, PartialEq, Eq)]
@@ -171,6 +184,25 @@ extern "C" {
         count: usize,
         values: *const [u64; ENTRY_VALUES],
     ) -> Outcome;
+    /// The directory entry at a position of a block; `held` says that there is one, and the end has
+    /// none.
+    pub fn sheafsledge_entry_at(
+        block: *const u8,
+        block_count: usize,
+        position: usize,
+        values: *mut [u64; ENTRY_VALUES],
+    ) -> Outcome;
+    /// Packs directory entries from the front of the table, as many as fit both `count` and the
+    /// output.
+    pub fn sheafsledge_pack(
+        out: *mut u8,
+        room: usize,
+        count: u32,
+        names: *const u8,
+        names_count: usize,
+        entries: *const [u64; ENTRY_VALUES],
+        entries_count: usize,
+    ) -> Packed;
     /// Whether the bytes are UTF-8 by RFC 3629.
     pub fn sheafsledge_is_utf8(bytes: *const u8, count: usize) -> bool;
     /// Whether a reply answers a request, by types and tags.
@@ -275,6 +307,7 @@ macro_rules! laid_out {
 }
 
 laid_out!(Outcome: 16, 8; refusal 0, ty 1, tag 2, held 4, place 8);
+laid_out!(Packed: 24, 8; refusal 0, entries 8, place 16);
 laid_out!(Qid: 16, 8; ty 0, version 4, path 8);
 
 /// Holds a type without named fields to its size and alignment, in bytes.

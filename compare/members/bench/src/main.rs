@@ -1,5 +1,6 @@
 //! `bench/run` builds and runs this; see its head for what is measured.
 
+mod blocks;
 mod clock;
 mod frames;
 mod in_rust;
@@ -28,6 +29,7 @@ fn main() -> ExitCode {
     let done = requests.all(|(name, frame)| rows::<CrossedT, Request, Tframe>(name, frame))
         && replies.all(|(name, frame)| rows::<CrossedR, Reply, Rframe>(name, frame))
         && stretch::row_of_a_million()
+        && blocks::rows()
         && texts::rows()
         && served::rows();
     match done {

@@ -3,7 +3,7 @@
 use judge::Direction;
 use sheafsledge_sys::*;
 
-pub use sheafsledge_sys::{Outcome, Qid, ENTRY_VALUES, QID_VALUES, R_VALUES, SPAN_VALUES};
+pub use sheafsledge_sys::{Outcome, Packed, Qid, ENTRY_VALUES, QID_VALUES, R_VALUES, SPAN_VALUES};
 
 /// What the library answers, and the values that it leaves beside it.
 pub type Told<const N: usize> = (Outcome, [u64; N]);
@@ -151,6 +151,19 @@ pub fn write_dirent(
     let (to, room) = (out.as_mut_ptr(), out.len());
     // SAFETY: as in writing a frame.
     unsafe { sheafsledge_write_dirent(to, room, at, lent.as_ptr(), lent.len(), values) }
+}
+
+#[inline]
+pub fn entry_at(block: &[u8], position: usize, values: &mut [u64; ENTRY_VALUES]) -> Outcome {
+    // SAFETY: as in reading a frame.
+    unsafe { sheafsledge_entry_at(block.as_ptr(), block.len(), position, values) }
+}
+
+#[inline]
+pub fn pack(out: &mut [u8], count: u32, names: &[u8], rows: &[[u64; ENTRY_VALUES]]) -> Packed {
+    let (to, room, from, len) = (out.as_mut_ptr(), out.len(), names.as_ptr(), names.len());
+    // SAFETY: as in writing a frame; the rows are a slice's too.
+    unsafe { sheafsledge_pack(to, room, count, from, len, rows.as_ptr(), rows.len()) }
 }
 
 pub fn is_utf8(bytes: &[u8]) -> bool {

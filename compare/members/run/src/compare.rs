@@ -11,7 +11,7 @@ use crate::kinds::Of;
 use crate::pieces::{lent, pieces, values};
 use crate::places::Why;
 use crate::theirs::{self, Again, Theirs};
-use crate::{dirents, elements, in_rust, over, raw, rows, stretches, tables, two};
+use crate::{blocks, dirents, elements, in_rust, over, raw, rows, stretches, tables, two};
 
 pub enum Outcome {
     /// The same, and whether it is a frame or a refusal.
@@ -39,7 +39,7 @@ struct Written {
 }
 
 /// The output before a writing, which stays where nothing is put.
-const BLANK: u8 = 0xee;
+pub const BLANK: u8 = 0xee;
 
 const MOST_SHOWN: usize = 100_000;
 
@@ -60,6 +60,7 @@ fn over_c(of: Of, bytes: &[u8], draws: &mut Draws) -> Outcome {
         }),
         Of::Data(direction) => write_anew(direction, bytes, &theirs::of_data(bytes), draws),
         Of::Entry(at) => dirents::entry(at, bytes, draws),
+        Of::Block => blocks::block(bytes, draws),
         Of::Elements(direction) => elements::elements(direction, bytes, draws),
         Of::Table(direction) => tables::table(direction, bytes, draws),
         Of::Stretch => stretches::stretch(bytes, draws),

@@ -45,7 +45,7 @@ fn differ(ours: Told<ENTRY_VALUES>, theirs: Told<ENTRY_VALUES>) -> Outcome {
 }
 
 /// An entry's values, its name at a place of some bytes.
-fn flat(entry: &Dirent, name: usize) -> [u64; ENTRY_VALUES] {
+pub fn flat(entry: &Dirent, name: usize) -> [u64; ENTRY_VALUES] {
     let qid = &entry.qid;
     [
         u64::from(qid.ty),

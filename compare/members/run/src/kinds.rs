@@ -6,7 +6,7 @@ use p9::draw::Draws;
 
 use crate::frames::{bordered, cuts, of_no_type, short, sizes, tailed, type_in_turn};
 use crate::limits::limit;
-use crate::others::{entries, joined, near_a_walk, text, values, walk};
+use crate::others::{blocks, entries, joined, near_a_walk, text, values, walk};
 use crate::rows::ROWS;
 
 #[derive(Clone, Copy)]
@@ -22,6 +22,7 @@ pub enum Kind {
     Limit,
     Write,
     Dirent,
+    Block,
     Element,
     Table,
     Stretch,
@@ -32,7 +33,7 @@ pub enum Kind {
 
 /// Each kind's name, and how many of ten thousand cases it has. Those of `limit` are long, and
 /// `rows` has one for each row.
-pub const KINDS: [(Kind, &str, u64); 17] = [
+pub const KINDS: [(Kind, &str, u64); 18] = [
     (Kind::Short, "short", 1000),
     (Kind::Size, "size", 1000),
     (Kind::Fields, "fields", 1500),
@@ -43,7 +44,8 @@ pub const KINDS: [(Kind, &str, u64); 17] = [
     (Kind::Unknown, "unknown", 400),
     (Kind::Limit, "limit", 5),
     (Kind::Write, "write", 800),
-    (Kind::Dirent, "dirent", 500),
+    (Kind::Dirent, "dirent", 400),
+    (Kind::Block, "block", 100),
     (Kind::Element, "element", 100),
     (Kind::Table, "table", 100),
     (Kind::Stretch, "stretch", 100),
@@ -63,6 +65,8 @@ pub enum Of {
     Data(Direction),
     /// A directory entry at a place.
     Entry(usize),
+    /// A directory block.
+    Block,
     /// The elements of a walk, by their numbers.
     Elements(Direction),
     /// A walk, to write from a table.
@@ -141,6 +145,7 @@ pub fn asked(kind: Kind, turn: usize, draws: &mut Draws) -> Vec<Asked> {
         Kind::Limit => limit(turn, draws),
         Kind::Write => all(Of::Written(direction), vec![drawn(direction, place, draws)]),
         Kind::Dirent => entries(turn, draws),
+        Kind::Block => all(Of::Block, blocks(turn, draws)),
         Kind::Element => walk(Of::Elements, turn, draws),
         Kind::Table => walk(Of::Table, turn, draws),
         Kind::Stretch => all(Of::Stretch, vec![joined(draws)]),

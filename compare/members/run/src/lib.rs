@@ -1,5 +1,6 @@
 //! What `compare/run` and `compare/fuzz` share: cases, and the library's answers beside the seller's.
 
+mod blocks;
 pub mod compare;
 mod dirents;
 mod elements;

@@ -50,6 +50,23 @@ pub fn entries(turn: usize, draws: &mut Draws) -> Vec<Asked> {
     }
 }
 
+/// Entries one after the other: as they are, damaged, or cut at every byte.
+pub fn blocks(turn: usize, draws: &mut Draws) -> Vec<Vec<u8>> {
+    let mut all = Vec::new();
+    for _ in 0..draws.below(9) {
+        all.extend(bytes(&Dirent {
+            name: P9String::draw(draws),
+            ..Draw::draw(draws)
+        }));
+    }
+    match turn % 3 {
+        0 => vec![all],
+        1 => vec![damaged(all, draws)],
+        _ if all.len() <= MOST_CUTS => (0..=all.len()).map(|end| all[..end].to_vec()).collect(),
+        _ => vec![altered(&all, draws)],
+    }
+}
+
 /// A walk of either direction.
 pub fn walk(of: fn(Direction) -> Of, turn: usize, draws: &mut Draws) -> Vec<Asked> {
     let direction = DIRECTIONS[turn % 2];

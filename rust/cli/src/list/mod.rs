@@ -20,7 +20,7 @@ use crate::words::{Opt, Words};
 pub use form::Form;
 pub use json::Json;
 pub use lines::{name_it, Lines};
-pub use summary::{numbered, Summary};
+pub use summary::{entries, numbered, Summary};
 
 pub const NAMES: Opt = Opt {
     long: "names",

@@ -19,6 +19,8 @@ pub struct Summary {
     pairs: Option<(u64, u64)>,
     /// Frames with a string that breaks, where they alone are looked for.
     broken: Option<u64>,
+    /// Directory entries, and blocks that stop at one, where they are looked for.
+    entries: Option<(u64, u64)>,
 }
 
 impl Summary {
@@ -31,6 +33,7 @@ impl Summary {
             stopped: [(0, None); 256],
             pairs: None,
             broken: None,
+            entries: None,
         }
     }
 
@@ -59,12 +62,18 @@ impl Summary {
         self.broken = Some(self.broken.unwrap_or_default() + broken);
     }
 
+    pub fn entries(&mut self, entries: u64, stops: u64) {
+        let (all_entries, all_stops) = self.entries.unwrap_or_default();
+        self.entries = Some((all_entries + entries, all_stops + stops));
+    }
+
     pub fn is_sound(&self) -> bool {
         if let Some(broken) = self.broken {
             return broken + sum(&self.stopped) == 0;
         }
         let (strays, open) = self.pairs.unwrap_or_default();
-        self.tails + sum(&self.refused) + sum(&self.stopped) + strays + open == 0
+        let (_, stops) = self.entries.unwrap_or_default();
+        self.tails + sum(&self.refused) + sum(&self.stopped) + strays + open + stops == 0
     }
 
     /// A line, and one more for each kind of refusal and of stop.
@@ -83,6 +92,10 @@ impl Summary {
         }
         if let Some(broken) = self.broken {
             line.push(shaded(paint, broken, "broken string", Shade::Refused));
+        }
+        if let Some((all, stops)) = self.entries {
+            line.push(entries(all));
+            line.push(shaded(paint, stops, "stopped block", Shade::Refused));
         }
         let mut text = line.join(", ") + "\n";
         for (what, counts) in [("refused", &self.refused), ("stopped", &self.stopped)] {
@@ -112,6 +125,14 @@ fn sum(counts: &[Count; 256]) -> u64 {
 pub fn numbered(n: u64, what: &str) -> String {
     let plural = if n == 1 { "" } else { "s" };
     format!("{n} {what}{plural}")
+}
+
+/// `1 entry`, `2 entries`
+pub fn entries(n: u64) -> String {
+    match n {
+        1 => "1 entry".into(),
+        n => format!("{n} entries"),
+    }
 }
 
 /// None is nothing to look at.

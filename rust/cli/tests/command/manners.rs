@@ -236,6 +236,7 @@ fn versions_and_help_go_to_standard_output() {
         &["pairs", "--help"],
         &["fields", "--help"],
         &["plan", "--help"],
+        &["entries", "--help"],
     ] {
         let told = run(words);
         assert_eq!((told.status, told.err.as_str()), (Some(0), ""));

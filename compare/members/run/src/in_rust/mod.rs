@@ -37,6 +37,7 @@ pub fn asked(of: Of, bytes: &[u8]) -> Found {
         Of::Written(Direction::R) => frames::made::<Rframe>(&their(bytes), buffer, bytes, draws),
         Of::Data(_) => frames::data(bytes, draws),
         Of::Entry(at) => parts::entry(at, bytes, draws),
+        Of::Block => parts::block(bytes, draws),
         Of::Elements(Direction::T) => parts::names(bytes),
         Of::Elements(Direction::R) => parts::qids(bytes),
         Of::Table(Direction::T) => parts::twalk(bytes, draws),

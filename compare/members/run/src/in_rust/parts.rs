@@ -38,6 +38,41 @@ fn placed(bytes: &[u8], at: usize, ours: Refusal) -> Found {
     unequal(&ours.at().unwrap_or(0), &theirs)
 }
 
+/// The entries of an Rreaddir; and those that the seller reads, packed with a drawn count and room.
+pub fn block(data: &[u8], draws: &mut Draws) -> Found {
+    entries(data).or_else(|| {
+        let (mut rest, mut theirs) = (data, Vec::new());
+        while let (false, Ok(entry)) = (rest.is_empty(), seller::Dirent::decode(&mut rest)) {
+            theirs.push(entry);
+        }
+        let limits = [(); 2].map(|()| draws.below(data.len() + 9));
+        repacked(&theirs, limits)
+    })
+}
+
+fn repacked(theirs: &[seller::Dirent], [count, room]: [usize; 2]) -> Found {
+    let buffer = Cell::default();
+    let made = |theirs| -> Dirent { Beside::made(theirs, &buffer) };
+    let mut owed = Vec::new();
+    let mut left = theirs.iter();
+    let first = left.find(|entry| {
+        let bytes = written(*entry).expect(SOUND);
+        let fits = owed.len() + bytes.len() <= count.min(room);
+        if fits {
+            owed.extend(bytes);
+        }
+        !fits
+    });
+    let mut out = vec![0xee; room];
+    let packed = Rreaddir::pack(&mut out, count as u32, theirs.iter().map(made));
+    let told = packed.map(|packed| (packed.reply.data.to_vec(), packed.left.is_some()));
+    let fits = theirs.len() - left.len() - usize::from(first.is_some());
+    let entries = packed.map(|packed| packed.entries);
+    unequal(&told, &Ok((owed, first.is_some())))
+        .or_else(|| unequal(&entries, &Ok(fits)))
+        .or_else(|| packed.ok()?.left?.difference(first?))
+}
+
 /// Those of an Rreaddir, up to the first that is refused.
 fn entries(data: &[u8]) -> Found {
     let mut ours = Rreaddir { data: Data(data) }.entries();
