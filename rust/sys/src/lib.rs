@@ -1,7 +1,7 @@
 //! The proved library as C sees it: the functions of the crates `exports`, `request_exports`,
-//! `reply_exports`, `stretch_exports` and `planning_exports`, and the archive that holds them, which
-//! the build script has linked. The crate `sheafsledge` is what a server calls; it adds slices,
-//! records and refusals to these.
+//! `reply_exports`, `stretch_exports`, `planning_exports` and `block_exports`, and the archive that
+//! holds them, which the build script has linked. The crate `sheafsledge` is what a server calls; it
+//! adds slices, records and refusals to these.
 //!
 //! Nothing joins the two texts but the names of the functions, so a difference would be read as
 //! other values. The layouts are held to C's at the end of this file, when it is compiled;
