@@ -63,7 +63,9 @@ impl<'a> Field<'a> for Dirent<'a> {
     fn take(taken: &mut Taken<'a, '_>) -> Self {
         Self {
             qid: Field::take(taken),
-            offset: Field::take(taken),
+            // The library has stored it and the qid's path one by one. If one load took both, it would
+            // wait until the stores are done, a sixth of the time that an entry takes.
+            offset: core::hint::black_box(Field::take(taken)),
             ty: Field::take(taken),
             name: Field::take(taken),
         }

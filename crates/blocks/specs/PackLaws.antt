@@ -12,14 +12,15 @@ use borrow.Author.Tests.{le-leb, lt-leb, leb-true}
 use Rattle.numbers.specs.Numbers.{Bytes, toLE, length-toLE}
 use Rattle.numbers.specs.Reading.{Result, ok, bad, after}
 use Rattle.numbers.specs.ReadingLaws.{or-else, after-inv}
-use Rattle.numbers.specs.Places.{over}
-use Rattle.numbers.specs.PlaceLaws.{over-then, length-over}
+use Rattle.numbers.specs.Places.{Within, over}
+use Rattle.numbers.specs.PlaceLaws.{inside, over-then, length-over}
 use Rattle.numbers.specs.declared.Refusal.{Refusal}
 use Rattle.numbers.specs.declared.Place.{Place}
 use Rattle.numbers.specs.declared.Place.the-variants.{At, Refused}
 use Rattle.strings.specs.Strings.{stringBytes}
 use Rattle.strings.specs.Spans.{showString, checkAt, StrCheck}
-use Rattle.strings.specs.SpanLaws.{shown-length, string-inv, string-passed}
+use Rattle.utf8.specs.Plain.{shortPlain, short-many, short-text}
+use Rattle.strings.specs.SpanLaws.{shown-in, shown-length, string-inv, string-passed}
 use Rattle.fields.specs.Layouts.{Item, number, string, itemBytes, itemsBytes}
 use Rattle.fields.specs.Values.{Value, show, shows}
 use Rattle.laying.specs.Laying.{PutAll}
@@ -73,6 +74,21 @@ entry-fails names row {k} {at} c e = unnamed names row (go (showString names (ge
     go : (m : Result (List ℕ)) → checkAt m (At 0) ≡ Refused k at → m ≡ bad k at
     go (ok bs r) f = absurd (let z : _≡_ {A = ℕ} 0 1 = cc f in omega arith)
     go (bad j n) f = let x : j ≡ k = cc f in let y : n ≡ at = cc f in ap₂ bad x y
+
+-- a short plain name passes
+short-small : (s : List ℕ) {b : Bool} → b ≡ shortPlain s → b ≡ true → length s ≤ 16
+short-small s e h = or-else (length s) 16 (λ l. l) (λ l. absurd (let d = short-many s l ∙ sym e ∙ h in let z : _≡_ {A = ℕ} 0 1 = cc d in omega arith))
+
+pub short-name : {names : List ℕ} {x y : ℕ} {t b : Bool} → Within x y (length names) t → t ≡ true → b ≡ shortPlain (take (x + y - x) (drop x names)) → b ≡ true → StrCheck names x y (At 0) (At 0)
+unfolding showString
+short-name {names} {x} {y} w h e g =
+    let l = inside w h in
+    let n : x + y - x ≡ y = omega arith in
+    let f = rw n at e in
+    let m = short-small (take y (drop x names)) f g in
+    let k = shown-length names x y l in
+    let z = short-text (take y (drop x names)) f g in
+    record { is = rw (shown-in names x y l, le-leb y 65535 (omega arith), z .0, z .1) }
 
 -- an entry that shows has a name that passes
 pub shows-sized : {names row : List ℕ} → Shows names row → Sized names row

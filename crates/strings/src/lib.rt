@@ -74,8 +74,7 @@ fn check_text(s: &[u8], v: Span, p: Place) -> Place
     p
 }
 
-// A string of the lent bytes that is to be written: the place itself; or 9, 7, 5, 6. Short cut, here and in reading: a short plain text, as
-// most names are, passes without a call.
+// A string of the lent bytes that is to be written: the place itself; or 9, 7, 5, 6.
 pub fn check_str(lent: &[u8], v: Span, p: Place) -> Place
     ensures { λ r. ⌜ StrCheck (now (lent .entry)) (v .start) (v .len) p r ⌝ }
 {
@@ -86,15 +85,11 @@ pub fn check_str(lent: &[u8], v: Span, p: Place) -> Place
     if 65535 < v.len {
         return Place::Refused(Refusal::StringTooLong, 0);
     }
-    let start = v.start;
-    let end = start + v.len;
-    if utf8::short_plain(&lent[start..end]) {
-        return q;
-    }
     check_text(lent, v, q)
 }
 
-// A string at a place: count, bytes, UTF-8, zero byte.
+// A string at a place: count, bytes, UTF-8, zero byte. Short cut: a short plain text, as most names are, passes without a call. `check_str` has
+// none: walks are scanned by one of their own, and it would only be in their way.
 pub fn read_str(s: &[u8], p: Place) -> ReadSpan
     ensures { λ r. ⌜ StrRead (now (s .entry)) p (r .value .start) (r .value .len) (r .next) ⌝ }
 {

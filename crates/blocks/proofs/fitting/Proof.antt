@@ -44,7 +44,7 @@ returns c =
     let t = n .before .before .before in
     let l = t .before in
     let a = l .before .before .args in
-    fit-bad (t .loop-test .taken) (l .loop .inv) (entry-fails (a .names .now) (getD (a .entries .now) (l .loop .i) []) (n .check-str .ensures) (c .before .q .given .1))
+    fit-bad (t .loop-test .taken) (l .loop .inv) (entry-fails (a .names .now) (getD (a .entries .now) (l .loop .i) []) (n .check-name .ensures) (c .before .q .given .1))
 
 enum-told : tie.Need-enum-told Inv-loop μ-loop
 enum-told c = search needs
@@ -55,7 +55,7 @@ add-size c =
     let n = e .before .before in
     let l = n .before .before .before .before in
     let a = l .before .before .args in
-    omega (arith, entry-passes (a .names .now) (getD (a .entries .now) (l .loop .i) []) (n .check-str .ensures) (e .enum-told .given .1) .small)
+    omega (arith, entry-passes (a .names .now) (getD (a .entries .now) (l .loop .i) []) (n .check-name .ensures) (e .enum-told .given .1) .small)
 
 sub-if1 : tie.Need-sub-if1 Inv-loop μ-loop
 sub-if1 c = omega (arith, c .before .before .before .before .before .before .before .loop .inv .held)
@@ -67,7 +67,7 @@ returns-2 c =
     let t = n .before .before .before in
     let l = t .before in
     let a = l .before .before .args in
-    fit-full (t .loop-test .taken) (l .loop .inv) (entry-passes (a .names .now) (getD (a .entries .now) (l .loop .i) []) (n .check-str .ensures) (e .enum-told .given .1)) (c .if1 .taken)
+    fit-full (t .loop-test .taken) (l .loop .inv) (entry-passes (a .names .now) (getD (a .entries .now) (l .loop .i) []) (n .check-name .ensures) (e .enum-told .given .1)) (c .if1 .taken)
 
 add-used : tie.Need-add-used Inv-loop μ-loop
 add-used c = omega (arith, c .before .before .before .before .before .before .before .before .loop .inv .held)
@@ -85,7 +85,7 @@ loop-again c =
     let t = n .before .before .before in
     let l = t .before in
     let a = l .before .before .args in
-    fit-next (t .loop-test .taken) (l .loop .inv) (entry-passes (a .names .now) (getD (a .entries .now) (l .loop .i) []) (n .check-str .ensures) (e .enum-told .given .1)) (c .if1 .left)
+    fit-next (t .loop-test .taken) (l .loop .inv) (entry-passes (a .names .now) (getD (a .entries .now) (l .loop .i) []) (n .check-name .ensures) (e .enum-told .given .1)) (c .if1 .left)
 
 returns-3 : tie.Need-returns-3 Inv-loop μ-loop
 returns-3 c = let i = c .before .loop .inv in let l = i .count in fit-all (omega arith) i
