@@ -134,6 +134,34 @@ impl<'a> Rreaddir<'a> {
             left,
         })
     }
+
+    /// Packs entries from a table as [`Rreaddir::pack`] does, in one call of the library: for a server
+    /// that keeps its entries so, since an iterator takes a call an entry. Answers how many entries the
+    /// reply holds, too.
+    ///
+    /// A row has the qid's type, version and path, the offset, the type, and where the name starts
+    /// among the names, with its length. A number too large for its field counts by its lowest bytes.
+    ///
+    /// ```
+    /// use sheafsledge::Rreaddir;
+    /// let (names, rows) = (b"abc", [[0, 0, 7, 1, 8, 0, 1], [0, 0, 8, 2, 8, 1, 2]]);
+    /// let mut buffer = [0; 8192];
+    ///
+    /// let (reply, entries) = Rreaddir::pack_table(&mut buffer, 8192, names, &rows)?;
+    /// assert_eq!((entries, reply.data.len()), (2, 51));
+    /// assert_eq!(reply.entries().last().unwrap()?.name, "bc");
+    /// # Ok::<(), sheafsledge::Refusal>(())
+    /// ```
+    pub fn pack_table(
+        buffer: &'a mut [u8],
+        count: u32,
+        names: &[u8],
+        rows: &[[u64; ENTRY_VALUES]],
+    ) -> Result<(Self, usize), Refusal> {
+        let [entries, bytes] = ffi::pack(buffer, count, names, rows)?;
+        let data = Data(&buffer[..bytes]);
+        Ok((Self { data }, entries))
+    }
 }
 
 /// What [`Rreaddir::pack`] made of some entries.

@@ -343,3 +343,28 @@ fn a_position_is_asked() {
         assert_eq!(asked(inside).0, 1, "{inside}");
     }
 }
+
+/// From a table, in one call: the same bytes, the same refusals, and what is after them untouched.
+#[test]
+fn a_table_is_packed_at_once() {
+    let rows = [
+        [0, 1, 2, 3, 8, 0, 2],
+        [0x80, u32::MAX.into(), 0x8000_0000_0000_0004, 255, 4, 2, 2],
+    ];
+    let (names, both) = ("abé".as_bytes(), [AB, E].concat());
+    for count in 0..60 {
+        let mut out = [0xee; 60];
+        let (reply, entries) = Rreaddir::pack_table(&mut out, count, names, &rows).expect("texts");
+        let fits = usize::from(count >= 26) + usize::from(count >= 52);
+        assert_eq!(
+            (entries, &*reply.data),
+            (fits, &both[..26 * fits]),
+            "{count}"
+        );
+        assert!(out[26 * fits..].iter().all(|byte| *byte == 0xee), "{count}");
+    }
+    let mut out = [0xee; 60];
+    let refused = Rreaddir::pack_table(&mut out, 60, &names[..3], &rows);
+    assert_eq!(refused, Err(Refusal::SpanOutside));
+    assert_eq!(out, [0xee; 60]);
+}

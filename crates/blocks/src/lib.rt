@@ -11,6 +11,9 @@ ghost use lib.ListN.{length};
 ghost use Rattle.numbers.specs.Places.{over};
 ghost use Rattle.numbers.specs.declared.Place.the-variants.{At};
 ghost use Rattle.strings.specs.Spans.{StrCheck};
+ghost use Rattle.laying.specs.Laying.{PutAll};
+ghost use Rattle.layouts.specs.Tables.{layoutDirent};
+ghost use Rattle.layouts.specs.Records.{dirent};
 ghost use Rattle.blocks.specs.Views.{Asked, Fitting, PackedInto, rowBytes};
 ghost use Rattle.blocks.specs.PackLaws.{Room, Ready, firstBytes};
 
@@ -95,6 +98,21 @@ fn fitting(names: &[u8], entries: &[[u64; 7]], room: usize) -> Packing
     Packing::Packed(i, used)
 }
 
+// The fields of an entry put at a place, nothing of it checked: `fitting` has done that.
+fn put_dirent(out: &mut [u8], p: Place, names: &[u8], d: Dirent) -> Place
+    ensures { λ r. ⌜ PutAll layoutDirent (now (names .entry)) (dirent d) (now (out .entry)) p (now (out .exit)) r ⌝ }
+{
+    let name = d.name;
+    let qid = d.qid;
+    let q1 = numbers::put_u8(out, p, qid.ty);
+    let q2 = numbers::put_u32(out, q1, qid.version);
+    let q3 = numbers::put_u64(out, q2, qid.path);
+    let q4 = numbers::put_u64(out, q3, d.offset);
+    let q5 = numbers::put_u8(out, q4, d.ty);
+    let q6 = numbers::put_num(out, q5, name.len as u64, 2);
+    strings::put_bytes(out, q6, names, name)
+}
+
 // An entry whose name passes, put where there is room for it. With this one test before its fields, the compiler drops theirs.
 fn put_entry(out: &mut [u8], at: usize, names: &[u8], row: [u64; 7])
     requires { ⌜ Room (now names) row at (length (now out)) ⌝ }
@@ -102,7 +120,7 @@ fn put_entry(out: &mut [u8], at: usize, names: &[u8], row: [u64; 7])
 {
     if numbers::within(at, 24, out.len()) {
         let d = flat::dirents::dirent_of(row);
-        dirents::put_dirent(out, Place::At(at), names, d);
+        put_dirent(out, Place::At(at), names, d);
         return;
     }
 }

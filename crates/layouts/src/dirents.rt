@@ -6,7 +6,7 @@ use crate::qids::Qid;
 use numbers::Place;
 use strings::Span;
 ghost use Rattle.fields.specs.Fields.{Fields};
-ghost use Rattle.laying.specs.Laying.{PutAll, Written};
+ghost use Rattle.laying.specs.Laying.{Written};
 ghost use Rattle.layouts.specs.Tables.{layoutDirent};
 ghost use Rattle.layouts.specs.Records.{dirent};
 
@@ -44,21 +44,6 @@ pub fn read_dirent(s: &[u8], p: Place) -> ReadDirent
     ReadDirent { value, next: p4 }
 }
 
-// The fields of an entry put at a place, nothing of it checked: what a writer does once it has measured.
-pub fn put_dirent(out: &mut [u8], p: Place, lent: &[u8], m: Dirent) -> Place
-    ensures { λ r. ⌜ PutAll layoutDirent (now (lent .entry)) (dirent m) (now (out .entry)) p (now (out .exit)) r ⌝ }
-{
-    let name = m.name;
-    let qid = m.qid;
-    let q1 = numbers::put_u8(out, p, qid.ty);
-    let q2 = numbers::put_u32(out, q1, qid.version);
-    let q3 = numbers::put_u64(out, q2, qid.path);
-    let q4 = numbers::put_u64(out, q3, m.offset);
-    let q5 = numbers::put_u8(out, q4, m.ty);
-    let q6 = numbers::put_num(out, q5, name.len as u64, 2);
-    strings::put_bytes(out, q6, lent, name)
-}
-
 // A whole entry written at a place: 9, 7, 5, 6, then 10, then 11; a refusal leaves the output as it was.
 pub fn write_dirent(out: &mut [u8], p: Place, lent: &[u8], m: Dirent) -> Place
     ensures { λ r. ⌜ Written layoutDirent (now (lent .entry)) (dirent m) (now (out .entry)) p (now (out .exit)) r ⌝ }
@@ -67,5 +52,12 @@ pub fn write_dirent(out: &mut [u8], p: Place, lent: &[u8], m: Dirent) -> Place
     let name = m.name;
     let end = laying::measure_str(lent, name, p1);
     let start = laying::begun(p, end, out.len());
-    put_dirent(out, start, lent, m)
+    let qid = m.qid;
+    let q1 = numbers::put_u8(out, start, qid.ty);
+    let q2 = numbers::put_u32(out, q1, qid.version);
+    let q3 = numbers::put_u64(out, q2, qid.path);
+    let q4 = numbers::put_u64(out, q3, m.offset);
+    let q5 = numbers::put_u8(out, q4, m.ty);
+    let q6 = numbers::put_num(out, q5, name.len as u64, 2);
+    strings::put_bytes(out, q6, lent, name)
 }

@@ -9,7 +9,7 @@ use p9::protocol::{Dirent, P9String, WireFormat};
 use sheafsledge::{Dirents, Qid, Rreaddir, Text};
 
 use crate::clock::{least, Output, Place};
-use crate::rows_of;
+use crate::{row, rows_of};
 
 /// What a client asks for.
 const COUNT: u32 = 8192;
@@ -25,16 +25,17 @@ pub fn rows() -> bool {
     let block: Vec<u8> = entries[..ENTRIES].iter().flat_map(bytes).collect();
     let (names, table) = table(&entries);
     let lent = lent(&entries);
-    let mut outs = [(); 4].map(|()| vec![0; COUNT as usize]);
+    let mut outs = [(); 5].map(|()| vec![0; COUNT as usize]);
     let packed = [
         ours_packed(&mut outs[0], &names, &table),
         in_rust_packed(&mut outs[1], &lent),
         theirs_packed(&mut &mut outs[2][..], &entries),
         theirs_grown(&mut outs[3], &entries),
+        table_packed(&mut outs[4], &names, &table),
     ];
     let same = outs.iter().all(|out| out[..block.len()] == block);
     let listed = [ours_listed, in_rust_listed, theirs_listed].map(|list| list(&block));
-    if packed != [ENTRIES; 4] || !same || listed != [ENTRIES; 3] {
+    if packed != [ENTRIES; 5] || !same || listed != [ENTRIES; 3] {
         eprintln!("bench: not all list and pack the same entries");
         return false;
     }
@@ -74,6 +75,14 @@ fn pack(entries: &[Dirent], lent: &[sheafsledge::Dirent], (names, table): (&[u8]
         }
     };
     let mut output = Output::new(COUNT as usize);
+    let mut in_a_table = |turns, place| {
+        let out = output.at(place);
+        for _ in 0..turns {
+            let out = black_box(&mut *out);
+            black_box(table_packed(out, black_box(names), black_box(table)));
+        }
+    };
+    let mut output = Output::new(COUNT as usize);
     let mut slice = |turns, place| {
         let out = output.at(place);
         for _ in 0..turns {
@@ -87,8 +96,16 @@ fn pack(entries: &[Dirent], lent: &[sheafsledge::Dirent], (names, table): (&[u8]
             black_box(theirs_grown(black_box(&mut grown), black_box(entries)));
         }
     };
-    let [ours, in_rust, slice, vec] = least([&mut ours, &mut in_rust, &mut slice, &mut vec]);
-    rows_of("block-8KiB", "pack", [ours, in_rust], slice.min(vec));
+    let [ours, in_rust, in_a_table, slice, vec] = least([
+        &mut ours,
+        &mut in_rust,
+        &mut in_a_table,
+        &mut slice,
+        &mut vec,
+    ]);
+    let theirs = slice.min(vec);
+    rows_of("block-8KiB", "pack", [ours, in_rust], theirs);
+    row("block-8KiB-table-in-Rust", "pack", in_a_table, theirs);
 }
 
 /// One more than fits, so that a packer has to see where to stop.
@@ -176,6 +193,10 @@ fn theirs_listed(mut block: &[u8]) -> usize {
 
 fn ours_packed(out: &mut [u8], names: &[u8], table: &[Row]) -> usize {
     ours::pack(out, COUNT, names, table).entries
+}
+
+fn table_packed(out: &mut [u8], names: &[u8], table: &[Row]) -> usize {
+    Rreaddir::pack_table(out, COUNT, names, table).map_or(0, |(_, entries)| entries)
 }
 
 fn in_rust_packed(out: &mut [u8], entries: &[sheafsledge::Dirent]) -> usize {

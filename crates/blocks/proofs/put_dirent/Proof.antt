@@ -2,8 +2,8 @@
 use borrow.Author.Needs.{needs}
 use Rattle.fields.specs.Layouts.{str}
 use Rattle.laying.specs.LayingLaws.{put-number, put-counted, put-done}
-use Rattle.layouts.proofs.dirents.put_dirent.Statement.{statement}
-use Rattle.layouts.proofs.dirents.put_dirent.Tie as tie
+use Rattle.blocks.proofs.put_dirent.Statement.{statement}
+use Rattle.blocks.proofs.put_dirent.Tie as tie
 
 same-length : tie.Need-same-length
 same-length c = search needs
