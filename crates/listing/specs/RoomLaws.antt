@@ -65,6 +65,7 @@ number-most R.NoSuchElement = lit< tt
 number-most R.HoldsRefusal = lit< tt
 number-most R.TooManyElements = lit< tt
 number-most R.TableFull = lit< tt
+number-most R.Capture = lit< tt
 number-most R.MsizeTooSmall = lit< tt
 number-most R.EndTooFar = lit< tt
 

@@ -27,6 +27,7 @@ pub enum Refusal {
     HoldsRefusal,
     TooManyElements,
     TableFull,
+    Capture,
     MsizeTooSmall,
     EndTooFar,
 }
@@ -54,6 +55,7 @@ pub fn number(k: Refusal) -> u8
         Refusal::HoldsRefusal => 16,
         Refusal::TooManyElements => 17,
         Refusal::TableFull => 24,
+        Refusal::Capture => 25,
         Refusal::MsizeTooSmall => 26,
         Refusal::EndTooFar => 27,
     }
