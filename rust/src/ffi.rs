@@ -1,7 +1,7 @@
 //! The proved library over its C boundary; all calls of it are here.
 
 use crate::boundary::{self, *};
-use crate::{Mark, Refusal, Tag, WalkHead};
+use crate::{Mark, Refusal, Stop, Tag, WalkHead};
 
 #[inline]
 pub fn read_t(bytes: &[u8], values: &mut [u64; T_VALUES]) -> Outcome {
@@ -221,6 +221,37 @@ pub fn plan(
 pub fn accepts(pieces: &[[u64; PIECE_VALUES]], first: u64, len: u64, msize: u32) -> bool {
     // SAFETY: pointer and count are a slice's; any numbers are answered.
     unsafe { sheafsledge_accepts(pieces.as_ptr(), pieces.len(), first, len, msize) }
+}
+
+/// How many bytes and how many frames were imported.
+pub fn import(
+    out: &mut [u8],
+    times: &mut [[u32; TIME_VALUES]],
+    file: &[u8],
+) -> Result<(usize, usize), Stop> {
+    let (to, room) = (out.as_mut_ptr(), out.len());
+    let (rows, rows_count) = (times.as_mut_ptr(), times.len());
+    let mut frames = [0];
+    // SAFETY: pointers and counts are those of slices, and what is written to is borrowed alone; any
+    // file is answered.
+    let told = unsafe {
+        let (from, count) = (file.as_ptr(), file.len());
+        sheafsledge_import(to, room, rows, rows_count, from, count, &mut frames)
+    };
+    placed(told).map(|bytes| (bytes, frames[0] as usize))
+}
+
+/// How long the file is.
+pub fn export(out: &mut [u8], stretch: &[u8], times: &[[u32; TIME_VALUES]]) -> Result<usize, Stop> {
+    let (to, room, from, count) = (out.as_mut_ptr(), out.len(), stretch.as_ptr(), stretch.len());
+    // SAFETY: as for `import`; any stretch is answered.
+    placed(unsafe { sheafsledge_export(to, room, from, count, times.as_ptr(), times.len()) })
+}
+
+/// What an outcome is where a refusal has a position.
+fn placed(told: Outcome) -> Result<usize, Stop> {
+    let at = told.place;
+    told.told().map_err(|refusal| Stop { at, refusal })
 }
 
 /// A tag as it crosses.

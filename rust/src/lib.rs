@@ -7,8 +7,9 @@
 //! stream into frames by that, in a buffer that it allocates once, and [`stretch()`] bytes that
 //! hold several: [`Listed::fields`] says where each field of theirs stands. The entries of a
 //! directory are given by [`Rreaddir::entries`], and [`Rreaddir::pack`] packs them. [`plan_writes`]
-//! cuts a large write into Twrites no longer than the msize. The example `server` shows a directory
-//! with these, and is meant to be started from.
+//! cuts a large write into Twrites no longer than the msize, and [`pcap`] goes from capture files to
+//! stretches and back. The example `server` shows a directory with these, and is meant to be started
+//! from.
 //!
 //! ```
 //! use sheafsledge::{Fid, Names, Rframe, Rmessage, Tag, Tframe, Tmessage, Twalk};
@@ -54,6 +55,7 @@ mod ffi;
 mod fields;
 mod frames;
 mod ids;
+pub mod pcap;
 mod places;
 mod plans;
 mod records;

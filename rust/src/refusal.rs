@@ -123,6 +123,7 @@ refusals! {
     16 HoldsRefusal InvalidData "the frame holds a refusal, and no message to write"
     17 TooManyElements InvalidInput "a walk has more than sixteen elements"
     24 TableFull InvalidInput "the table has too few rows"
+    25 Capture InvalidData "the capture file is malformed, or the frame does not fit one"
     26 MsizeTooSmall InvalidInput "the msize is below 24, and no Twrite with data fits"
     27 EndTooFar InvalidInput "the end of the write is above 18,446,744,073,709,551,615"
     255 Foreign Other "the library is another than this crate is for: it answers a number that is not known here"
@@ -199,7 +200,7 @@ mod tests {
             let told = Refusal::of(number, 14).map(Refusal::number);
             let owed = match number {
                 0 => None,
-                1..=17 | 24 | 26 | 27 => Some(number),
+                1..=17 | 24..=27 => Some(number),
                 _ => Some(255),
             };
             assert_eq!(told, owed);

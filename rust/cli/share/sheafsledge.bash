@@ -4,7 +4,7 @@ _sheafsledge() {
     local word=${COMP_WORDS[COMP_CWORD]} before=${COMP_WORDS[COMP_CWORD - 1]} offers='' i
     COMPREPLY=()
     if [ "$COMP_CWORD" -eq 1 ]; then
-        mapfile -t COMPREPLY < <(compgen -W 'list pairs where fields join plan entries --help -h --version -V' -- "$word")
+        mapfile -t COMPREPLY < <(compgen -W 'list pairs where fields join plan entries pcap --help -h --version -V' -- "$word")
         return
     fi
     case ${COMP_WORDS[1]} in
@@ -13,13 +13,14 @@ _sheafsledge() {
     fields) offers='--json --output -o --help -h' ;;
     join) offers='--last-may-stop --output -o --help -h' ;;
     entries) offers='--block --output -o --help -h' ;;
+    pcap) offers='--output -o --times --help -h' ;;
     esac
     # After `--`, and as an option's value, a word is a file in any case.
     for ((i = 2; i < COMP_CWORD; i++)); do
         [ "${COMP_WORDS[i]}" != -- ] || offers=''
     done
     case $before in
-    -o | --output | =) offers='' ;;
+    -o | --output | --times | =) offers='' ;;
     esac
     case $word in
     =) word='' ;;

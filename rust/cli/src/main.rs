@@ -13,6 +13,7 @@ mod join;
 mod list;
 mod output;
 mod pairs;
+mod pcap;
 mod plan;
 mod recording;
 mod status;
@@ -36,6 +37,7 @@ const COMMANDS: &[Command] = &[
     join::COMMAND,
     plan::COMMAND,
     entries::COMMAND,
+    pcap::COMMAND,
 ];
 
 fn main() -> ExitCode {

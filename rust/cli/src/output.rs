@@ -114,6 +114,18 @@ impl Output {
     }
 }
 
+/// Finishes several: none of them appears before all are written.
+pub fn finish_all(mut outputs: Vec<Output>) -> Result<(), Failure> {
+    for output in &mut outputs {
+        let mut written = output.flush();
+        if output.pending.is_some() {
+            written = written.and_then(|()| output.file.sync_all());
+        }
+        written.map_err(|error| output.failure(error))?;
+    }
+    outputs.into_iter().try_for_each(Output::finish)
+}
+
 fn standard() -> io::Result<Output> {
     // As a file: the standard library's own writer looks for line ends.
     let file = File::from(io::stdout().as_fd().try_clone_to_owned()?);

@@ -1,7 +1,7 @@
 //! The proved library as C sees it: the functions of the crates `exports`, `request_exports`,
-//! `reply_exports`, `stretch_exports`, `planning_exports` and `block_exports`, and the archive that
-//! holds them, which the build script has linked. The crate `sheafsledge` is what a server calls; it
-//! adds slices, records and refusals to these.
+//! `reply_exports`, `stretch_exports`, `planning_exports`, `block_exports` and `capture_exports`, and
+//! the archive that holds them, which the build script has linked. The crate `sheafsledge` is what a
+//! server calls; it adds slices, records and refusals to these.
 //!
 //! Nothing joins the two texts but the names of the functions, so a difference would be read as
 //! other values. The layouts are held to C's at the end of this file, when it is compiled;
@@ -30,6 +30,8 @@ pub const QID_VALUES: usize = 3;
 pub const SPAN_VALUES: usize = 2;
 /// How many values a piece of a plan has: its offset, and its length.
 pub const PIECE_VALUES: usize = 2;
+/// How many values a frame's time has: seconds, and microseconds.
+pub const TIME_VALUES: usize = 2;
 
 /// What the library answers for all that it reads or writes: 0 and the place after it, or the
 /// refusal. Of a frame there is a tag too, and a type where it is accepted or stands at a position;
@@ -276,6 +278,27 @@ extern "C" {
         len: u64,
         msize: u32,
     ) -> bool;
+    /// Makes a stretch of a capture file, over the front of the output, and puts the time of each frame
+    /// over the first rows. The place that is answered is that after the stretch, and `frames` says how
+    /// many there are; refused, all three are as they were.
+    pub fn sheafsledge_import(
+        out: *mut u8,
+        room: usize,
+        times: *mut [u32; TIME_VALUES],
+        rows: usize,
+        file: *const u8,
+        count: usize,
+        frames: *mut [u64; 1],
+    ) -> Outcome;
+    /// Makes a capture file of a stretch and the times of its frames, and answers the place after it.
+    pub fn sheafsledge_export(
+        out: *mut u8,
+        room: usize,
+        stretch: *const u8,
+        count: usize,
+        times: *const [u32; TIME_VALUES],
+        rows: usize,
+    ) -> Outcome;
     /// The frame at a position of a stretch, by its size.
     pub fn sheafsledge_frame_at(bytes: *const u8, count: usize, position: usize) -> Outcome;
     /// Answers 4, the number of the boundary.
@@ -327,6 +350,8 @@ sized!([u64; ENTRY_VALUES]: 56, 8);
 sized!([u64; QID_VALUES]: 24, 8);
 sized!([u64; SPAN_VALUES]: 16, 8);
 sized!([u64; PIECE_VALUES]: 16, 8);
+sized!([u32; TIME_VALUES]: 8, 4);
+sized!([u64; 1]: 8, 8);
 sized!([usize; 2]: 16, 8);
 sized!(usize: 8, 8);
 sized!(*const u8: 8, 8);

@@ -7,6 +7,7 @@ mod manners;
 mod memory;
 mod outputs;
 mod pairs;
+mod pcap;
 mod plan;
 mod running;
 mod terminals;

@@ -237,6 +237,7 @@ fn versions_and_help_go_to_standard_output() {
         &["fields", "--help"],
         &["plan", "--help"],
         &["entries", "--help"],
+        &["pcap", "--help"],
     ] {
         let told = run(words);
         assert_eq!((told.status, told.err.as_str()), (Some(0), ""));
