@@ -7,3 +7,4 @@ pub mod FrameLaws
 pub mod WayLaws
 pub mod ReadLaws
 pub mod Round
+pub mod Examples

@@ -129,14 +129,15 @@ fn read(word: &OsStr) -> Result<Vec<u8>, Failure> {
 /// The rows of a file of times. A part of a row would be dropped unseen.
 fn table(word: &OsStr) -> Result<Vec<[u32; 2]>, Failure> {
     let bytes = read(word)?;
-    let (rows, rest) = bytes.as_chunks::<8>();
-    if !rest.is_empty() {
+    let rows = bytes.chunks_exact(8);
+    if !rows.remainder().is_empty() {
         let error = io::Error::new(ErrorKind::InvalidData, "it ends inside a row of 8 bytes");
         return Err(Failure::file(&named(word), error));
     }
     let number = |four: &[u8]| u32::from_le_bytes(four.try_into().expect("four bytes"));
-    let row = |row: &[u8; 8]| [number(&row[..4]), number(&row[4..])];
-    Ok(rows.iter().map(row).collect())
+    Ok(rows
+        .map(|row| [number(&row[..4]), number(&row[4..])])
+        .collect())
 }
 
 fn refused(file: &OsStr, stop: Stop) -> Status {

@@ -1,6 +1,7 @@
 //! `bench/run` builds and runs this; see its head for what is measured.
 
 mod blocks;
+mod captures;
 mod clock;
 mod frames;
 mod in_rust;
@@ -30,6 +31,7 @@ fn main() -> ExitCode {
         && replies.all(|(name, frame)| rows::<CrossedR, Reply, Rframe>(name, frame))
         && stretch::row_of_a_million()
         && blocks::rows()
+        && captures::rows_of_a_million()
         && texts::rows()
         && served::rows();
     match done {
