@@ -4,7 +4,7 @@
 use core::fmt;
 use core::iter::FusedIterator;
 
-use crate::boundary::{Outcome, R_VALUES, T_VALUES};
+use crate::boundary::Outcome;
 use crate::fields::Taken;
 use crate::records::Onward;
 use crate::{ffi, Refusal, Rmessage, Tag, Tmessage};
@@ -136,84 +136,85 @@ impl<'a> Iterator for Stretch<'a> {
         }
         let next = step.place;
         self.position = Some(next);
+        let (ty, tag, size) = (step.ty, Tag(step.tag), next - at);
+        let bytes = &self.bytes[..next];
         let frame = Unread {
-            bytes: &self.bytes[..next],
+            bytes,
             at,
-            ty: step.ty,
-            tag: Tag(step.tag),
+            size,
+            ty,
         };
-        Some(Ok(match frame.ty % 2 {
-            0 => frame.listed::<Tmessage, T_VALUES>(ffi::read_tbody, Tmessage::take),
-            _ => frame.listed::<Rmessage, R_VALUES>(ffi::read_rbody, Rmessage::take),
+        let (body, tail) = match ty % 2 {
+            0 => frame.body(ffi::read_tbody, Tmessage::take),
+            _ => frame.body(ffi::read_rbody, Rmessage::take),
+        };
+        // Put beside the body once: made in each of the arms that make a message, it would be carried
+        // out of every one of them.
+        Some(Ok(Listed {
+            at,
+            size,
+            ty,
+            tag,
+            body,
+            tail,
+            next,
         }))
     }
 }
 
 /// A whole frame whose body is still to be read.
-#[derive(Clone, Copy)]
 struct Unread<'a> {
     /// The stretch, up to where the frame ends.
     bytes: &'a [u8],
     at: usize,
+    size: usize,
     ty: u8,
-    tag: Tag,
 }
 
 impl<'a> Unread<'a> {
-    /// By what reads the values of its direction, and what makes a message of them.
+    /// What it holds and its tail, by what reads the values of its direction and what makes a message
+    /// of them.
     #[inline(always)]
-    fn listed<M, const N: usize>(
+    fn body<M, const N: usize>(
         self,
         read: impl FnOnce(&[u8], usize, u8, &mut [u64; N]) -> Outcome,
-        take: impl FnOnce(u8, &mut Taken<'a, '_>, Read<'a>) -> Listed<'a>,
-    ) -> Listed<'a>
+        take: impl FnOnce(u8, &mut Taken<'a, '_>, Alone) -> Result<M, Refusal>,
+    ) -> (Body<'a>, usize)
     where
         Body<'a>: From<Result<M, Refusal>>,
     {
-        let Self { bytes, at, ty, .. } = self;
-        let mut values = [0; N];
-        let told = read(bytes, at, ty, &mut values);
-        let (frame, used) = (self, told.place);
-        let read = Read { frame, used };
-        match Refusal::of(told.refusal, told.place) {
-            Some(refusal) => Onward::<M>::on(read, Err(refusal)),
-            None => {
-                let (values, frame) = (values.iter(), bytes);
-                take(ty, &mut Taken { values, frame }, read)
-            }
-        }
-    }
-}
-
-/// A frame whose message is being made, and how many bytes it has without its tail.
-struct Read<'a> {
-    frame: Unread<'a>,
-    used: usize,
-}
-
-impl<'a, M> Onward<M> for Read<'a>
-where
-    Body<'a>: From<Result<M, Refusal>>,
-{
-    type Answer = Listed<'a>;
-
-    #[inline(always)]
-    fn on(self, msg: Result<M, Refusal>) -> Listed<'a> {
-        let Unread { bytes, at, ty, tag } = self.frame;
-        let (size, next) = (bytes.len() - at, bytes.len());
-        let tail = match msg {
-            Ok(_) => size - self.used,
-            Err(_) => 0,
-        };
-        Listed {
+        let Self {
+            bytes,
             at,
             size,
             ty,
-            tag,
-            body: msg.into(),
-            tail,
-            next,
-        }
+        } = self;
+        let mut values = [0; N];
+        let told = read(bytes, at, ty, &mut values);
+        let body = Body::from(match Refusal::of(told.refusal, told.place) {
+            Some(refusal) => Err(refusal),
+            None => {
+                let (values, frame) = (values.iter(), bytes);
+                take(ty, &mut Taken { values, frame }, Alone)
+            }
+        });
+        let tail = match told.refusal {
+            0 => size - told.place,
+            _ => 0,
+        };
+        (body, tail)
+    }
+}
+
+/// Nothing stands beside a message in the arm that makes it.
+struct Alone;
+
+impl<M> Onward<M> for Alone {
+    type Answer = Result<M, Refusal>;
+
+    #[inline(always)]
+    fn on(self, msg: Result<M, Refusal>) -> Self::Answer {
+        msg
     }
 }
 
