@@ -1,4 +1,4 @@
-//! Brings the seller's files in, for the build scripts of this crate and of `swapped`.
+//! Brings the seller's files in, for the build scripts of this crate, of `swapped` and of `packing`.
 #![allow(dead_code)] // Each brings its own.
 
 use std::path::{Path, PathBuf};
@@ -13,9 +13,18 @@ pub fn protocol() {
 }
 
 pub fn server() {
+    server_by(whole);
+}
+
+/// The same server without its `readdir`, which a method of ours takes the place of.
+pub fn packing_server() {
+    server_by(without_readdir);
+}
+
+fn server_by(bring: Bring) {
     let above = source().join("..");
-    for file in ["server/mod.rs", "server/read_dir.rs"] {
-        brought(&above.join(file), file, whole);
+    for (file, bring) in [("server/mod.rs", bring), ("server/read_dir.rs", whole)] {
+        brought(&above.join(file), file, bring);
     }
     brought(&above.join("lib.rs"), "syscall.rs", syscall);
 }
@@ -57,6 +66,38 @@ fn syscall(from: &Path, to: &Path) -> io::Result<()> {
         Some(start) => put(to, text[start..].as_bytes()),
         None => Err(io::Error::other("it has no macro named syscall")),
     }
+}
+
+/// All but the one function of that name, up to the brace that closes it. If a brace in a string or a
+/// comment were counted, what is left would be no Rust.
+fn without_readdir(from: &Path, to: &Path) -> io::Result<()> {
+    let text = fs::read_to_string(from)?;
+    let parts: Vec<&str> = text.split("fn readdir(").collect();
+    let [before, after] = parts[..] else {
+        let times = parts.len() - 1;
+        let told = format!("it has {times} functions named readdir, and not one");
+        return Err(io::Error::other(told));
+    };
+    match closed(after) {
+        Some(end) => put(to, [before, &after[end..]].concat().as_bytes()),
+        None => Err(io::Error::other("no brace closes its readdir")),
+    }
+}
+
+/// Where the first block of a text ends.
+fn closed(text: &str) -> Option<usize> {
+    let mut open = 0_usize;
+    for (place, byte) in text.bytes().enumerate() {
+        match byte {
+            b'{' => open += 1,
+            b'}' => open = open.checked_sub(1)?,
+            _ => continue,
+        }
+        if open == 0 {
+            return Some(place + 1);
+        }
+    }
+    None
 }
 
 fn put(to: &Path, text: &[u8]) -> io::Result<()> {

@@ -1,5 +1,6 @@
 //! `compare/server` builds and runs this; see its head for what it shows.
 
+mod counts;
 mod drawn;
 mod folder;
 mod listen;
@@ -34,7 +35,8 @@ fn main() -> ExitCode {
     }
 }
 
-/// The script, so many drawn requests, and the streams that the two take differently.
+/// The script, so many drawn requests, a directory by all counts, and the streams that the two take
+/// differently.
 fn compared(count: &str, seed: &str) -> io::Result<bool> {
     let number = |word: &str| word.parse().map_err(io::Error::other);
     let (count, seed) = (number(count)?, number(seed)?);
@@ -49,6 +51,10 @@ fn compared(count: &str, seed: &str) -> io::Result<bool> {
     good &= drawn::all(&mut twins, count, seed);
     good &= twins.ended("drawn")?;
     good &= answered(&scripted, twins.counts());
+
+    let mut twins = Twins::new(&folder, "counts")?;
+    good &= counts::all(&mut twins);
+    good &= twins.ended("counts")?;
 
     Ok(good & streams::all(&folder)?)
 }

@@ -1,4 +1,5 @@
-//! The seller's server over its own protocol and over ours, each on a tree of its own, asked the same.
+//! The seller's server over its own protocol, over ours, and over ours with a `readdir` that packs, each
+//! on a tree of its own, asked the same.
 
 use std::collections::BTreeMap;
 use std::io;
@@ -15,11 +16,12 @@ pub const LINK: &str = "link";
 /// How many requests of a type were asked, and how many were answered with more than an error.
 pub type Counts = BTreeMap<u8, (u64, u64)>;
 
-/// Both servers are the same text over two protocols, so they share no type.
+/// The servers are one text in three crates, so they share no type.
 pub struct Twins {
     theirs: p9::server::Server,
     ours: swapped::server::Server,
-    roots: [PathBuf; 2],
+    packing: packing::server::Server,
+    roots: [PathBuf; 3],
     asked: u64,
     differ: u64,
     counts: Counts,
@@ -32,21 +34,25 @@ const RLERROR: u8 = 7;
 
 impl Twins {
     pub fn new(folder: &Folder, name: &str) -> io::Result<Self> {
-        let theirs = folder.with(&format!("{name}-theirs"))?;
-        let ours = folder.with(&format!("{name}-ours"))?;
-        // The server makes none, and reads those that are there.
-        for root in [&theirs, &ours] {
+        let mut roots = Vec::new();
+        for side in ["theirs", "ours", "packing"] {
+            let root = folder.with(&format!("{name}-{side}"))?;
+            // The server makes none, and reads those that are there.
             symlink("größe", root.join(LINK))?;
+            roots.push(root);
         }
-        let (uids, gids) = (Default::default(), Default::default());
+        let roots: [PathBuf; 3] = roots.try_into().expect("three were made");
+        macro_rules! serving {
+            ($server:path, $root:expr) => {{
+                use $server as server;
+                server::Server::new($root.clone(), Default::default(), Default::default())?
+            }};
+        }
         Ok(Self {
-            theirs: p9::server::Server::new(theirs.clone(), uids, gids)?,
-            ours: swapped::server::Server::new(
-                ours.clone(),
-                Default::default(),
-                Default::default(),
-            )?,
-            roots: [theirs, ours],
+            theirs: serving!(p9::server, roots[0]),
+            ours: serving!(swapped::server, roots[1]),
+            packing: serving!(packing::server, roots[2]),
+            roots,
             asked: 0,
             differ: 0,
             counts: Counts::new(),
@@ -59,17 +65,22 @@ impl Twins {
 
     /// One request, which each reads from a stream that holds it alone. Answers the reply.
     pub fn ask(&mut self, request: &[u8]) -> Answer {
-        let (mut theirs, mut ours) = (Vec::new(), Vec::new());
-        let done = self.theirs.handle_message(&mut &*request, &mut theirs);
-        let theirs = done.map(|()| theirs).map_err(|error| error.kind());
-        let done = self.ours.handle_message(&mut &*request, &mut ours);
-        let ours = done.map(|()| ours).map_err(|error| error.kind());
+        macro_rules! answer {
+            ($server:ident) => {{
+                let mut reply = Vec::new();
+                let done = self.$server.handle_message(&mut &*request, &mut reply);
+                done.map(|()| reply).map_err(|error| error.kind())
+            }};
+        }
+        let theirs: Answer = answer!(theirs);
+        let (ours, packing): (Answer, Answer) = (answer!(ours), answer!(packing));
         self.asked += 1;
-        if ours != theirs {
+        if ours != theirs || packing != theirs {
             self.differ += 1;
             if self.differ < 10 {
                 eprintln!("server: {}:", hex(request));
                 eprintln!("  ours {}, theirs {}", shown(&ours), shown(&theirs));
+                eprintln!("  with our readdir {}", shown(&packing));
             }
         }
         self.count(request, &theirs);
@@ -86,14 +97,16 @@ impl Twins {
 
     /// Whether all replies were the same, and the trees are.
     pub fn ended(&self, name: &str) -> io::Result<bool> {
-        let (theirs, ours) = (tree(&self.roots[0])?, tree(&self.roots[1])?);
-        let same = theirs == ours;
-        if !same {
-            let other = theirs
-                .iter()
-                .zip(&ours)
-                .find(|(theirs, ours)| theirs != ours);
-            eprintln!("server: the trees differ, first in {other:?}");
+        let theirs = tree(&self.roots[0])?;
+        let mut same = true;
+        for root in &self.roots[1..] {
+            let ours = tree(root)?;
+            if theirs != ours {
+                same = false;
+                let mut pairs = theirs.iter().zip(&ours);
+                let other = pairs.find(|(theirs, ours)| theirs != ours);
+                eprintln!("server: the trees differ, first in {other:?}");
+            }
         }
         println!(
             "{name}: {} requests, {} replies differ; trees of {} files {}",
