@@ -113,20 +113,41 @@ impl<'a> Rreaddir<'a> {
         count: u32,
         entries: impl IntoIterator<Item = Dirent<'e>>,
     ) -> Result<Packed<'a, 'e>, Refusal> {
-        let (mut used, mut packed, mut left) = (0, 0, None);
-        for entry in entries {
-            // What is used is no more than the count, and no more than the buffer.
-            let (rest, count) = (&mut buffer[used..], count - used as u32);
-            let mut row = [0; ENTRY_VALUES];
-            let [name, _] = fill(&mut row, &entry);
-            let [fits, bytes] = ffi::pack(rest, count, name, &[row])?;
-            if fits == 0 {
-                left = Some(entry);
-                break;
+        let mut entries = entries.into_iter();
+        let mut gathered = Gathered::new();
+        let (used, packed) = (0, 0);
+        let mut block = Block {
+            buffer,
+            count,
+            used,
+            packed,
+        };
+        let left = loop {
+            let (len, apart) = gathered.gather(&mut entries, block.room());
+            let all = block.pack(gathered.names.as_flattened(), &gathered.rows[..len])?;
+            let Some(entry) = apart else {
+                match all {
+                    true if len == GATHERED => continue,
+                    true => break None,
+                    // They were foreseen to fit.
+                    false => return Err(Refusal::Foreign),
+                }
+            };
+            let fits = match entry.name.len() > SHORT {
+                true if all => block.pack_alone(&entry)?,
+                true => return Err(Refusal::Foreign),
+                false => all,
+            };
+            if !fits {
+                break Some(entry);
             }
-            used += bytes;
-            packed += 1;
-        }
+        };
+        let Block {
+            buffer,
+            used,
+            packed,
+            ..
+        } = block;
         let data = Data(&buffer[..used]);
         Ok(Packed {
             reply: Self { data },
@@ -136,8 +157,8 @@ impl<'a> Rreaddir<'a> {
     }
 
     /// Packs entries from a table as [`Rreaddir::pack`] does, in one call of the library: for a server
-    /// that keeps its entries so, since an iterator takes a call an entry. Answers how many entries the
-    /// reply holds, too.
+    /// that keeps its entries so, since those of an iterator are gathered first. Answers how many
+    /// entries the reply holds, too.
     ///
     /// A row has the qid's type, version and path, the offset, the type, and where the name starts
     /// among the names, with its length. A number too large for its field counts by its lowest bytes.
@@ -161,6 +182,106 @@ impl<'a> Rreaddir<'a> {
         let [entries, bytes] = ffi::pack(buffer, count, names, rows)?;
         let data = Data(&buffer[..bytes]);
         Ok((Self { data }, entries))
+    }
+}
+
+/// How many entries are gathered for one call of the library.
+const GATHERED: usize = 16;
+
+/// How long a name may be that is gathered: most are no longer, and each has its place of so many bytes.
+const SHORT: usize = 16;
+
+/// Entries of an iterator in a table, for the library: a call for each of them takes longer than to put
+/// their names beside one another.
+struct Gathered {
+    rows: [[u64; ENTRY_VALUES]; GATHERED],
+    names: [[u8; SHORT]; GATHERED],
+}
+
+impl Gathered {
+    #[inline(always)]
+    fn new() -> Self {
+        Self {
+            rows: [[0; ENTRY_VALUES]; GATHERED],
+            names: [[0; SHORT]; GATHERED],
+        }
+    }
+
+    /// Gathers anew, up to the first that is not to fit so much room and is the last one gathered, or to
+    /// one that is too long to be gathered; answers how many, and either. What fits, the library decides: it is
+    /// foreseen here so that none after it is taken.
+    #[inline(always)]
+    fn gather<'e>(
+        &mut self,
+        entries: &mut impl Iterator<Item = Dirent<'e>>,
+        room: usize,
+    ) -> (usize, Option<Dirent<'e>>) {
+        let (mut len, mut size) = (0, 0);
+        for (row, place) in self.rows.iter_mut().zip(&mut self.names) {
+            let Some(entry) = entries.next() else { break };
+            let name = entry.name.as_str().as_bytes();
+            if name.len() > SHORT {
+                return (len, Some(entry));
+            }
+            fill(row, &entry);
+            row[NAME_START] = (SHORT * len) as u64;
+            put_short(place, name);
+            len += 1;
+            size += entry.byte_size();
+            if size > room {
+                return (len, Some(entry));
+            }
+        }
+        (len, None)
+    }
+}
+
+/// Which of an entry's values is where its name starts.
+const NAME_START: usize = 5;
+
+/// Two pieces that may overlap, since a call of `memcpy` takes longer than all else.
+#[inline(always)]
+fn put_short(place: &mut [u8; SHORT], name: &[u8]) {
+    let place = &mut place[..name.len()];
+    match (name.first_chunk::<8>(), name.last_chunk::<8>()) {
+        (Some(first), Some(last)) => {
+            place[..8].copy_from_slice(first);
+            place[name.len() - 8..].copy_from_slice(last);
+        }
+        _ => place.copy_from_slice(name),
+    }
+}
+
+/// A block that is being packed.
+struct Block<'a> {
+    buffer: &'a mut [u8],
+    count: u32,
+    /// No more than the count, and no more than the buffer.
+    used: usize,
+    packed: usize,
+}
+
+impl Block<'_> {
+    #[inline(always)]
+    fn room(&self) -> usize {
+        self.buffer.len().min(self.count as usize) - self.used
+    }
+
+    /// Whether all rows fit.
+    #[inline(always)]
+    fn pack(&mut self, names: &[u8], rows: &[[u64; ENTRY_VALUES]]) -> Result<bool, Refusal> {
+        let (rest, count) = (&mut self.buffer[self.used..], self.count - self.used as u32);
+        let [fits, bytes] = ffi::pack(rest, count, names, rows)?;
+        self.used += bytes;
+        self.packed += fits;
+        Ok(fits == rows.len())
+    }
+
+    #[inline(never)]
+    fn pack_alone(&mut self, entry: &Dirent) -> Result<bool, Refusal> {
+        let mut rows = [[0; ENTRY_VALUES]];
+        let [name, _] = fill(&mut rows[0], entry);
+        self.pack(name, &rows)
     }
 }
 

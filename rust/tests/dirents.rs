@@ -193,6 +193,52 @@ fn none_after_the_first_that_does_not_fit_is_taken() {
     assert_eq!((all.entries, all.left), (0, None));
 }
 
+/// Names of none to forty bytes, in an order in which short and long ones come by turns and in runs,
+/// packed by every count.
+#[test]
+fn many_entries_are_packed_in_their_order() {
+    let letters = "abcdefghijklmnopqrstuvwxyzabcdefghijklmnop";
+    let lens = (0..120).map(|i| match i / 40 {
+        0 => i % 41,
+        1 => [12, 16, 17, 8, 7][i % 5],
+        _ => 13,
+    });
+    let (mut entries, mut bytes, mut ends) = (Vec::new(), Vec::new(), vec![0]);
+    for (i, len) in lens.enumerate() {
+        let (version, path, offset) = (7 * i as u32, u64::MAX - i as u64, i as u64 + 1);
+        bytes.push(0x80);
+        bytes.extend_from_slice(&version.to_le_bytes());
+        bytes.extend_from_slice(&path.to_le_bytes());
+        bytes.extend_from_slice(&offset.to_le_bytes());
+        bytes.push(4);
+        bytes.extend_from_slice(&(len as u16).to_le_bytes());
+        bytes.extend_from_slice(&letters.as_bytes()[..len]);
+        ends.push(bytes.len());
+        let ty = 0x80;
+        entries.push(Dirent {
+            qid: Qid { ty, version, path },
+            offset,
+            ty: 4,
+            name: Text::new(&letters[..len]).expect("plain"),
+        });
+    }
+    for count in 0..=bytes.len() + 1 {
+        let fits = ends.iter().filter(|end| **end <= count).count() - 1;
+        for room in [count, bytes.len() + 1] {
+            let (mut buffer, mut left) = (vec![0xee; room], entries.iter().copied());
+            let packed = Rreaddir::pack(&mut buffer, count as u32, left.by_ref()).expect("texts");
+            assert_eq!(
+                (packed.entries, packed.left),
+                (fits, entries.get(fits).copied())
+            );
+            assert_eq!(*packed.reply.data, bytes[..ends[fits]]);
+            // The one that does not fit is taken, and none after it.
+            assert_eq!(left.next(), entries.get(fits + 1).copied());
+            assert!(buffer[ends[fits]..].iter().all(|byte| *byte == 0xee));
+        }
+    }
+}
+
 /// A row for an entry whose name is a part of the names.
 fn row(entry: &Dirent, start: usize, len: usize) -> [u64; 7] {
     let Dirent {

@@ -39,7 +39,7 @@ pub fn all(twins: &mut Twins) -> bool {
     good
 }
 
-/// Of 1 to 40 bytes, some in two or three.
+/// Of 1 to 41 bytes, some letters of two or three.
 fn file(i: usize) -> String {
     let letter = ['a', 'ö', '€'][i % 3];
     format!("{}{i}", letter.to_string().repeat(i / letter.len_utf8()))
