@@ -122,6 +122,7 @@ refusals! {
     15 NoSuchElement InvalidInput "a vector has no element of that number"
     16 HoldsRefusal InvalidData "the frame holds a refusal, and no message to write"
     17 TooManyElements InvalidInput "a walk has more than sixteen elements"
+    18 StatMalformed InvalidData "a stat's count, its size and its fields do not agree"
     24 TableFull InvalidInput "the table has too few rows"
     25 Capture InvalidData "the capture file is malformed, or the frame does not fit one"
     26 MsizeTooSmall InvalidInput "the msize is below 24, and no Twrite with data fits"
@@ -200,7 +201,7 @@ mod tests {
             let told = Refusal::of(number, 14).map(Refusal::number);
             let owed = match number {
                 0 => None,
-                1..=17 | 24..=27 => Some(number),
+                1..=18 | 24..=27 => Some(number),
                 _ => Some(255),
             };
             assert_eq!(told, owed);

@@ -4,9 +4,9 @@ use mathlib.Core.List.{List, [], _∷_, _++_}
 use mathlib.Core.Option.{Option, none, some}
 use lib.ListN.{length, take, drop, getD}
 use Rattle.numbers.specs.declared.Place.{Place}
-use Rattle.fields.specs.Layouts.{num, str, dat, strs, quids, Layout}
+use Rattle.fields.specs.Layouts.{num, str, dat, strs, quids, boxed, Layout}
 use Rattle.layouts.specs.Tables.{Row, row, layoutTsymlink, layoutTrenameat, layoutTauth, layoutTattach}
-use Rattle.flat.specs.Flat.{FlatWritten}
+use Rattle.flat.specs.Flat.{shapeNumbers, FlatWritten}
 
 -- the requests of two strings (F3.2)
 abbrev pub tableTwo : List Row
@@ -20,6 +20,7 @@ withSpans i (str ∷ fs) ss ns = take 2 ss ++ withSpans (i + 2) fs (drop 2 ss) n
 withSpans i (dat ∷ fs) ss ns = getD ns i 0 ∷ getD ns (i + 1) 0 ∷ withSpans (i + 2) fs ss ns
 withSpans i (strs ∷ fs) ss ns = getD ns i 0 ∷ getD ns (i + 1) 0 ∷ getD ns (i + 2) 0 ∷ withSpans (i + 3) fs ss ns
 withSpans i (quids ∷ fs) ss ns = getD ns i 0 ∷ getD ns (i + 1) 0 ∷ getD ns (i + 2) 0 ∷ withSpans (i + 3) fs ss ns
+withSpans i (boxed b ∷ fs) ss ns = take (shapeNumbers b) (drop i ns) ++ withSpans (i + shapeNumbers b) fs ss ns
 
 -- the values of a request whose strings are all of the first slice and all of the second, which stands after it
 abbrev pub together : Option Layout → List ℕ → List ℕ → List ℕ → List ℕ

@@ -16,7 +16,7 @@ use Rattle.numbers.specs.declared.Place.{Place}
 use Rattle.numbers.specs.declared.Place.the-variants.{Refused}
 use Rattle.strings.specs.Spans.{showSpan, showString}
 use Rattle.strings.specs.SpanLaws.{shown-in}
-use Rattle.fields.specs.Layouts.{num, str, dat, strs, quids, Layout}
+use Rattle.fields.specs.Layouts.{num, str, dat, strs, quids, boxed, Layout}
 use Rattle.fields.specs.Values.{Value, span, show}
 use Rattle.laying.specs.Laying.{checkField, putField, pastPutField, putFields, pastPutFields, FieldMeasured, Measured, PutAll, Written, Begun}
 use Rattle.laying.specs.LayingLaws.{measure}
@@ -37,6 +37,7 @@ stringsIn (str ∷ fs) = 1 + stringsIn fs
 stringsIn (dat ∷ fs) = stringsIn fs
 stringsIn (strs ∷ fs) = stringsIn fs
 stringsIn (quids ∷ fs) = stringsIn fs
+stringsIn (boxed b ∷ fs) = stringsIn fs
 
 abbrev pub ofTwo : List Row → List Row
 ofTwo [] = []

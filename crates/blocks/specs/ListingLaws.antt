@@ -14,7 +14,7 @@ use Rattle.numbers.specs.ReadingLaws.{or-else, Took}
 use Rattle.numbers.specs.declared.Refusal.{Refusal}
 use Rattle.numbers.specs.declared.Refusal.the-variants as R
 use Rattle.strings.specs.Strings.{stringBytes}
-use Rattle.fields.specs.Layouts.{Layout, Item, number, string, bytes, strings, qids, kind, readFields, itemBytes, itemsBytes, Goods}
+use Rattle.fields.specs.Layouts.{Layout, Item, number, string, bytes, strings, qids, box, kind, readFields, itemBytes, itemsBytes, Goods}
 use Rattle.fields.specs.LayoutLaws.{took-fields}
 use Rattle.fields.specs.Values.{Value, places}
 use Rattle.laying.specs.Laying.{headWidth}
@@ -34,6 +34,7 @@ item-least (string bs) = simp (length-append, length-toLE) (omega arith)
 item-least (bytes bs) = simp (length-append, length-toLE) (omega arith)
 item-least (strings l) = simp (length-append, length-toLE) (omega arith)
 item-least (qids n bs) = simp (length-append, length-toLE) (omega arith)
+item-least (box cs) = simp (length-append, length-toLE) (omega arith)
 
 items-least : (is : List Item) → least (map kind is) ≤ length (itemsBytes is)
 unfolding itemsBytes

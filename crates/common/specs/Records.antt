@@ -6,6 +6,8 @@ use Rattle.fields.specs.Values.{Value, val}
 use Rattle.layouts.specs.Records.{spanOf, partOf}
 use Rattle.common.specs.declared.sessions.Tversion.{Tversion}
 use Rattle.common.specs.declared.sessions.Rversion.{Rversion}
+use Rattle.common.specs.declared.sessions.Rauth.{Rauth}
+use Rattle.common.specs.declared.sessions.Rattach.{Rattach}
 use Rattle.common.specs.declared.sessions.Tflush.{Tflush}
 use Rattle.common.specs.declared.sessions.Tclunk.{Tclunk}
 use Rattle.common.specs.declared.walking.Twalk.{Twalk}
@@ -23,6 +25,12 @@ tversion m = val (m .msize) ∷ spanOf (m .version) ∷ []
 
 abbrev pub rversion : Rversion → List Value
 rversion m = val (m .msize) ∷ spanOf (m .version) ∷ []
+
+abbrev pub rauth : Rauth → List Value
+rauth m = val (m .aqid .ty) ∷ val (m .aqid .version) ∷ val (m .aqid .path) ∷ []
+
+abbrev pub rattach : Rattach → List Value
+rattach m = val (m .qid .ty) ∷ val (m .qid .version) ∷ val (m .qid .path) ∷ []
 
 abbrev pub tflush : Tflush → List Value
 tflush m = val (m .oldtag .0) ∷ []

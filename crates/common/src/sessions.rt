@@ -1,14 +1,16 @@
 // Written by tools/messages from its table of messages.
-// Opening and closing a session, as every dialect does: version, flush, clunk.
+// Opening and closing a session, as every dialect does: version, what auth and attach answer, flush, clunk.
 
 use layouts::ids::Fid;
 use layouts::ids::Tag;
+use layouts::qids;
+use layouts::qids::Qid;
 use numbers::Place;
 use strings::Span;
 ghost use Rattle.fields.specs.Fields.{Fields};
 ghost use Rattle.laying.specs.Laying.{Written};
-ghost use Rattle.layouts.specs.Tables.{layoutTversion, layoutRversion, layoutTflush, layoutTclunk};
-ghost use Rattle.common.specs.Records.{tversion, rversion, tflush, tclunk};
+ghost use Rattle.layouts.specs.Tables.{layoutTversion, layoutRversion, layoutRauth, layoutRattach, layoutTflush, layoutTclunk};
+ghost use Rattle.common.specs.Records.{tversion, rversion, rauth, rattach, tflush, tclunk};
 
 pub struct Tversion {
     pub msize: u32,
@@ -82,6 +84,66 @@ pub fn write_rversion(out: &mut [u8], p: Place, lent: &[u8], m: Rversion) -> Pla
     let q1 = numbers::put_u32(out, start, m.msize);
     let q2 = numbers::put_num(out, q1, version.len as u64, 2);
     strings::put_bytes(out, q2, lent, version)
+}
+
+pub struct Rauth {
+    pub aqid: Qid,
+}
+
+pub struct ReadRauth {
+    pub value: Rauth,
+    pub next: Place,
+}
+
+pub fn read_rauth(s: &[u8], p: Place) -> ReadRauth
+    ensures { λ r. ⌜ Fields layoutRauth (now (s .entry)) p (rauth (r .value)) (r .next) ⌝ }
+{
+    let r1 = qids::read_qid(s, p);
+    let p1 = r1.next;
+    let aqid = r1.value;
+    let value = Rauth { aqid };
+    ReadRauth { value, next: p1 }
+}
+
+pub fn write_rauth(out: &mut [u8], p: Place, lent: &[u8], m: Rauth) -> Place
+    ensures { λ r. ⌜ Written layoutRauth (now (lent .entry)) (rauth m) (now (out .entry)) p (now (out .exit)) r ⌝ }
+{
+    let end = laying::advanced(p, 13);
+    let start = laying::begun(p, end, out.len());
+    let aqid = m.aqid;
+    let q1 = numbers::put_u8(out, start, aqid.ty);
+    let q2 = numbers::put_u32(out, q1, aqid.version);
+    numbers::put_u64(out, q2, aqid.path)
+}
+
+pub struct Rattach {
+    pub qid: Qid,
+}
+
+pub struct ReadRattach {
+    pub value: Rattach,
+    pub next: Place,
+}
+
+pub fn read_rattach(s: &[u8], p: Place) -> ReadRattach
+    ensures { λ r. ⌜ Fields layoutRattach (now (s .entry)) p (rattach (r .value)) (r .next) ⌝ }
+{
+    let r1 = qids::read_qid(s, p);
+    let p1 = r1.next;
+    let qid = r1.value;
+    let value = Rattach { qid };
+    ReadRattach { value, next: p1 }
+}
+
+pub fn write_rattach(out: &mut [u8], p: Place, lent: &[u8], m: Rattach) -> Place
+    ensures { λ r. ⌜ Written layoutRattach (now (lent .entry)) (rattach m) (now (out .entry)) p (now (out .exit)) r ⌝ }
+{
+    let end = laying::advanced(p, 13);
+    let start = laying::begun(p, end, out.len());
+    let qid = m.qid;
+    let q1 = numbers::put_u8(out, start, qid.ty);
+    let q2 = numbers::put_u32(out, q1, qid.version);
+    numbers::put_u64(out, q2, qid.path)
 }
 
 pub struct Tflush {

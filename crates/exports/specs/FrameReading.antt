@@ -14,7 +14,7 @@ use Rattle.numbers.specs.declared.Place.the-variants.{At, Refused}
 use Rattle.fields.specs.Layouts.{Layout}
 use Rattle.fields.specs.Values.{Value}
 use Rattle.fields.specs.Fields.{valuesAt}
-use Rattle.layouts.specs.Tables.{Row, lookup, tableT, tableR}
+use Rattle.layouts.specs.Tables.{Row, lookup}
 use Rattle.layouts.specs.Bodies.{Answer, accepted, refused, finishAt, bodyAt}
 use Rattle.framing.specs.Frames.{Frame, headless, framed, readFrame, refusedWhole}
 use Rattle.framing.specs.Raising.{bodyPlace, since, usedSince, bodyFrom}
@@ -40,10 +40,10 @@ pub record FlatDirection : Type 0 where
   pub told : (tag : ℕ) (k : Refusal) (at : ℕ) → fails tag k at ≡ frameOutcome (whole (framed 0 tag (refused k at)))
   pub bare : (tag : ℕ) (k : Refusal) (at : ℕ) (ns : List ℕ) → ns ≡ frameLaid (whole (framed 0 tag (refused k at))) ns
 
-abbrev pub flatRequests : FlatDirection
-flatRequests =
+abbrev pub flatRequests : List Row → FlatDirection
+flatRequests table =
     record {
-      rows = tableT;
+      rows = table;
       whole = λ f. f;
       fails = λ tag k at. outcomeOf 0 tag true (Refused k at);
       none = λ k at. refl;
@@ -52,10 +52,10 @@ flatRequests =
       bare = λ tag k at ns. refl;
     }
 
-abbrev pub flatReplies : FlatDirection
-flatReplies =
+abbrev pub flatReplies : List Row → FlatDirection
+flatReplies table =
     record {
-      rows = tableR;
+      rows = table;
       whole = refusedWhole;
       fails = λ tag k at. ended (Refused k at);
       none = λ k at. refl;
@@ -108,10 +108,10 @@ by-place : {X : Type 0} (q : Place) → ((a : ℕ) → q ≡ At a → X) → ((k
 by-place (At a) f g = f a refl
 by-place (Refused k at) f g = g k at refl
 
-pub request-read : (s : List ℕ) {n ty tag : ℕ} {ns ms : List ℕ} {g : Head} {q : Place} {r : Outcome} → HeadIs s g → Bytes s → g ≡ H.Held n ty tag → FlatRead (lookup tableT ty) (take n s) (At 7) ns ms q → r ≡ outcomeOf ty tag true q
-    → FrameRead (readFrame tableT s) ns ms r
-request-read s {ty = ty} {tag = tag} {q = q} h b e f x =
-    by-place q (λ a i. frame-read flatRequests s h b e f i x) (λ k at i. body-failed flatRequests s h b e f i (x ∙ ap (outcomeOf ty tag true) i))
+pub request-read : (table : List Row) (s : List ℕ) {n ty tag : ℕ} {ns ms : List ℕ} {g : Head} {q : Place} {r : Outcome} → HeadIs s g → Bytes s → g ≡ H.Held n ty tag → FlatRead (lookup table ty) (take n s) (At 7) ns ms q → r ≡ outcomeOf ty tag true q
+    → FrameRead (readFrame table s) ns ms r
+request-read table s {ty = ty} {tag = tag} {q = q} h b e f x =
+    by-place q (λ a i. frame-read (flatRequests table) s h b e f i x) (λ k at i. body-failed (flatRequests table) s h b e f i (x ∙ ap (outcomeOf ty tag true) i))
 
 -- ---- a body in a stretch
 

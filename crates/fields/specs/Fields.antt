@@ -1,7 +1,7 @@
 -- Fields at places: what the readers' contracts cite.
 use Prim.Native.Nat.{ℕ}
 use mathlib.Core.Path.{_≡_}
-use mathlib.Core.List.{List, [], _∷_}
+use mathlib.Core.List.{List, [], _∷_, map}
 use mathlib.Core.Bool.{cond}
 use lib.ListN.{length, drop}
 use lib.Dec.{ltb}
@@ -10,8 +10,12 @@ use Rattle.numbers.specs.Places.{readFrom, restAt, numAt, pastNum}
 use Rattle.numbers.specs.declared.Place.{Place}
 use Rattle.numbers.specs.declared.Place.the-variants.{At, Refused}
 use Rattle.strings.specs.Spans.{checkAt}
-use Rattle.fields.specs.Layouts.{Field, num, str, dat, strs, quids, Layout, Item, okCount, readMany, readField}
-use Rattle.fields.specs.Values.{Value, val, span, part, place}
+use Rattle.fields.specs.Layouts.{Shape, fixed, worded, Field, num, str, dat, strs, quids, boxed, Layout, Item, okCount, readMany, readField}
+use Rattle.fields.specs.Values.{Slot, slot, text, Value, val, span, part, block, place}
+
+abbrev pub noSlot : Shape → Slot
+noSlot (fixed w) = slot 0
+noSlot worded = text 0 0
 
 -- the value of a field that was refused
 abbrev pub nothing : Field → Value
@@ -20,6 +24,7 @@ nothing str = span 0 0
 nothing dat = span 0 0
 nothing strs = part 0 0 0
 nothing quids = part 0 0 0
+nothing (boxed fs) = block (map noSlot fs)
 
 -- the value of what was read at a place
 abbrev pub placedIn : Field → Place → Result Item → Value

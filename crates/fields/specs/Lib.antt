@@ -5,3 +5,4 @@ pub mod ValueLaws
 pub mod Fields
 pub mod Runs
 pub mod FieldLaws
+pub mod BoxLaws

@@ -8,9 +8,15 @@ use mathlib.Core.List.{List, [], _∷_, _++_, append-assoc}
 use lib.ListN.{length, getD, drop, length-append, List·getD-append}
 use lib.Seq.{getD-append-add, set-append-seam}
 use lib.Dec.{ltb}
-use Rattle.fields.specs.Layouts.{num, str, dat, strs, quids, Layout}
-use Rattle.fields.specs.Values.{Value, val, span, part}
-use Rattle.flat.specs.Flat.{numbersOf, flatValues, stored, low, valuesFrom, fieldValues}
+use Rattle.fields.specs.Layouts.{Shape, fixed, worded, num, str, dat, strs, quids, boxed, Layout}
+use Rattle.fields.specs.Values.{Slot, slot, text, Value, val, span, part, block}
+use Rattle.flat.specs.Flat.{slotNumbers, numbersOf, flatValues, stored, low, shapeNumbers, slotsFrom, valuesFrom, fieldValues}
+
+-- what the fields of a box can hold
+pub data Holds : List Shape → List Slot → Type 0 where
+  none : Holds [] []
+  number : {w n : ℕ} {fs : List Shape} {vs : List Slot} → n < 256 ^ w → Holds fs vs → Holds (fixed w ∷ fs) (slot n ∷ vs)
+  string : {x y : ℕ} {fs : List Shape} {vs : List Slot} → Holds fs vs → Holds (worded ∷ fs) (text x y ∷ vs)
 
 -- values that a layout's fields can hold
 pub data Fits : Layout → List Value → Type 0 where
@@ -20,6 +26,7 @@ pub data Fits : Layout → List Value → Type 0 where
   bytes : {x y : ℕ} {fs : Layout} {vs : List Value} → Fits fs vs → Fits (dat ∷ fs) (span x y ∷ vs)
   strings : {c x y : ℕ} {fs : Layout} {vs : List Value} → c < 256 ^ 2 → Fits fs vs → Fits (strs ∷ fs) (part c x y ∷ vs)
   qids : {c x y : ℕ} {fs : Layout} {vs : List Value} → c < 256 ^ 2 → Fits fs vs → Fits (quids ∷ fs) (part c x y ∷ vs)
+  box : {b : List Shape} {us : List Slot} {fs : Layout} {vs : List Value} → Holds b us → Fits fs vs → Fits (boxed b ∷ fs) (block us ∷ vs)
 
 low-fits : (w n : ℕ) → n < 256 ^ w → low w n ≡ n
 low-fits w n h = go (ltb w 8)
@@ -77,6 +84,27 @@ parted c x y fs vs xs zs i e g ih =
     let d = nth v vs xs zs i e 2 (omega arith) in
     ap₂ (λ a (r : List Value). a ∷ r) (ap₂ (λ p (q : ℕ → Value). q p) d (ap₂ (λ p q r. part p q r) a b)) (others v vs xs zs i e fs ih)
 
+-- the numbers of a box, after any others and before any
+slots-long : {b : List Shape} {us : List Slot} → Holds b us → length (slotNumbers us) ≡ shapeNumbers b
+slots-long none = refl
+slots-long (number g h) = let l = slots-long h in omega arith
+slots-long (string h) = let l = slots-long h in omega arith
+
+slots-back : {b : List Shape} {us : List Slot} → Holds b us → (xs zs : List ℕ) (i : ℕ) → i ≡ length xs → slotsFrom i b (xs ++ (slotNumbers us ++ zs)) ≡ us
+slots-back none xs zs i e = refl
+slots-back (number {w} {n} {fs} {vs} g h) xs zs i e =
+    let at : getD (xs ++ n ∷ (slotNumbers vs ++ zs)) i 0 ≡ n = ap (λ j. getD (xs ++ n ∷ (slotNumbers vs ++ zs)) j 0) (e ∙ omega arith) ∙ getD-append-add xs (n ∷ (slotNumbers vs ++ zs)) 0 0 in
+    let k = length-append xs (n ∷ []) in
+    ap₂ (λ a (r : List Slot). slot a ∷ r) (ap (low w) at ∙ low-fits w n g)
+    (ap (slotsFrom (i + 1) fs) (sym (append-assoc xs (n ∷ []) (slotNumbers vs ++ zs))) ∙ slots-back h (xs ++ n ∷ []) zs (i + 1) (omega arith))
+slots-back (string {x} {y} {fs} {vs} h) xs zs i e =
+    let ns : List ℕ = xs ++ x ∷ y ∷ (slotNumbers vs ++ zs) in
+    let at : getD ns i 0 ≡ x = ap (λ j. getD ns j 0) (e ∙ omega arith) ∙ getD-append-add xs (x ∷ y ∷ (slotNumbers vs ++ zs)) 0 0 in
+    let on : getD ns (i + 1) 0 ≡ y = ap (λ j. getD ns (j + 1) 0) e ∙ getD-append-add xs (x ∷ y ∷ (slotNumbers vs ++ zs)) 1 0 in
+    let k = length-append xs (x ∷ y ∷ []) in
+    ap₂ (λ (u : Slot) (r : List Slot). u ∷ r) (ap₂ text at on)
+    (ap (slotsFrom (i + 2) fs) (sym (append-assoc xs (x ∷ y ∷ []) (slotNumbers vs ++ zs))) ∙ slots-back h (xs ++ x ∷ y ∷ []) zs (i + 2) (omega arith))
+
 back-from : {l : Layout} {vs : List Value} → Fits l vs → Back l vs
 back-from none xs zs i e = refl
 back-from (number {w} {n} {fs} {vs} g f) xs zs i e =
@@ -85,6 +113,10 @@ back-from (string {x} {y} {fs} {vs} f) xs zs i e = spanned x y fs vs xs zs i e (
 back-from (bytes {x} {y} {fs} {vs} f) xs zs i e = spanned x y fs vs xs zs i e (back-from f)
 back-from (strings {c} {x} {y} {fs} {vs} g f) xs zs i e = parted c x y fs vs xs zs i e g (back-from f)
 back-from (qids {c} {x} {y} {fs} {vs} g f) xs zs i e = parted c x y fs vs xs zs i e g (back-from f)
+back-from (box {b} {us} {fs} {vs} g f) xs zs i e =
+    ap₂ (λ (a : List Slot) (r : List Value). block a ∷ r)
+    (ap (λ (r : List ℕ). slotsFrom i b (xs ++ r)) (append-assoc (slotNumbers us) (flatValues vs) zs) ∙ slots-back g xs (flatValues vs ++ zs) i e)
+    (ap (λ k. valuesFrom (i + k) fs (xs ++ ((slotNumbers us ++ flatValues vs) ++ zs))) (sym (slots-long g)) ∙ others (block us) vs xs zs i e fs (back-from f))
 
 -- whatever the lent numbers were, if there are enough of them
 pub back : {l : Layout} {vs : List Value} (ns : List ℕ) → Fits l vs → length (flatValues vs) ≤ length ns → fieldValues l (stored ns 0 (flatValues vs)) ≡ vs

@@ -6,8 +6,8 @@ use mathlib.Core.List.{List, [], _∷_, _++_}
 use mathlib.Core.Option.{Option, none, some}
 use lib.ListN.{length, getD, set}
 use lib.Dec.{leb, ltb}
-use Rattle.fields.specs.Layouts.{num, str, dat, strs, quids, Layout, Item}
-use Rattle.fields.specs.Values.{Value, val, span, part, shows}
+use Rattle.fields.specs.Layouts.{Shape, fixed, worded, num, str, dat, strs, quids, boxed, Layout, Item}
+use Rattle.fields.specs.Values.{Slot, slot, text, Value, val, span, part, block, shows}
 use Rattle.fields.specs.Fields.{valuesAt, pastFields}
 use Rattle.laying.specs.Laying.{writtenOut, writtenPast}
 use Rattle.layouts.specs.Tables.{Row, row}
@@ -18,10 +18,16 @@ use Rattle.numbers.specs.declared.Place.the-variants.{At, Refused}
 
 -- ---- out of the values
 
+abbrev pub slotNumbers : List Slot → List ℕ
+slotNumbers [] = []
+slotNumbers (slot n ∷ l) = n ∷ slotNumbers l
+slotNumbers (text x y ∷ l) = x ∷ y ∷ slotNumbers l
+
 abbrev pub numbersOf : Value → List ℕ
 numbersOf (val n) = n ∷ []
 numbersOf (span x y) = x ∷ y ∷ []
 numbersOf (part c x y) = c ∷ x ∷ y ∷ []
+numbersOf (block l) = slotNumbers l
 
 abbrev pub flatValues : List Value → List ℕ
 flatValues [] = []
@@ -43,6 +49,17 @@ laid (Refused k at) vs ns = ns
 abbrev pub low : ℕ → ℕ → ℕ
 low w n = cond (ltb w 8) (n % 256 ^ w) n
 
+-- how many numbers the fields of a box have
+abbrev pub shapeNumbers : List Shape → ℕ
+shapeNumbers [] = 0
+shapeNumbers (fixed w ∷ fs) = 1 + shapeNumbers fs
+shapeNumbers (worded ∷ fs) = 2 + shapeNumbers fs
+
+abbrev pub slotsFrom : ℕ → List Shape → List ℕ → List Slot
+slotsFrom i [] ns = []
+slotsFrom i (fixed w ∷ fs) ns = slot (low w (getD ns i 0)) ∷ slotsFrom (i + 1) fs ns
+slotsFrom i (worded ∷ fs) ns = text (getD ns i 0) (getD ns (i + 1) 0) ∷ slotsFrom (i + 2) fs ns
+
 -- the values of a layout, of the numbers from the i-th on
 abbrev pub valuesFrom : ℕ → Layout → List ℕ → List Value
 valuesFrom i [] ns = []
@@ -51,6 +68,7 @@ valuesFrom i (str ∷ fs) ns = span (getD ns i 0) (getD ns (i + 1) 0) ∷ values
 valuesFrom i (dat ∷ fs) ns = span (getD ns i 0) (getD ns (i + 1) 0) ∷ valuesFrom (i + 2) fs ns
 valuesFrom i (strs ∷ fs) ns = part (low 2 (getD ns i 0)) (getD ns (i + 1) 0) (getD ns (i + 2) 0) ∷ valuesFrom (i + 3) fs ns
 valuesFrom i (quids ∷ fs) ns = part (low 2 (getD ns i 0)) (getD ns (i + 1) 0) (getD ns (i + 2) 0) ∷ valuesFrom (i + 3) fs ns
+valuesFrom i (boxed b ∷ fs) ns = block (slotsFrom i b ns) ∷ valuesFrom (i + shapeNumbers b) fs ns
 
 abbrev pub fieldValues : Layout → List ℕ → List Value
 fieldValues l ns = valuesFrom 0 l ns
@@ -112,6 +130,7 @@ numbersIn (str ∷ fs) = 2 + numbersIn fs
 numbersIn (dat ∷ fs) = 2 + numbersIn fs
 numbersIn (strs ∷ fs) = 3 + numbersIn fs
 numbersIn (quids ∷ fs) = 3 + numbersIn fs
+numbersIn (boxed b ∷ fs) = shapeNumbers b + numbersIn fs
 
 abbrev pub widest : List Row → ℕ
 widest [] = 0

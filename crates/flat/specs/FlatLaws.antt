@@ -17,7 +17,8 @@ use Rattle.numbers.specs.declared.Refusal.{Refusal}
 use Rattle.numbers.specs.declared.Refusal.the-variants as R
 use Rattle.numbers.specs.declared.Place.{Place}
 use Rattle.numbers.specs.declared.Place.the-variants.{At, Refused}
-use Rattle.fields.specs.Layouts.{num, str, dat, strs, quids, Layout}
+use Rattle.fields.specs.Layouts.{num, str, dat, strs, quids, boxed, Layout}
+use Rattle.fields.specs.LayoutLaws.{both}
 use Rattle.fields.specs.Values.{Value}
 use Rattle.fields.specs.Fields.{pastField, valuesAt, pastFields, Fields}
 use Rattle.fields.specs.FieldLaws.{number-field, stays}
@@ -63,6 +64,7 @@ numbersAlone (str ∷ fs) = false
 numbersAlone (dat ∷ fs) = false
 numbersAlone (strs ∷ fs) = false
 numbersAlone (quids ∷ fs) = false
+numbersAlone (boxed b ∷ fs) = false
 
 -- how many bytes they have
 abbrev pub widths : Layout → ℕ
@@ -72,13 +74,10 @@ widths (str ∷ fs) = widths fs
 widths (dat ∷ fs) = widths fs
 widths (strs ∷ fs) = widths fs
 widths (quids ∷ fs) = widths fs
+widths (boxed b ∷ fs) = widths fs
 
 no-way : {X : Type 0} → _≡_ {A = Bool} false true → X
 no-way e = absurd (let z : _≡_ {A = ℕ} 0 1 = cc e in omega arith)
-
-both : (b c : Bool) → cond b c false ≡ true → (b ≡ true) × (c ≡ true)
-both true c e = (refl, e)
-both false c e = no-way e
 
 past-held : (w a : ℕ) (s : List ℕ) → a + w ≤ length s → pastField (num w) s (At a) ≡ At (a + w)
 past-held w a s h = sym (number-field (num-held {x = fromLE (take w (drop a s))} {p = At a} {t = true} refl (record { is = h }) refl refl) .next)
@@ -116,6 +115,7 @@ past-numbers (str ∷ fs) w a s o e = no-way e
 past-numbers (dat ∷ fs) w a s o e = no-way e
 past-numbers (strs ∷ fs) w a s o e = no-way e
 past-numbers (quids ∷ fs) w a s o e = no-way e
+past-numbers (boxed b ∷ fs) w a s o e = no-way e
 
 -- the place after them, told before they are read
 pub fields-skipped : {w n : ℕ} {fs : Layout} {s : List ℕ} {p q : Place} {vs : List Value} → numbersAlone (num w ∷ fs) ≡ true → w + widths fs ≡ n → Skipped n s p q → vs ≡ valuesAt (num w ∷ fs) s p

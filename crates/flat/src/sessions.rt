@@ -6,6 +6,8 @@ use crate::U16;
 use crate::U32;
 use crate::WIDTH_R;
 use crate::WIDTH_T;
+use common::sessions::Rattach;
+use common::sessions::Rauth;
 use common::sessions::Rversion;
 use common::sessions::Tclunk;
 use common::sessions::Tflush;
@@ -13,16 +15,14 @@ use common::sessions::Tversion;
 use layouts::ids::Fid;
 use layouts::ids::Tag;
 use layouts::qids::Qid;
-use messages::sessions::Rattach;
-use messages::sessions::Rauth;
 use messages::sessions::Rlerror;
 use messages::sessions::Tattach;
 use messages::sessions::Tauth;
 use strings::Span;
 ghost use mathlib.Core.Path.{_≡_};
 ghost use Rattle.layouts.specs.Tables.{layoutTversion, layoutRversion, layoutTauth, layoutRauth, layoutTattach, layoutRattach, layoutTflush, layoutTclunk, layoutRlerror};
-ghost use Rattle.common.specs.Records.{tversion, rversion, tflush, tclunk};
-ghost use Rattle.messages.specs.Records.{tauth, rauth, tattach, rattach, rlerror};
+ghost use Rattle.common.specs.Records.{tversion, rversion, rauth, rattach, tflush, tclunk};
+ghost use Rattle.messages.specs.Records.{tauth, tattach, rlerror};
 ghost use Rattle.flat.specs.Flat.{flatValues, stored, fieldValues};
 
 pub fn flat_tversion(m: Tversion, values: &mut [u64; WIDTH_T])

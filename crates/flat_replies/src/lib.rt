@@ -11,7 +11,8 @@ mod walking;
 use flat::WIDTH_R;
 use numbers::Place;
 use numbers::Refusal;
-ghost use Rattle.layouts.specs.Tables.{lookup, tableR};
+ghost use Rattle.layouts.specs.Tables.{lookup};
+ghost use Rattle.layouts.specs.Tables.{tableR};
 ghost use Rattle.flat.specs.Flat.{FlatRead, FlatWritten};
 
 // A body read flat at a place: its values go to the front of what the caller lends for them, and the place after its fields is answered;
@@ -102,8 +103,8 @@ pub fn write_flat(out: &mut [u8], p: Place, lent: &[u8], ty: u8, values: &[u64; 
         75 => laying::begun(p, p, out.len()),
         77 => laying::begun(p, p, out.len()),
         101 => common::sessions::write_rversion(out, p, lent, flat::sessions::rversion_of(v)),
-        103 => messages::sessions::write_rauth(out, p, lent, flat::sessions::rauth_of(v)),
-        105 => messages::sessions::write_rattach(out, p, lent, flat::sessions::rattach_of(v)),
+        103 => common::sessions::write_rauth(out, p, lent, flat::sessions::rauth_of(v)),
+        105 => common::sessions::write_rattach(out, p, lent, flat::sessions::rattach_of(v)),
         109 => laying::begun(p, p, out.len()),
         111 => common::walking::write_rwalk(out, p, lent, flat::walking::rwalk_of(v)),
         117 => common::files::write_rread(out, p, lent, flat::files::rread_of(v)),

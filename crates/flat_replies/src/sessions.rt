@@ -27,7 +27,7 @@ pub(crate) fn read_rauth(s: &[u8], p: Place, values: &mut [u64; WIDTH_R]) -> Pla
     let Place::At(_) = next else {
         return next;
     };
-    let r = messages::sessions::read_rauth(s, p);
+    let r = common::sessions::read_rauth(s, p);
     let m = r.value;
     flat::sessions::flat_rauth(m, values);
     next
@@ -40,7 +40,7 @@ pub(crate) fn read_rattach(s: &[u8], p: Place, values: &mut [u64; WIDTH_R]) -> P
     let Place::At(_) = next else {
         return next;
     };
-    let r = messages::sessions::read_rattach(s, p);
+    let r = common::sessions::read_rattach(s, p);
     let m = r.value;
     flat::sessions::flat_rattach(m, values);
     next

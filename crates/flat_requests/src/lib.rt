@@ -11,7 +11,8 @@ mod walking;
 use flat::WIDTH_T;
 use numbers::Place;
 use numbers::Refusal;
-ghost use Rattle.layouts.specs.Tables.{lookup, tableT};
+ghost use Rattle.layouts.specs.Tables.{lookup};
+ghost use Rattle.layouts.specs.Tables.{tableT};
 ghost use Rattle.flat.specs.Flat.{FlatRead, FlatWritten};
 
 // A body read flat at a place: its values go to the front of what the caller lends for them, and the place after its fields is answered;

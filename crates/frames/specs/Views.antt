@@ -2,7 +2,6 @@
 use Prim.Native.Nat.{ℕ}
 use mathlib.Core.Path.{_≡_}
 use mathlib.Core.List.{List}
-use Rattle.numbers.specs.declared.Refusal.{Refusal}
 use Rattle.layouts.specs.Bodies.{accepted}
 use Rattle.numbers.specs.declared.Refusal.the-variants as C
 use Rattle.numbers.specs.declared.Place.{Place}
@@ -12,18 +11,12 @@ use Rattle.requests.specs.declared.Tbody.{Tbody}
 use Rattle.requests.specs.declared.Tbody.the-variants as M
 use Rattle.replies.specs.Views.{typeR, valuesR}
 use Rattle.framing.specs.Frames.{Frame, headless, framed}
-use Rattle.framing.specs.declared.Head.{Head}
-use Rattle.framing.specs.declared.Head.the-variants as H
 use Rattle.framing.specs.Writing.{FrameWritten}
 use Rattle.frames.specs.declared.Tframe.{Tframe}
 use Rattle.frames.specs.declared.ReadTframe.{ReadTframe}
 use Rattle.frames.specs.declared.ReadTframe.the-variants as T
 use Rattle.frames.specs.declared.ReadRframe.{ReadRframe}
 use Rattle.frames.specs.declared.ReadRframe.the-variants as R
-
--- the refusal of a header that can't be read
-pub record Why (h : Head) (k : Refusal) : Type 0 where
-  pub is : (j : Refusal) → h ≡ H.Refused j → k ≡ j
 
 unfoldable pub viewTframe : ReadTframe → Frame
 viewTframe (T.Frame f) = framed (f .at) (f .tag .0) (viewT (f .msg))

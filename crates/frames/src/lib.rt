@@ -13,8 +13,9 @@ ghost use Rattle.replies.specs.Views.{typeR, layoutR, valuesR, viewR};
 ghost use Rattle.framing.specs.Writing.{FrameWritten};
 ghost use Rattle.framing.specs.Frames.{readFrame, refusedWhole};
 ghost use Rattle.framing.specs.Raising.{bodyFrom, readFrameAt};
+ghost use Rattle.framing.specs.Standing.{Why};
 ghost use Rattle.requests.specs.Views.{viewT};
-ghost use Rattle.frames.specs.Views.{Why, viewTframe, viewRframe, TframeWritten};
+ghost use Rattle.frames.specs.Views.{viewTframe, viewRframe, TframeWritten};
 
 // The frame's position in the bytes that it was read from, and its tag beside either a message, with the bytes used, or a refusal. Spans, parts
 // and places count from the first of those bytes, the bytes used from the frame's.

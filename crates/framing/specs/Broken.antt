@@ -9,7 +9,7 @@ use lib.ListN.{length, take, drop, length-append, length-drop}
 use lib.Seq.{drop-drop, drop-append-seam, take-take, take-all, length-take-le}
 use lib.Dec.{leb}
 use borrow.Author.Tests.{leb-true}
-use Rattle.numbers.specs.Numbers.{Bytes}
+use Rattle.numbers.specs.Numbers.{Bytes, bytes-take, bytes-drop}
 use Rattle.numbers.specs.Reading.{Result, ok, bad, after, raw, readNum}
 use Rattle.numbers.specs.ReadingLaws.{or-else, after-inv, Took, took-num}
 use Rattle.numbers.specs.Refusals.{numberOf}
@@ -19,8 +19,8 @@ use Rattle.utf8.specs.Utf8.{utf8, soundStart, noZero, zeroAt}
 use Rattle.strings.specs.Strings.{okText, readString, stringBytes}
 use Rattle.strings.specs.StringLaws.{took-string}
 use Rattle.framing.specs.Breaks.{NotUtf8At, ZeroAt, five, six}
-use Rattle.fields.specs.Layouts.{Field, num, str, dat, strs, quids, Layout, Item, bytes, most, readMany, readField, readFields, itemBytes}
-use Rattle.fields.specs.LayoutLaws.{took-field}
+use Rattle.fields.specs.Layouts.{Shape, fixed, worded, Field, num, str, dat, strs, quids, boxed, Layout, Cell, Item, bytes, box, most, readMany, readCell, readCells, agrees, readField, readFields, cellBytes, itemBytes}
+use Rattle.fields.specs.LayoutLaws.{took-cell, agreed, took-field}
 use Rattle.laying.specs.LayingLaws.{drop-take}
 use Rattle.layouts.specs.Tables.{Row, lookup}
 use Rattle.layouts.specs.Bodies.{Answer, refused, itemsAt, bodyOf}
@@ -28,6 +28,23 @@ use Rattle.framing.specs.Frames.{readHeader, Frame, framed, readFrame}
 use Rattle.framing.specs.Writing.{headBytes}
 use Rattle.framing.specs.WritingLaws.{head-length}
 use Rattle.framing.specs.Accepted.{frame-inv, header-inv}
+
+-- a refusal of a text
+pub record OfText (k : Refusal) : Type 0 where
+  pub low : 5 ≤ numberOf k
+  pub high : numberOf k ≤ 6
+
+pub below : {k : Refusal} → OfText k → (j : Refusal) → numberOf j < 5 → j ≡ k → ⊥
+below t j h e = let y = ap numberOf e in let l = t .low in omega arith
+
+pub above : {k : Refusal} → OfText k → (j : Refusal) → 6 < numberOf j → j ≡ k → ⊥
+above t j h e = let y = ap numberOf e in let l = t .high in omega arith
+
+pub of-five : OfText R.NotUtf8
+of-five = record { low = omega arith; high = omega arith }
+
+pub of-six : OfText R.ZeroByte
+of-six = record { low = omega arith; high = omega arith }
 
 -- of the bytes xs, which begin at a, some are a text that is refused so
 pub record Text (k : Refusal) (n a : ℕ) (xs : List ℕ) : Type 0 where
@@ -114,14 +131,22 @@ inside size s h =
     or-else size (length s) (λ l. let e = length-take-le size s l in omega arith)
     (λ l. let e = ap (λ (x : List ℕ). length x) (take-all size s (omega arith)) in omega arith)
 
+pub uncut : {k : Refusal} {n : ℕ} (size a : ℕ) (s : List ℕ) → Text k n a (take size s) → Text k n a s
+uncut size a s t =
+    let h = t .lies in
+    record { off = t .off; len = t .len; lies = inside size s h; is = rw (cut-same (t .off) (t .len) size s h) at (t .is) }
+
 -- ---- fields
 
-module _ {k : Refusal} {n : ℕ} (s : R.Short ≡ k → ⊥) (d : R.DataTooLong ≡ k → ⊥) (c : R.TooManyElements ≡ k → ⊥) where
+short-no : {k : Refusal} {X : Type 0} → OfText k → R.Short ≡ k → X
+short-no o e = absurd (below o R.Short (omega arith) e)
+
+module _ {k : Refusal} {n : ℕ} (o : OfText k) where
   string-text : (a : ℕ) (xs : List ℕ) → readString a xs ≡ bad k n → Text k n a xs
   unfolding readString
   string-text a xs e =
-      bad-inv (readNum 2 xs) _ e (λ f. absurd (s (num-bad 2 xs f)))
-      (λ m r f g. bad-inv (raw m r) _ g (λ h. absurd (s (raw-bad m r h)))
+      bad-inv (readNum 2 xs) _ e (λ f. short-no o (num-bad 2 xs f))
+      (λ m r f g. bad-inv (raw m r) _ g (λ h. short-no o (raw-bad m r h))
       (λ bs t h i.
       let (x, y) = num-taken 2 xs f in
       let z = taken m r h in
@@ -140,26 +165,60 @@ module _ {k : Refusal} {n : ℕ} (s : R.Short ≡ k → ⊥) (d : R.DataTooLong 
       (λ l u h i. not-bad i))
 
   data-no : (t : Bool) (m : ℕ) (r : List ℕ) → cond t (after (raw m r) (λ bs u. ok (bytes bs) u)) (bad R.DataTooLong 0) ≡ bad k n → ⊥
-  data-no true m r e = bad-inv (raw m r) _ e (λ f. s (raw-bad m r f)) (λ bs u f g. not-bad g)
-  data-no false m r e = d (cc e)
+  data-no true m r e = bad-inv (raw m r) _ e (λ f. short-no o (raw-bad m r f)) (λ bs u f g. not-bad g)
+  data-no false m r e = below o R.DataTooLong (omega arith) (cc e)
 
   few : (t : Bool) (m : Result Item) → cond t m (bad R.TooManyElements 0) ≡ bad k n → m ≡ bad k n
   few true m e = e
-  few false m e = absurd (c (cc e))
+  few false m e = absurd (above o R.TooManyElements (omega arith) (cc e))
+
+  cell-text : (f : Shape) (a : ℕ) (xs : List ℕ) → readCell f a xs ≡ bad k n → Text k n a xs
+  unfolding readCell
+  cell-text (fixed w) a xs e = bad-inv (readNum w xs) _ e (λ f. short-no o (num-bad w xs f)) (λ m r f g. not-bad g)
+  cell-text worded a xs e = bad-inv (readString a xs) _ e (string-text a xs) (λ m r f g. not-bad g)
+
+  cells-text : (fs : List Shape) (a : ℕ) (xs : List ℕ) → Bytes xs → readCells fs a xs ≡ bad k n → Text k n a xs
+  unfolding readCells
+  cells-text [] a xs b e = not-bad e
+  cells-text (f ∷ fs) a xs b e =
+      bad-inv (readCell f a xs) _ e (cell-text f a xs)
+      (λ i r g h. bad-inv (readCells fs (a + length (cellBytes i)) r) _ h
+      (λ c. let t = took-cell f a xs b g in behind (cellBytes i) r a xs (t .whole) (cells-text fs (a + length (cellBytes i)) r (t .rest) c))
+      (λ l u c v. not-bad v))
+
+  -- a box that agrees is refused by the text of one of its strings
+  box-text : (fs : List Shape) (a : ℕ) (bs u : List ℕ) → Bytes bs → cond (agrees fs bs) (after (readCells fs (a + 4) (drop 2 bs)) (λ cs v. ok (box cs) u)) (bad R.StatMalformed 0) ≡ bad k n
+      → Text k n (a + 2) bs
+  box-text fs a bs u b e = go (agrees fs bs) refl e
+    where
+      go : (t : Bool) → agrees fs bs ≡ t → cond t (after (readCells fs (a + 4) (drop 2 bs)) (λ cs v. ok (box cs) u)) (bad R.StatMalformed 0) ≡ bad k n → Text k n (a + 2) bs
+      go true g f =
+          let z : a + 4 ≡ a + 2 + 2 = omega arith in
+          bad-inv (readCells fs (a + 4) (drop 2 bs)) _ f (λ h. later 2 (a + 2) bs (agreed fs bs g .two) (rw z at (cells-text fs (a + 4) (drop 2 bs) (bytes-drop 2 bs b) h))) (λ cs v h i. not-bad i)
+      go false g f = absurd (above o R.StatMalformed (omega arith) (cc f))
 
   field-text : (f : Field) (a : ℕ) (xs : List ℕ) → Bytes xs → readField f a xs ≡ bad k n → Text k n a xs
   unfolding readField
-  field-text (num w) a xs b e = bad-inv (readNum w xs) _ e (λ f. absurd (s (num-bad w xs f))) (λ m r f g. not-bad g)
+  field-text (num w) a xs b e = bad-inv (readNum w xs) _ e (λ f. short-no o (num-bad w xs f)) (λ m r f g. not-bad g)
   field-text str a xs b e = bad-inv (readString a xs) _ e (string-text a xs) (λ m r f g. not-bad g)
-  field-text dat a xs b e = bad-inv (readNum 4 xs) _ e (λ f. absurd (s (num-bad 4 xs f))) (λ m r f g. absurd (data-no (leb m most) m r g))
+  field-text dat a xs b e = bad-inv (readNum 4 xs) _ e (λ f. short-no o (num-bad 4 xs f)) (λ m r f g. absurd (data-no (leb m most) m r g))
   field-text strs a xs b e =
-      bad-inv (readNum 2 xs) _ e (λ f. absurd (s (num-bad 2 xs f)))
+      bad-inv (readNum 2 xs) _ e (λ f. short-no o (num-bad 2 xs f))
       (λ m r f g. bad-inv (readMany m (a + 2) r) _ (few (leb m 16) _ g)
       (λ h. let (x, y) = num-taken 2 xs f in later 2 a xs x (rw (← y) at (many-text m (a + 2) r (took-num 2 xs b f .rest) h)))
       (λ l u h i. not-bad i))
   field-text quids a xs b e =
-      bad-inv (readNum 2 xs) _ e (λ f. absurd (s (num-bad 2 xs f)))
-      (λ m r f g. bad-inv (raw (13 * m) r) _ (few (leb m 16) _ g) (λ h. absurd (s (raw-bad (13 * m) r h))) (λ l u h i. not-bad i))
+      bad-inv (readNum 2 xs) _ e (λ f. short-no o (num-bad 2 xs f))
+      (λ m r f g. bad-inv (raw (13 * m) r) _ (few (leb m 16) _ g) (λ h. short-no o (raw-bad (13 * m) r h)) (λ l u h i. not-bad i))
+  field-text (boxed fs) a xs b e =
+      bad-inv (readNum 2 xs) _ e (λ f. short-no o (num-bad 2 xs f))
+      (λ m r f g. bad-inv (raw m r) _ g (λ h. short-no o (raw-bad m r h))
+      (λ bs u h i.
+      let (x, y) = num-taken 2 xs f in
+      let z = taken m r h in
+      let c = took-num 2 xs b f .rest in
+      let v : Text k n (a + 2) bs = box-text fs a bs u (rw (← (z .bytes)) (bytes-take m r c)) i in
+      later 2 a xs x (rw (← y) at (uncut m (a + 2) r (rw (← (z .bytes)) at v)))))
 
   pub fields-text : (fs : Layout) (a : ℕ) (xs : List ℕ) → Bytes xs → readFields fs a xs ≡ bad k n → Text k n a xs
   unfolding readFields
@@ -172,32 +231,24 @@ module _ {k : Refusal} {n : ℕ} (s : R.Short ≡ k → ⊥) (d : R.DataTooLong 
 
   -- ---- and frames
 
-  module _ (u : R.UnknownType ≡ k → ⊥) where
-    body-text : (o : Option Layout) (ty a : ℕ) (xs : List ℕ) → Bytes xs → bodyOf o ty a xs ≡ refused k n → Text k n a xs
-    body-text none ty a xs b e = absurd (u (cc e))
-    body-text (some l) ty a xs b e = go (readFields l a xs) refl e
-      where
-        go : (m : Result (List Item)) → readFields l a xs ≡ m → itemsAt ty a m ≡ refused k n → Text k n a xs
-        go (ok is r) f g = absurd (let z : _≡_ {A = ℕ} 0 1 = cc g in omega arith)
-        go (bad j i) f g = let x : j ≡ k = cc g in let y : i ≡ n = cc g in fields-text l a xs b (f ∙ ap₂ bad x y)
+  body-text : (l : Option Layout) (ty a : ℕ) (xs : List ℕ) → Bytes xs → bodyOf l ty a xs ≡ refused k n → Text k n a xs
+  body-text none ty a xs b e = absurd (below o R.UnknownType (omega arith) (cc e))
+  body-text (some l) ty a xs b e = go (readFields l a xs) refl e
+    where
+      go : (m : Result (List Item)) → readFields l a xs ≡ m → itemsAt ty a m ≡ refused k n → Text k n a xs
+      go (ok is r) f g = absurd (let z : _≡_ {A = ℕ} 0 1 = cc g in omega arith)
+      go (bad j i) f g = let x : j ≡ k = cc g in let y : i ≡ n = cc g in fields-text l a xs b (f ∙ ap₂ bad x y)
 
-    frame-text : (rows : List Row) (s : List ℕ) {tag : ℕ} → Bytes s → readFrame rows s ≡ framed 0 tag (refused k n) → Text k n 0 s
-    unfolding readFrame
-    frame-text rows s b e =
-        frame-inv rows (readHeader s) e
-        (λ h x f g i.
-        let p = header-inv s b f in
-        let l = head-length (p .size) (h .ty) (h .tag) in
-        let t = body-text (lookup rows (h .ty)) (h .ty) 7 x (p .bytes) i in
-        let z : 7 ≡ 0 + length (headBytes (p .size) (h .ty) (h .tag)) = omega arith in
-        let v = behind (headBytes (p .size) (h .ty) (h .tag)) x 0 (take (p .size) s) (p .held) (rw z at t) in
-        let w = v .lies in
-        record {
-          off = v .off;
-          len = v .len;
-          lies = inside (p .size) s w;
-          is = rw (cut-same (v .off) (v .len) (p .size) s w) at (v .is);
-        })
+  frame-text : (rows : List Row) (s : List ℕ) {tag : ℕ} → Bytes s → readFrame rows s ≡ framed 0 tag (refused k n) → Text k n 0 s
+  unfolding readFrame
+  frame-text rows s b e =
+      frame-inv rows (readHeader s) e
+      (λ h x f g i.
+      let p = header-inv s b f in
+      let l = head-length (p .size) (h .ty) (h .tag) in
+      let t = body-text (lookup rows (h .ty)) (h .ty) 7 x (p .bytes) i in
+      let z : 7 ≡ 0 + length (headBytes (p .size) (h .ty) (h .tag)) = omega arith in
+      uncut (p .size) 0 s (behind (headBytes (p .size) (h .ty) (h .tag)) x 0 (take (p .size) s) (p .held) (rw z at t)))
 
 -- ---- told of the text's bytes
 
@@ -214,9 +265,6 @@ pub record ZeroIn (s : List ℕ) (n : ℕ) : Type 0 where
   pub lies : start + len ≤ length s
   pub breaks : ZeroAt start (take len (drop start s)) n
 
-apart : {j k : Refusal} → j ≡ k → (numberOf j ≡ numberOf k → ⊥) → ⊥
-apart e f = f (ap numberOf e)
-
 pub five-in : {n : ℕ} (s : List ℕ) → Text R.NotUtf8 n 0 s → NotUtf8In s n
 five-in s t =
     let z : 0 + t .off ≡ t .off = omega arith in
@@ -229,9 +277,7 @@ six-in s t =
 
 module _ (rows : List Row) (s : List ℕ) {tag n : ℕ} (b : Bytes s) where
   pub frame-five : readFrame rows s ≡ framed 0 tag (refused R.NotUtf8 n) → NotUtf8In s n
-  frame-five e =
-      five-in s (frame-text (λ x. apart x (λ y. omega arith)) (λ x. apart x (λ y. omega arith)) (λ x. apart x (λ y. omega arith)) (λ x. apart x (λ y. omega arith)) rows s b e)
+  frame-five e = five-in s (frame-text of-five rows s b e)
 
   pub frame-six : readFrame rows s ≡ framed 0 tag (refused R.ZeroByte n) → ZeroIn s n
-  frame-six e =
-      six-in s (frame-text (λ x. apart x (λ y. omega arith)) (λ x. apart x (λ y. omega arith)) (λ x. apart x (λ y. omega arith)) (λ x. apart x (λ y. omega arith)) rows s b e)
+  frame-six e = six-in s (frame-text of-six rows s b e)

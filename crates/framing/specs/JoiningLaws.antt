@@ -10,10 +10,10 @@ use lib.Dec.{eqb}
 use Rattle.numbers.specs.Numbers.{fromLE}
 use Rattle.numbers.specs.Refusals.{numberOf}
 use Rattle.numbers.specs.declared.Refusal.{Refusal}
-use Rattle.fields.specs.Values.{Value, val, span, part}
+use Rattle.fields.specs.Values.{Slot, slot, text, Value, val, span, part, block}
 use Rattle.layouts.specs.Tables.{Row}
 use Rattle.layouts.specs.Bodies.{Answer, accepted, refused}
-use Rattle.framing.specs.Raising.{raiseValue, raisePlace, raise}
+use Rattle.framing.specs.Raising.{raiseSlot, raiseValue, raisePlace, raise}
 use Rattle.framing.specs.RaisedLaws.{raise-zero}
 use Rattle.framing.specs.Stretch.{typeIn, tagIn, answerOf, tailIn, listedFrame, front, Listing, entry, ends, stops, listFrom, listing}
 use Rattle.framing.specs.ListingLaws.{Front, front-either, front-frame, list-frame, list-stop, stopsAt}
@@ -21,10 +21,16 @@ use Rattle.framing.specs.Joining.{raiseListing, joined, Ends}
 
 -- ---- raised twice
 
+slots-twice : (c d : ℕ) (l : List Slot) → map (raiseSlot c) (map (raiseSlot d) l) ≡ map (raiseSlot (c + d)) l
+slots-twice c d [] = refl
+slots-twice c d (slot n ∷ l) = ap (λ (z : List Slot). slot n ∷ z) (slots-twice c d l)
+slots-twice c d (text x y ∷ l) = ap₂ (λ u (z : List Slot). text u y ∷ z) (omega arith) (slots-twice c d l)
+
 value-twice : (c d : ℕ) (v : Value) → raiseValue c (raiseValue d v) ≡ raiseValue (c + d) v
 value-twice c d (val n) = refl
 value-twice c d (span x y) = ap (λ z. span z y) (omega arith)
 value-twice c d (part k x y) = ap (λ z. part k z y) (omega arith)
+value-twice c d (block l) = ap block (slots-twice c d l)
 
 values-twice : (c d : ℕ) (vs : List Value) → map (raiseValue c) (map (raiseValue d) vs) ≡ map (raiseValue (c + d)) vs
 values-twice c d [] = refl

@@ -19,24 +19,13 @@ use Rattle.numbers.specs.declared.Place.the-variants.{At, Refused}
 use Rattle.strings.specs.Strings.{okText}
 use Rattle.strings.specs.Spans.{showSpan, showString}
 use Rattle.strings.specs.SpanLaws.{shown-in, shown-out, span-inv}
-use Rattle.fields.specs.Layouts.{Field, num, str, dat, strs, quids, Layout, Item, string, bytes, strings, qids, readMany, itemsBytes}
-use Rattle.fields.specs.Values.{Value, startOf, lenOf, countOf, cutOff, showPart, wholePart, show, firstOf, othersOf, shows}
+use Rattle.fields.specs.Layouts.{Shape, fixed, worded, Field, num, str, dat, strs, quids, boxed, Layout, Cell, words, Item, string, bytes, strings, qids, box, readMany, cellsBytes, itemsBytes}
+use Rattle.fields.specs.Values.{Slot, slotStart, slotLen, firstSlot, otherSlots, slotsOf, showCell, showCells, Value, startOf, lenOf, countOf, cutOff, showPart, wholePart, show, firstOf, othersOf, shows}
 use Rattle.laying.specs.Laying.{limit}
 use Rattle.laying.specs.LayingLaws.{span-shown, part-inv}
 use Rattle.laying.specs.Elements.{elementIn, askedFor, elementAt}
 use Rattle.framing.specs.Writing.{frameBytes, framePast, FrameWritten}
-use Rattle.framing.specs.Broken.{Text, bad-inv, not-bad, any-rest, later, cut-same, inside, many-text, NotUtf8In, ZeroIn, five-in, six-in}
-
--- a refusal of a text
-record OfText (k : Refusal) : Type 0 where
-  pub low : 5 ≤ numberOf k
-  pub high : numberOf k ≤ 6
-
-below : {k : Refusal} → OfText k → (j : Refusal) → numberOf j < 5 → j ≡ k → ⊥
-below t j h e = let y = ap numberOf e in let l = t .low in omega arith
-
-above : {k : Refusal} → OfText k → (j : Refusal) → 6 < numberOf j → j ≡ k → ⊥
-above t j h e = let y = ap numberOf e in let l = t .high in omega arith
+use Rattle.framing.specs.Broken.{OfText, below, above, of-five, of-six, Text, bad-inv, not-bad, any-rest, later, uncut, many-text, NotUtf8In, ZeroIn, five-in, six-in}
 
 module _ {k : Refusal} {n : ℕ} (t : OfText k) where
   span-no : (lent : List ℕ) (x y : ℕ) → showSpan lent x y ≡ bad k n → ⊥
@@ -79,11 +68,18 @@ module _ {k : Refusal} {n : ℕ} (t : OfText k) where
 
   part-lent : (lent : List ℕ) (m x y : ℕ) → Bytes lent → x + y ≤ length lent → readMany m x (take y (drop x lent)) ≡ bad k n → Text k n 0 lent
   part-lent lent m x y b l e =
-      let w = many-text (below t R.Short (omega arith)) (below t R.DataTooLong (omega arith)) (above t R.TooManyElements (omega arith)) m x (take y (drop x lent)) (bytes-take y (drop x lent) (bytes-drop x lent b)) e in
-      let h = w .lies in
+      let w = many-text t m x (take y (drop x lent)) (bytes-take y (drop x lent) (bytes-drop x lent b)) e in
       let z : 0 + x ≡ x = omega arith in
-      let v : Text k n x (drop x lent) = record { off = w .off; len = w .len; lies = inside y (drop x lent) h; is = rw (cut-same (w .off) (w .len) y (drop x lent) h) at (w .is) } in
-      later x 0 lent (omega arith) (rw z v)
+      later x 0 lent (omega arith) (rw z (uncut y x (drop x lent) w))
+
+  cells-lent : (fs : List Shape) (lent : List ℕ) (vs : List Slot) → showCells fs lent vs ≡ bad k n → Text k n 0 lent
+  unfolding showCells showCell
+  cells-lent [] lent vs e = not-bad e
+  cells-lent (fixed w ∷ fs) lent vs e = bad-inv (showCells fs lent (otherSlots vs)) _ e (cells-lent fs lent (otherSlots vs)) (λ cs r f g. not-bad g)
+  cells-lent (worded ∷ fs) lent vs e =
+      bad-inv (after (showString lent (slotStart (firstSlot vs)) (slotLen (firstSlot vs))) (λ bs r. ok (words bs) r)) _ e
+      (λ f. bad-inv (showString lent (slotStart (firstSlot vs)) (slotLen (firstSlot vs))) _ f (string-lent lent (slotStart (firstSlot vs)) (slotLen (firstSlot vs))) (λ bs r g h. not-bad h))
+      (λ c r f g. bad-inv (showCells fs lent (otherSlots vs)) _ g (cells-lent fs lent (otherSlots vs)) (λ cs u h i. not-bad i))
 
   show-lent : (f : Field) (lent : List ℕ) (v : Value) → Bytes lent → show f lent v ≡ bad k n → Text k n 0 lent
   unfolding show
@@ -107,6 +103,12 @@ module _ {k : Refusal} {n : ℕ} (t : OfText k) where
       go : (bs r : List ℕ) (u : Bool) → cond u (ok (qids (countOf v) bs) r) (bad R.PartMalformed 0) ≡ bad k n → ⊥
       go bs r true f = not-bad f
       go bs r false f = above t R.PartMalformed (omega arith) (cc f)
+  show-lent (boxed fs) lent v b e =
+      bad-inv (showCells fs lent (slotsOf v)) _ e (cells-lent fs lent (slotsOf v)) (λ cs r f g. absurd (go cs r (leb (2 + length (cellsBytes cs)) 65535) g))
+    where
+      go : (cs : List Cell) (r : List ℕ) (u : Bool) → cond u (ok (box cs) r) (bad R.StatMalformed 0) ≡ bad k n → ⊥
+      go cs r true f = not-bad f
+      go cs r false f = above t R.StatMalformed (omega arith) (cc f)
 
   shows-lent : (fs : Layout) (lent : List ℕ) (vs : List Value) → Bytes lent → shows fs lent vs ≡ bad k n → Text k n 0 lent
   unfolding shows
@@ -140,12 +142,6 @@ module _ {k : Refusal} {n : ℕ} (t : OfText k) where
       go true true f = let z : _≡_ {A = ℕ} 0 1 = cc f in omega arith
       go true false f = above t R.NoRoom (omega arith) (cc f)
       go false w f = above t R.FrameTooLong (omega arith) (cc f)
-
-of-five : OfText R.NotUtf8
-of-five = record { low = omega arith; high = omega arith }
-
-of-six : OfText R.ZeroByte
-of-six = record { low = omega arith; high = omega arith }
 
 module _ {fs : Layout} {ty tag n : ℕ} {lent : List ℕ} {vs : List Value} {o o' : List ℕ} {q : Place} (b : Bytes lent) (w : FrameWritten fs ty tag lent vs o o' q) where
   pub written-five : q ≡ Refused R.NotUtf8 n → NotUtf8In lent n

@@ -25,3 +25,7 @@ pub mod Joining
 pub mod JoiningLaws
 pub mod Damage
 pub mod DamageLaws
+pub mod Limits
+pub mod Dialects
+pub mod Standing
+pub mod Typed

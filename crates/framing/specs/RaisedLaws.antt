@@ -21,22 +21,28 @@ use Rattle.numbers.specs.declared.Place.{Place}
 use Rattle.numbers.specs.declared.Place.the-variants.{At, Refused}
 use Rattle.utf8.specs.Utf8.{utf8, soundStart, noZero, zeroAt}
 use Rattle.strings.specs.Strings.{okText, readString, stringBytes}
-use Rattle.fields.specs.Layouts.{Field, num, str, dat, strs, quids, Layout, Item, number, string, bytes, strings, qids, most, counted, readMany, readField, readFields, manyBytes, itemBytes, itemsBytes}
-use Rattle.fields.specs.Values.{Value, val, span, part, place, places}
+use Rattle.fields.specs.Layouts.{Shape, fixed, worded, Field, num, str, dat, strs, quids, boxed, Layout, Cell, amount, words, Item, number, string, bytes, strings, qids, box, most, counted, readMany, readCell, readCells, agrees, readField, readFields, manyBytes, cellBytes, itemBytes, itemsBytes}
+use Rattle.fields.specs.Values.{Slot, slot, text, Value, val, span, part, block, placeCell, placeCells, place, places}
 use Rattle.laying.specs.LayingLaws.{drop-take}
 use Rattle.layouts.specs.Tables.{Row, lookup}
 use Rattle.layouts.specs.Bodies.{Answer, accepted, refused, itemsAt, bodyOf, readBody}
 use Rattle.layouts.specs.BodyLaws.{body-is}
 use Rattle.framing.specs.Frames.{Frame, headless, framed, readFrame}
 use Rattle.framing.specs.Headers.{Headed}
-use Rattle.framing.specs.Raising.{raiseValue, raisePlace, raise, raiseFrame, readFrameAt, bodyPlace, since, usedSince, bodyFrom}
+use Rattle.framing.specs.Raising.{raiseSlot, raiseValue, raisePlace, raise, raiseFrame, readFrameAt, bodyPlace, since, usedSince, bodyFrom}
 
 -- ---- raised by nothing, all is as it was
+
+slots-zero : (l : List Slot) → map (raiseSlot 0) l ≡ l
+slots-zero [] = refl
+slots-zero (slot n ∷ l) = ap (λ (z : List Slot). slot n ∷ z) (slots-zero l)
+slots-zero (text x y ∷ l) = ap₂ (λ u (z : List Slot). text u y ∷ z) (omega arith) (slots-zero l)
 
 value-zero : (v : Value) → raiseValue 0 v ≡ v
 value-zero (val n) = refl
 value-zero (span x y) = ap (λ z. span z y) (omega arith)
 value-zero (part c x y) = ap (λ z. part c z y) (omega arith)
+value-zero (block l) = ap block (slots-zero l)
 
 values-zero : (vs : List Value) → map (raiseValue 0) vs ≡ vs
 values-zero [] = refl
@@ -137,6 +143,19 @@ many-raised (suc c) p a xs =
 
 -- ---- fields
 
+cell-raised : (f : Shape) (p a : ℕ) (xs : List ℕ) → readCell f (p + a) xs ≡ raised p (readCell f a xs)
+unfolding readCell
+cell-raised (fixed w) p a xs = then-raised p (readNum w xs) (readNum w xs) _ _ (num-raised p w xs) (λ c r. refl)
+cell-raised worded p a xs = then-raised p (readString a xs) (readString (p + a) xs) _ _ (string-raised p a xs) (λ c r. refl)
+
+cells-raised : (fs : List Shape) (p a : ℕ) (xs : List ℕ) → readCells fs (p + a) xs ≡ raised p (readCells fs a xs)
+unfolding readCells
+cells-raised [] p a xs = refl
+cells-raised (f ∷ fs) p a xs =
+    then-raised p (readCell f a xs) (readCell f (p + a) xs) _ _ (cell-raised f p a xs)
+    (λ c r. then-raised p (readCells fs (a + length (cellBytes c)) r) (readCells fs (p + a + length (cellBytes c)) r) _ _
+    (ap (λ x. readCells fs x r) (further p a (length (cellBytes c))) ∙ cells-raised fs p (a + length (cellBytes c)) r) (λ cs s. refl))
+
 field-raised : (f : Field) (p a : ℕ) (xs : List ℕ) → readField f (p + a) xs ≡ raised p (readField f a xs)
 unfolding readField
 field-raised (num w) p a xs = then-raised p (readNum w xs) (readNum w xs) _ _ (num-raised p w xs) (λ c r. refl)
@@ -153,6 +172,11 @@ field-raised quids p a xs =
     then-raised p (readNum 2 xs) (readNum 2 xs) _ _ (num-raised p 2 xs)
     (λ c r. tested-raised p (leb c 16) (after (raw (13 * c) r) (λ bs s. ok (qids c bs) s)) (after (raw (13 * c) r) (λ bs s. ok (qids c bs) s)) R.TooManyElements refl
     (then-raised p (raw (13 * c) r) (raw (13 * c) r) _ _ (raw-raised p (13 * c) r) (λ l s. refl)))
+field-raised (boxed fs) p a xs =
+    then-raised p (readNum 2 xs) (readNum 2 xs) _ _ (num-raised p 2 xs)
+    (λ c r. then-raised p (raw c r) (raw c r) _ _ (raw-raised p c r)
+    (λ bs s. tested-raised p (agrees fs bs) (after (readCells fs (a + 4) (drop 2 bs)) (λ cs u. ok (box cs) s)) (after (readCells fs (p + a + 4) (drop 2 bs)) (λ cs u. ok (box cs) s)) R.StatMalformed refl
+    (then-raised p (readCells fs (a + 4) (drop 2 bs)) (readCells fs (p + a + 4) (drop 2 bs)) _ _ (ap (λ x. readCells fs x (drop 2 bs)) (further p a 4) ∙ cells-raised fs p (a + 4) (drop 2 bs)) (λ cs u. refl))))
 
 fields-raised : (fs : Layout) (p a : ℕ) (xs : List ℕ) → readFields fs (p + a) xs ≡ raised p (readFields fs a xs)
 unfolding readFields
@@ -164,12 +188,24 @@ fields-raised (f ∷ fs) p a xs =
 
 -- ---- where items stand
 
+cell-placed : (p a : ℕ) (c : Cell) → placeCell (p + a) c ≡ raiseSlot p (placeCell a c)
+cell-placed p a (amount w n) = refl
+cell-placed p a (words bs) = ap (λ x. text x (length bs)) (further p a 2)
+
+cells-placed : (cs : List Cell) (p a : ℕ) → placeCells (p + a) cs ≡ map (raiseSlot p) (placeCells a cs)
+unfolding placeCells
+cells-placed [] p a = refl
+cells-placed (c ∷ cs) p a =
+    ap₂ (λ (v : Slot) (vs : List Slot). v ∷ vs) (cell-placed p a c)
+    (ap (λ x. placeCells x cs) (further p a (length (cellBytes c))) ∙ cells-placed cs p (a + length (cellBytes c)))
+
 place-raised : (p a : ℕ) (i : Item) → place (p + a) i ≡ raiseValue p (place a i)
 place-raised p a (number w x) = refl
 place-raised p a (string bs) = ap (λ x. span x (length bs)) (further p a 2)
 place-raised p a (bytes bs) = ap (λ x. span x (length bs)) (further p a 4)
 place-raised p a (strings l) = ap (λ x. part (length l) x (length (manyBytes l))) (further p a 2)
 place-raised p a (qids c bs) = ap (λ x. part c x (length bs)) (further p a 2)
+place-raised p a (box cs) = ap block (ap (λ x. placeCells x cs) (further p a 4) ∙ cells-placed cs p (a + 4))
 
 pub places-raised : (is : List Item) (p a : ℕ) → places (p + a) is ≡ map (raiseValue p) (places a is)
 unfolding places

@@ -9,16 +9,21 @@ use Rattle.numbers.specs.declared.Refusal.{Refusal}
 use Rattle.numbers.specs.declared.Refusal.the-variants as R
 use Rattle.numbers.specs.declared.Place.{Place}
 use Rattle.numbers.specs.declared.Place.the-variants.{At, Refused}
-use Rattle.fields.specs.Values.{Value, val, span, part}
+use Rattle.fields.specs.Values.{Slot, slot, text, Value, val, span, part, block}
 use Rattle.layouts.specs.Tables.{Row}
 use Rattle.layouts.specs.Bodies.{Answer, accepted, refused, readBody}
 use Rattle.framing.specs.Frames.{Frame, headless, framed, readFrame}
+
+abbrev pub raiseSlot : ℕ → Slot → Slot
+raiseSlot p (slot n) = slot n
+raiseSlot p (text x y) = text (p + x) y
 
 -- the starts of spans and of parts are positions, those of empty ones too; numbers, lengths and counts are none
 abbrev pub raiseValue : ℕ → Value → Value
 raiseValue p (val n) = val n
 raiseValue p (span x y) = span (p + x) y
 raiseValue p (part c x y) = part c (p + x) y
+raiseValue p (block l) = block (map (raiseSlot p) l)
 
 -- 5 and 6 have a place, which is a position; with any other refusal it is 0 (F2.7)
 abbrev pub raisePlace : ℕ → Refusal → ℕ → ℕ

@@ -7,7 +7,7 @@ use mathlib.Core.List.{List, [], _∷_, _++_, map, append-assoc, append-nil}
 use mathlib.Core.Option.{some}
 use lib.ListN.{length, take, drop, length-append}
 use lib.Dec.{leb, ltb, eqb}
-use borrow.Author.Tests.{lt-ltb, le-ltb, lt-leb, eqb-true}
+use borrow.Author.Tests.{lt-ltb, le-ltb, lt-leb, leb-true, eqb-true}
 use Rattle.numbers.specs.Numbers.{Bytes, toLE, bytes-take, bytes-drop}
 use Rattle.numbers.specs.Reading.{Result, ok, bad, after}
 use Rattle.numbers.specs.ReadingLaws.{or-else, after-inv, cond-inv, Took}
@@ -20,10 +20,10 @@ use Rattle.utf8.specs.Utf8.{utf8, noZero}
 use Rattle.strings.specs.Strings.{GoodText}
 use Rattle.strings.specs.Spans.{showSpan, showString}
 use Rattle.strings.specs.SpanLaws.{span-inv, shown-length}
-use Rattle.fields.specs.Layouts.{Field, num, str, dat, strs, quids, Layout, Item, number, string, bytes, strings, qids, kind, most, readMany, itemsBytes, Good, Goods}
+use Rattle.fields.specs.Layouts.{Shape, fixed, worded, Field, num, str, dat, strs, quids, boxed, Layout, Cell, amount, words, shape, Item, number, string, bytes, strings, qids, box, kind, most, readMany, cellsBytes, itemsBytes, GoodCell, GoodCells, Good, Goods}
 use Rattle.fields.specs.LayoutLaws.{took-many}
 use Rattle.laying.specs.LayingLaws.{span-shown, part-inv, whole-inv}
-use Rattle.fields.specs.Values.{Value, numOf, startOf, lenOf, countOf, showPart, wholePart, places, show, firstOf, othersOf, shows}
+use Rattle.fields.specs.Values.{Slot, slotNum, slotStart, slotLen, firstSlot, otherSlots, slotsOf, showCell, showCells, Value, numOf, startOf, lenOf, countOf, showPart, wholePart, places, show, firstOf, othersOf, shows}
 use Rattle.fields.specs.ValueLaws.{shows-items}
 use Rattle.laying.specs.Laying.{limit}
 use Rattle.layouts.specs.Tables.{Row, lookup}
@@ -33,6 +33,14 @@ use Rattle.framing.specs.Writing.{headBytes, frameBytes, frameOut, frame
 use Rattle.framing.specs.WritingLaws.{head-length, put-fits, put-full, past-fits, frame-length}
 use Rattle.framing.specs.Accepted.{Stands, reads-frame}
 
+abbrev pub FitsCell : Shape → Slot → Type 0
+FitsCell (fixed w) v = slotNum v < 256 ^ w
+FitsCell worded v = Unit {0}
+
+abbrev pub FitsCells : List Shape → List Slot → Type 0
+FitsCells [] vs = Unit {0}
+FitsCells (f ∷ fs) vs = FitsCell f (firstSlot vs) × FitsCells fs (otherSlots vs)
+
 -- what a typed record's values are: numbers that fit their fields; and, for reading back, data within the reading limit
 abbrev pub FitsField : Field → Value → Type 0
 FitsField (num w) v = numOf v < 256 ^ w
@@ -40,6 +48,7 @@ FitsField str v = Unit {0}
 FitsField dat v = lenOf v < suc most
 FitsField strs v = Unit {0}
 FitsField quids v = Unit {0}
+FitsField (boxed fs) v = FitsCells fs (slotsOf v)
 
 abbrev pub Readable : Layout → List Value → Type 0
 Readable [] vs = Unit {0}
@@ -64,6 +73,25 @@ good-text lent x y {bs} e =
   where
     leb-small : (n : ℕ) → leb n 65535 ≡ true → n ≤ 65535
     leb-small n h = or-else n 65535 (λ l. l) (λ l. absurd (let c = sym h ∙ lt-leb n 65535 l in let z : _≡_ {A = ℕ} 0 1 = cc c in omega arith))
+
+cells-good : (fs : List Shape) (lent : List ℕ) (vs : List Slot) {cs : List Cell} {r : List ℕ} → FitsCells fs vs → showCells fs lent vs ≡ ok cs r → (map shape cs ≡ fs) × GoodCells cs
+unfolding showCells showCell
+cells-good [] lent vs {cs} g e = let f : [] ≡ cs = cc e in rw (← f) (refl, tt)
+cells-good (fixed w ∷ fs) lent vs {cs} (g, gs) e =
+    after-inv (showCells fs lent (otherSlots vs)) _ e
+    (λ ds t e1 e2.
+    let d : amount w (slotNum (firstSlot vs)) ∷ ds ≡ cs = cc e2 in
+    let q = cells-good fs lent (otherSlots vs) gs e1 in
+    rw (← d) (ap (λ (z : List Shape). fixed w ∷ z) (q .0), (g, q .1)))
+cells-good (worded ∷ fs) lent vs {cs} (g, gs) e =
+    after-inv (after (showString lent (slotStart (firstSlot vs)) (slotLen (firstSlot vs))) (λ bs r. ok (words bs) r)) _ e
+    (λ c s e1 e2. after-inv (showString lent (slotStart (firstSlot vs)) (slotLen (firstSlot vs))) _ e1
+    (λ bs u e3 e4. after-inv (showCells fs lent (otherSlots vs)) _ e2
+    (λ ds t e5 e6.
+    let f : words bs ≡ c = cc e4 in
+    let d : c ∷ ds ≡ cs = cc e6 in
+    let q = cells-good fs lent (otherSlots vs) gs e5 in
+    rw (← d, ← f) (ap (λ (z : List Shape). worded ∷ z) (q .0), (good-text lent (slotStart (firstSlot vs)) (slotLen (firstSlot vs)) e3, q .1)))))
 
 shown-good : (f : Field) (lent : List ℕ) (v : Value) {i : Item} {r : List ℕ} → Bytes lent → FitsField f v → show f lent v ≡ ok i r → (kind i ≡ f) × Good i
 unfolding show
@@ -92,6 +120,15 @@ shown-good quids lent v {i} b g e =
     let d = u .1 in
     let f : qids (countOf v) bs ≡ i = cc d in
     rw (← f) (refl, (c .0, k ∙ eqb-true (lenOf v) (13 * countOf v) (u .0))))
+shown-good (boxed fs) lent v {i} b g e =
+    after-inv (showCells fs lent (slotsOf v)) _ e
+    (λ cs s e1 e2.
+    let u = cond-inv (leb (2 + length (cellsBytes cs)) 65535) _ R.StatMalformed 0 e2 in
+    let d = u .1 in
+    let f : box cs ≡ i = cc d in
+    let q = cells-good fs lent (slotsOf v) g e1 in
+    let l = leb-true (2 + length (cellsBytes cs)) 65535 (u .0) in
+    rw (← f) (ap boxed (q .0), (omega arith, q .1)))
 
 pub shows-good : (fs : Layout) (lent : List ℕ) (vs : List Value) {is : List Item} {r : List ℕ} → Bytes lent → Readable fs vs → shows fs lent vs ≡ ok is r → (map kind is ≡ fs) × Goods is
 unfolding shows

@@ -10,7 +10,7 @@ use Rattle.numbers.specs.declared.Refusal.the-variants as R
 use Rattle.numbers.specs.declared.Place.{Place}
 use Rattle.numbers.specs.declared.Place.the-variants.{At, Refused}
 use Rattle.strings.specs.Spans.{checkAt}
-use Rattle.fields.specs.Layouts.{Field, Item, number, string, bytes, strings, qids, manyBytes}
+use Rattle.fields.specs.Layouts.{Field, Item, number, string, bytes, strings, qids, box, manyBytes}
 use Rattle.fields.specs.Values.{Value, span, startOf, lenOf, countOf, showPart, show}
 use Rattle.laying.specs.declared.elements.Element.{Element}
 use Rattle.laying.specs.declared.elements.Element.the-variants as E
@@ -22,6 +22,7 @@ elementIn x i (string bs) = span 0 0
 elementIn x i (bytes bs) = span 0 0
 elementIn x i (strings l) = span (x + (length (manyBytes (take i l)) + 2)) (length (getD l i []))
 elementIn x i (qids n bs) = span (x + 13 * i) 13
+elementIn x i (box cs) = span 0 0
 
 -- 17, then 9, then 15 (F4.19)
 unfoldable pub askedFor : List ℕ → Value → ℕ → Result (List ℕ)

@@ -12,8 +12,8 @@ use Rattle.numbers.specs.declared.Refusal.the-variants as R
 use Rattle.numbers.specs.declared.Place.{Place}
 use Rattle.numbers.specs.declared.Place.the-variants.{At, Refused}
 use Rattle.strings.specs.Spans.{bytesIn, showSpan, checkAt}
-use Rattle.fields.specs.Layouts.{Field, num, str, dat, strs, quids, Layout, Item, itemBytes, itemsBytes}
-use Rattle.fields.specs.Values.{Value, numOf, startOf, lenOf, countOf, cutOff, showPart, show, firstOf, othersOf, shows}
+use Rattle.fields.specs.Layouts.{Shape, fixed, worded, Field, num, str, dat, strs, quids, boxed, Layout, Item, itemBytes, itemsBytes}
+use Rattle.fields.specs.Values.{Slot, slot, slotNum, slotStart, slotLen, firstSlot, otherSlots, slotsOf, Value, numOf, startOf, lenOf, countOf, cutOff, showPart, show, firstOf, othersOf, shows}
 
 -- ---- measuring
 
@@ -55,6 +55,7 @@ headWidth str = 2
 headWidth dat = 4
 headWidth strs = 2
 headWidth quids = 2
+headWidth (boxed fs) = 2
 
 abbrev pub headOf : Field → Value → ℕ
 headOf (num w) v = numOf v
@@ -62,6 +63,7 @@ headOf str v = lenOf v
 headOf dat v = lenOf v
 headOf strs v = countOf v
 headOf quids v = countOf v
+headOf (boxed fs) v = 0
 
 abbrev pub countedField : Field → List ℕ → Value → List ℕ → Place → List ℕ
 countedField f lent v o p = countedOut (headWidth f) (headOf f v) lent (startOf v) (lenOf v) o p
@@ -69,12 +71,46 @@ countedField f lent v o p = countedOut (headWidth f) (headOf f v) lent (startOf 
 abbrev pub pastCounted : Field → List ℕ → Value → List ℕ → Place → Place
 pastCounted f lent v o p = countedPast (headWidth f) (headOf f v) lent (startOf v) (lenOf v) o p
 
+-- how long the fields of a box are; a string that may not be written counts for as much as refuses the box (F14.4)
+abbrev pub cellSize : Shape → Slot → ℕ
+cellSize (fixed w) v = w
+cellSize worded v = 2 + min (slotLen v) 65536
+
+abbrev pub cellsSize : List Shape → List Slot → ℕ
+cellsSize [] vs = 0
+cellsSize (f ∷ fs) vs = cellSize f (firstSlot vs) + cellsSize fs (otherSlots vs)
+
+-- the fields of a box, put one after the other
+unfoldable pub putCell : Shape → List ℕ → Slot → List ℕ → Place → List ℕ
+putCell (fixed w) lent v o p = putAt (toLE w (slotNum v)) o p
+putCell worded lent v o p = countedOut 2 (slotLen v) lent (slotStart v) (slotLen v) o p
+
+unfoldable pub pastPutCell : Shape → List ℕ → Slot → List ℕ → Place → Place
+pastPutCell (fixed w) lent v o p = pastPut (toLE w (slotNum v)) o p
+pastPutCell worded lent v o p = countedPast 2 (slotLen v) lent (slotStart v) (slotLen v) o p
+
+unfoldable pub putCells : List Shape → List ℕ → List Slot → List ℕ → Place → List ℕ
+putCells [] lent vs o p = o
+putCells (f ∷ fs) lent vs o p = putCells fs lent (otherSlots vs) (putCell f lent (firstSlot vs) o p) (pastPutCell f lent (firstSlot vs) o p)
+
+unfoldable pub pastPutCells : List Shape → List ℕ → List Slot → List ℕ → Place → Place
+pastPutCells [] lent vs o p = p
+pastPutCells (f ∷ fs) lent vs o p = pastPutCells fs lent (otherSlots vs) (putCell f lent (firstSlot vs) o p) (pastPutCell f lent (firstSlot vs) o p)
+
+-- its count and its size stand before them
+abbrev pub withSizes : List Shape → List Shape
+withSizes fs = fixed 2 ∷ fixed 2 ∷ fs
+
+abbrev pub sized : List Shape → List Slot → List Slot
+sized fs vs = slot (2 + cellsSize fs vs) ∷ slot (cellsSize fs vs) ∷ vs
+
 unfoldable pub putField : Field → List ℕ → Value → List ℕ → Place → List ℕ
 putField (num w) lent v o p = putAt (toLE w (numOf v)) o p
 putField str lent v o p = countedField str lent v o p
 putField dat lent v o p = countedField dat lent v o p
 putField strs lent v o p = countedField strs lent v o p
 putField quids lent v o p = countedField quids lent v o p
+putField (boxed fs) lent v o p = putCells (withSizes fs) lent (sized fs (slotsOf v)) o p
 
 unfoldable pub pastPutField : Field → List ℕ → Value → List ℕ → Place → Place
 pastPutField (num w) lent v o p = pastPut (toLE w (numOf v)) o p
@@ -82,6 +118,7 @@ pastPutField str lent v o p = pastCounted str lent v o p
 pastPutField dat lent v o p = pastCounted dat lent v o p
 pastPutField strs lent v o p = pastCounted strs lent v o p
 pastPutField quids lent v o p = pastCounted quids lent v o p
+pastPutField (boxed fs) lent v o p = pastPutCells (withSizes fs) lent (sized fs (slotsOf v)) o p
 
 unfoldable pub putFields : Layout → List ℕ → List Value → List ℕ → Place → List ℕ
 putFields [] lent vs o p = o
@@ -106,6 +143,19 @@ pub record Measured (fs : Layout) (lent : List ℕ) (vs : List Value) (p q : Pla
 pub record PutAll (fs : Layout) (lent : List ℕ) (vs : List Value) (o : List ℕ) (p : Place) (o' : List ℕ) (q : Place) : Type 0 where
   pub bytes : o' ≡ putFields fs lent vs o p
   pub next : q ≡ pastPutFields fs lent vs o p
+
+-- the same of the fields of a box
+pub record CellsPut (fs : List Shape) (lent : List ℕ) (vs : List Slot) (o : List ℕ) (p : Place) (o' : List ℕ) (q : Place) : Type 0 where
+  pub bytes : o' ≡ putCells fs lent vs o p
+  pub next : q ≡ pastPutCells fs lent vs o p
+
+-- whether a count of n may stand before a box: its place, or 18
+abbrev pub countableAt : ℕ → Place → Place
+countableAt n (At a) = cond (leb n 65535) (At a) (Refused R.StatMalformed 0)
+countableAt n (Refused k at) = Refused k at
+
+pub record Countable (n : ℕ) (p q : Place) : Type 0 where
+  pub is : q ≡ countableAt n p
 
 -- the place n bytes on
 pub record Advanced (n : ℕ) (p q : Place) : Type 0 where

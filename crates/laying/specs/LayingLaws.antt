@@ -18,10 +18,10 @@ use Rattle.numbers.specs.declared.Place.the-variants.{At, Refused}
 use Rattle.strings.specs.Strings.{stringBytes}
 use Rattle.strings.specs.Spans.{showSpan, showString, SpanPut}
 use Rattle.strings.specs.SpanLaws.{check-inv, shown-in, shown-length, span-inv, string-inv, passing}
-use Rattle.fields.specs.Layouts.{Field, num, str, dat, strs, quids, Layout, q, Item, number, string, bytes, strings, qids, readMany, manyBytes, itemBytes, itemsBytes}
+use Rattle.fields.specs.Layouts.{Shape, fixed, worded, Field, num, str, dat, strs, quids, boxed, Layout, q, Cell, amount, words, Item, number, string, bytes, strings, qids, box, readMany, manyBytes, cellBytes, cellsBytes, itemBytes, itemsBytes}
 use Rattle.fields.specs.LayoutLaws.{took-many}
-use Rattle.fields.specs.Values.{Value, val, numOf, startOf, lenOf, countOf, showPart, wholePart, show, firstOf, othersOf, shows}
-use Rattle.laying.specs.Laying.{advance, checkField, checkFields, headWidth, headOf, countedField, pastCounted, putField, pastPutField, putFields, pastPutFields, FieldMeasured, Measured, PutAll, Advanced, PartCheck}
+use Rattle.fields.specs.Values.{Slot, slotNum, slotStart, slotLen, firstSlot, otherSlots, slotsOf, showCell, showCells, Value, val, numOf, startOf, lenOf, countOf, showPart, wholePart, show, firstOf, othersOf, shows}
+use Rattle.laying.specs.Laying.{advance, checkField, checkFields, headWidth, headOf, countedOut, countedPast, countedField, pastCounted, cellSize, cellsSize, putCell, pastPutCell, putCells, pastPutCells, withSizes, sized, putField, pastPutField, putFields, pastPutFields, FieldMeasured, Measured, PutAll, Advanced, PartCheck}
 
 -- a part of the bytes up to its end
 pub drop-take : (k n : ℕ) (s : List ℕ) → drop k (take (k + n) s) ≡ take n (drop k s)
@@ -104,6 +104,7 @@ Unless str = Unit {0}
 Unless dat = Unit {0}
 Unless strs = Unit {0}
 Unless quids = Unit {0}
+Unless (boxed fs) = ⊥
 
 pub put-counted : (f : Field) {fs : Layout} {lent : List ℕ} {v : Value} {vs : List Value} {o o1 o2 o3 : List ℕ} {p q r e : Place} → Unless f
     → Put (toLE (headWidth f) (headOf f v)) o p o1 q → SpanPut lent (startOf v) (lenOf v) o1 q o2 r → PutAll fs lent vs o2 r o3 e → PutAll (f ∷ fs) lent (v ∷ vs) o p o3 e
@@ -113,6 +114,7 @@ put-counted str u a b c = record { bytes = c .bytes ∙ rw (b .put .bytes, b .pu
 put-counted dat u a b c = record { bytes = c .bytes ∙ rw (b .put .bytes, b .put .next, a .bytes, a .next); next = c .next ∙ rw (b .put .bytes, b .put .next, a .bytes, a .next) }
 put-counted strs u a b c = record { bytes = c .bytes ∙ rw (b .put .bytes, b .put .next, a .bytes, a .next); next = c .next ∙ rw (b .put .bytes, b .put .next, a .bytes, a .next) }
 put-counted quids u a b c = record { bytes = c .bytes ∙ rw (b .put .bytes, b .put .next, a .bytes, a .next); next = c .next ∙ rw (b .put .bytes, b .put .next, a .bytes, a .next) }
+put-counted (boxed fs) u a b c = absurd u
 
 -- an item that a value shows: its bytes are those of the span, after the count
 pub record AfterCount (f : Field) (lent : List ℕ) (v : Value) (i : Item) : Type 0 where
@@ -194,6 +196,7 @@ after-count quids lent v {i} u b e =
     let g = cond-inv (eqb (lenOf v) (13 * countOf v)) _ R.PartMalformed 0 e2 .1 in
     let f : qids (countOf v) bs ≡ i = cc g in
     rw (← f) (record { tail = bs; shows = k .0; size = k .1; item = refl }))
+after-count (boxed fs) lent v u b e = absurd u
 
 -- ---- putting, where there is room
 
@@ -220,6 +223,85 @@ unfolding show itemBytes
 number-put w lent v o a {i} e =
     let f : number w (numOf v) ≡ i = cc e in rw (← f) (put-self (toLE w (numOf v)) o (At a))
 
+put-next : {bs o o' : List ℕ} {a : ℕ} {q : Place} → Put bs o (At a) o' q → a + length bs ≤ length o → q ≡ At (a + length bs)
+unfolding pastPut
+put-next {bs} {o} {o'} {a} f h = f .next ∙ rw (le-leb (a + length bs) (length o) h)
+
+-- ---- the fields of a box
+
+cell-put : (f : Shape) (lent : List ℕ) (v : Slot) (o : List ℕ) (a : ℕ) {i : Cell} {r : List ℕ} → showCell f lent v ≡ ok i r → a + length (cellBytes i) ≤ length o
+    → Put (cellBytes i) o (At a) (putCell f lent v o (At a)) (pastPutCell f lent v o (At a))
+unfolding showCell cellBytes stringBytes putCell pastPutCell
+cell-put (fixed w) lent v o a {i} e h = let f : amount w (slotNum v) ≡ i = cc e in rw (← f) (put-self (toLE w (slotNum v)) o (At a))
+cell-put worded lent v o a {i} e h =
+    after-inv (showString lent (slotStart v) (slotLen v)) _ e
+    (λ bs s e1 e2.
+    let k = string-inv lent (slotStart v) (slotLen v) e1 in
+    let f : words bs ≡ i = cc e2 in
+    let l : length bs ≡ slotLen v = rw (k .bytes) (shown-length lent (slotStart v) (slotLen v) (k .lies)) in
+    let g = shown-in lent (slotStart v) (slotLen v) (k .lies) ∙ ap (λ z. ok z []) (sym (k .bytes)) in
+    let h' : a + length (toLE 2 (length bs) ++ bs) ≤ length o = rw (← f) at h in
+    let hd : List ℕ = toLE 2 (slotLen v) in
+    let m : Place = pastPut hd o (At a) in
+    rw (← f, l, g, passing bs [] m) (put-then (put-self hd o (At a)) (put-self bs (putAt hd o (At a)) m) refl (rw l at h')))
+
+put-cells : (fs : List Shape) (lent : List ℕ) (vs : List Slot) (o : List ℕ) (a : ℕ) {is : List Cell} {r : List ℕ} → showCells fs lent vs ≡ ok is r
+    → a + length (cellsBytes is) ≤ length o → Put (cellsBytes is) o (At a) (putCells fs lent vs o (At a)) (pastPutCells fs lent vs o (At a))
+unfolding showCells cellsBytes putCells pastPutCells
+put-cells [] lent vs o a {is} e h =
+    let f : [] ≡ is = cc e in rw (← f) (put-none o a (let g = rw (← f) at h in omega arith))
+put-cells (f ∷ fs) lent vs o a {is} e h =
+    after-inv (showCell f lent (firstSlot vs)) _ e
+    (λ i s e1 e2. after-inv (showCells fs lent (otherSlots vs)) _ e2
+    (λ js t e3 e4.
+    let g : i ∷ js ≡ is = cc e4 in
+    let l = length-append (cellBytes i) (cellsBytes js) in
+    let h' : a + length (cellBytes i ++ cellsBytes js) ≤ length o = rw (← g) at h in
+    let x = cell-put f lent (firstSlot vs) o a e1 (omega arith) in
+    let n = put-next x (omega arith) in
+    let m = put-length x in
+    let y = put-cells fs lent (otherSlots vs) (putCell f lent (firstSlot vs) o (At a)) (a + length (cellBytes i)) e3 (omega arith) in
+    rw (← g) (put-then x (rw (← n) at y) refl h')))
+
+-- they are as long as they were said to be
+cell-size : (f : Shape) (lent : List ℕ) (v : Slot) {i : Cell} {r : List ℕ} → showCell f lent v ≡ ok i r → cellSize f v ≡ length (cellBytes i)
+unfolding showCell cellBytes stringBytes
+cell-size (fixed w) lent v {i} e = let f : amount w (slotNum v) ≡ i = cc e in rw (← f) (sym (length-toLE w (slotNum v)))
+cell-size worded lent v {i} e =
+    after-inv (showString lent (slotStart v) (slotLen v)) _ e
+    (λ bs s e1 e2.
+    let k = string-inv lent (slotStart v) (slotLen v) e1 in
+    let f : words bs ≡ i = cc e2 in
+    let l : length bs ≡ slotLen v = rw (k .bytes) (shown-length lent (slotStart v) (slotLen v) (k .lies)) in
+    let n = k .small in
+    rw (← f) (simp (length-append, length-toLE) (omega arith)))
+
+pub cells-size : (fs : List Shape) (lent : List ℕ) (vs : List Slot) {is : List Cell} {r : List ℕ} → showCells fs lent vs ≡ ok is r → cellsSize fs vs ≡ length (cellsBytes is)
+unfolding showCells cellsBytes
+cells-size [] lent vs {is} e = let f : [] ≡ is = cc e in rw (← f)
+cells-size (f ∷ fs) lent vs {is} e =
+    after-inv (showCell f lent (firstSlot vs)) _ e
+    (λ i s e1 e2. after-inv (showCells fs lent (otherSlots vs)) _ e2
+    (λ js t e3 e4.
+    let g : i ∷ js ≡ is = cc e4 in
+    let x = cell-size f lent (firstSlot vs) e1 in
+    let y = cells-size fs lent (otherSlots vs) e3 in
+    rw (← g, length-append (cellBytes i) (cellsBytes js)) (omega arith)))
+
+box-put : (fs : List Shape) (lent : List ℕ) (v : Value) (o : List ℕ) (a : ℕ) {i : Item} {r : List ℕ} → show (boxed fs) lent v ≡ ok i r → a + length (itemBytes i) ≤ length o
+    → Put (itemBytes i) o (At a) (putCells (withSizes fs) lent (sized fs (slotsOf v)) o (At a)) (pastPutCells (withSizes fs) lent (sized fs (slotsOf v)) o (At a))
+unfolding show itemBytes showCells showCell cellsBytes cellBytes
+box-put fs lent v o a {i} e h =
+    after-inv (showCells fs lent (slotsOf v)) _ e
+    (λ cs s e1 e2.
+    let u = cond-inv (leb (2 + length (cellsBytes cs)) 65535) _ R.StatMalformed 0 e2 in
+    let d = u .1 in
+    let f : box cs ≡ i = cc d in
+    let k = cells-size fs lent (slotsOf v) e1 in
+    let h' : a + length (toLE 2 (2 + length (cellsBytes cs)) ++ (toLE 2 (length (cellsBytes cs)) ++ cellsBytes cs)) ≤ length o = rw (← f) at h in
+    let e' : showCells (withSizes fs) lent (sized fs (slotsOf v)) ≡ ok (amount 2 (2 + cellsSize fs (slotsOf v)) ∷ amount 2 (cellsSize fs (slotsOf v)) ∷ cs) s = rw e1 in
+    rw (← f, ← k) (put-cells (withSizes fs) lent (sized fs (slotsOf v)) o a e' (rw (← k) at h')))
+
 put-field : (f : Field) (lent : List ℕ) (v : Value) (o : List ℕ) (a : ℕ) {i : Item} {r : List ℕ} → Bytes lent → show f lent v ≡ ok i r → a + length (itemBytes i) ≤ length o
     → Put (itemBytes i) o (At a) (putField f lent v o (At a)) (pastPutField f lent v o (At a))
 unfolding putField pastPutField
@@ -228,10 +310,7 @@ put-field str lent v o a b e h = put-after-count str lent v o a (after-count str
 put-field dat lent v o a b e h = put-after-count dat lent v o a (after-count dat lent v tt b e) h
 put-field strs lent v o a b e h = put-after-count strs lent v o a (after-count strs lent v tt b e) h
 put-field quids lent v o a b e h = put-after-count quids lent v o a (after-count quids lent v tt b e) h
-
-put-next : {bs o o' : List ℕ} {a : ℕ} {q : Place} → Put bs o (At a) o' q → a + length bs ≤ length o → q ≡ At (a + length bs)
-unfolding pastPut
-put-next {bs} {o} {o'} {a} f h = f .next ∙ rw (le-leb (a + length bs) (length o) h)
+put-field (boxed fs) lent v o a b e h = box-put fs lent v o a e h
 
 pub put-fields : (fs : Layout) (lent : List ℕ) (vs : List Value) (o : List ℕ) (a : ℕ) {is : List Item} {r : List ℕ} → Bytes lent → shows fs lent vs ≡ ok is r
     → a + length (itemsBytes is) ≤ length o → Put (itemsBytes is) o (At a) (putFields fs lent vs o (At a)) (pastPutFields fs lent vs o (At a))

@@ -18,9 +18,9 @@ use Rattle.numbers.specs.declared.Place.{Place}
 use Rattle.numbers.specs.declared.Place.the-variants.{At, Refused}
 use Rattle.strings.specs.Spans.{SpanPut}
 use Rattle.fields.specs.FieldLaws.{others-bad}
-use Rattle.fields.specs.Layouts.{Field, num, str, dat, strs, quids, Layout, Item, itemBytes, itemsBytes}
-use Rattle.fields.specs.Values.{Value, startOf, lenOf, show, firstOf, othersOf, shows}
-use Rattle.laying.specs.Laying.{limit, checkField, checkFields, putFields, pastPutFields, headWidth, headOf, FieldMeasured, Measured, PutAll, writtenOut, Written, settledAt, Settled, begunAt, Begun, putField, pastPutField}
+use Rattle.fields.specs.Layouts.{Shape, fixed, worded, Field, num, str, dat, strs, quids, boxed, Layout, Item, itemBytes, itemsBytes}
+use Rattle.fields.specs.Values.{Slot, firstSlot, otherSlots, slotsOf, Value, startOf, lenOf, show, firstOf, othersOf, shows}
+use Rattle.laying.specs.Laying.{limit, checkField, checkFields, putFields, pastPutFields, headWidth, headOf, FieldMeasured, Measured, PutAll, writtenOut, Written, settledAt, Settled, begunAt, Begun, putCell, pastPutCell, putCells, pastPutCells, withSizes, sized, putField, pastPutField}
 use Rattle.laying.specs.LayingLaws.{put-fields, Unless, measured-none, measure, put-done, put-counted}
 
 pub written-one : {fs : Layout} {lent o o1 o2 : List ℕ} {vs : List Value} {p q q' : Place} → Written fs lent vs o p o1 q → Written fs lent vs o p o2 q' → (o1 ≡ o2) × (q ≡ q')
@@ -35,7 +35,7 @@ record Reaches (e : Place) (sum : ℕ) : Type 0 where
   pub exact : at < limit → at ≡ sum
   pub over : limit ≤ at → limit ≤ sum
 
-check-passed : (f : Field) (lent : List ℕ) (v : Value) (a : ℕ) {i : Item} {r : List ℕ} → show f lent v ≡ ok i r
+pub check-passed : (f : Field) (lent : List ℕ) (v : Value) (a : ℕ) {i : Item} {r : List ℕ} → show f lent v ≡ ok i r
     → checkField f lent v (At a) ≡ At (min (a + length (itemBytes i)) limit)
 unfolding checkField
 check-passed f lent v a e = rw e
@@ -44,7 +44,7 @@ check-failed : (f : Field) (lent : List ℕ) (v : Value) (a : ℕ) {k : Refusal}
 unfolding checkField
 check-failed f lent v a e = rw e
 
-stays : (fs : Layout) (lent : List ℕ) (vs : List Value) (k : Refusal) (n : ℕ) → checkFields fs lent vs (Refused k n) ≡ Refused k n
+pub stays : (fs : Layout) (lent : List ℕ) (vs : List Value) (k : Refusal) (n : ℕ) → checkFields fs lent vs (Refused k n) ≡ Refused k n
 unfolding checkFields checkField
 stays [] lent vs k n = refl
 stays (f ∷ fs) lent vs k n = stays fs lent (othersOf vs) k n
@@ -69,7 +69,7 @@ reaches (f ∷ fs) lent vs a {is} e =
       over = λ h. (let k = m .over h in omega arith);
     })))
 
-failed : (fs : Layout) (lent : List ℕ) (vs : List Value) (a : ℕ) {k : Refusal} {at : ℕ} → shows fs lent vs ≡ bad k at → checkFields fs lent vs (At a) ≡ Refused k at
+pub failed : (fs : Layout) (lent : List ℕ) (vs : List Value) (a : ℕ) {k : Refusal} {at : ℕ} → shows fs lent vs ≡ bad k at → checkFields fs lent vs (At a) ≡ Refused k at
 unfolding shows checkFields
 failed [] lent vs a e = absurd (let z : _≡_ {A = ℕ} 0 1 = cc e in omega arith)
 failed (f ∷ fs) lent vs a {k} {at} e = go (show f lent (firstOf vs)) refl e (λ n c. failed fs lent (othersOf vs) n c)
@@ -155,6 +155,16 @@ written-put {fs} {lent} {o} {o2} {vs} {p} {e} {q} {r} {n} b c s h l =
 
 -- ---- both
 
+cell-stays : (f : Shape) (lent : List ℕ) (v : Slot) (o : List ℕ) (k : Refusal) (n : ℕ) → (putCell f lent v o (Refused k n) ≡ o) × (pastPutCell f lent v o (Refused k n) ≡ Refused k n)
+unfolding putCell pastPutCell putAt pastPut
+cell-stays (fixed w) lent v o k n = (refl, refl)
+cell-stays worded lent v o k n = (refl, refl)
+
+cells-stay : (fs : List Shape) (lent : List ℕ) (vs : List Slot) (o : List ℕ) (k : Refusal) (n : ℕ) → (putCells fs lent vs o (Refused k n) ≡ o) × (pastPutCells fs lent vs o (Refused k n) ≡ Refused k n)
+unfolding putCells pastPutCells
+cells-stay [] lent vs o k n = (refl, refl)
+cells-stay (f ∷ fs) lent vs o k n = let c = cell-stays f lent (firstSlot vs) o k n in rw (c .0, c .1) (cells-stay fs lent (otherSlots vs) o k n)
+
 put-stays-out : (f : Field) (lent : List ℕ) (v : Value) (o : List ℕ) (k : Refusal) (n : ℕ) → putField f lent v o (Refused k n) ≡ o
 unfolding putField putAt pastPut
 put-stays-out (num w) lent v o k n = refl
@@ -162,6 +172,7 @@ put-stays-out str lent v o k n = refl
 put-stays-out dat lent v o k n = refl
 put-stays-out strs lent v o k n = refl
 put-stays-out quids lent v o k n = refl
+put-stays-out (boxed fs) lent v o k n = cells-stay (withSizes fs) lent (sized fs (slotsOf v)) o k n .0
 
 put-stays-refused : (f : Field) (lent : List ℕ) (v : Value) (o : List ℕ) (k : Refusal) (n : ℕ) → pastPutField f lent v o (Refused k n) ≡ Refused k n
 unfolding pastPutField putAt pastPut
@@ -170,6 +181,7 @@ put-stays-refused str lent v o k n = refl
 put-stays-refused dat lent v o k n = refl
 put-stays-refused strs lent v o k n = refl
 put-stays-refused quids lent v o k n = refl
+put-stays-refused (boxed fs) lent v o k n = cells-stay (withSizes fs) lent (sized fs (slotsOf v)) o k n .1
 
 -- at a refused place nothing is put
 nothing-put : (fs : Layout) (lent : List ℕ) (vs : List Value) (o : List ℕ) (k : Refusal) (n : ℕ) → (putFields fs lent vs o (Refused k n) ≡ o) × (pastPutFields fs lent vs o (Refused k n) ≡ Refused k n)

@@ -1,4 +1,5 @@
 pub mod Tables
+pub mod Plain
 pub mod TableLaws
 pub mod Records
 pub mod Bodies

@@ -64,6 +64,7 @@ number-most R.PartMalformed = lit< tt
 number-most R.NoSuchElement = lit< tt
 number-most R.HoldsRefusal = lit< tt
 number-most R.TooManyElements = lit< tt
+number-most R.StatMalformed = lit< tt
 number-most R.TableFull = lit< tt
 number-most R.Capture = lit< tt
 number-most R.MsizeTooSmall = lit< tt

@@ -5,9 +5,7 @@ use mathlib.Core.List.{List, [], _∷_}
 use Rattle.fields.specs.Values.{Value, val}
 use Rattle.layouts.specs.Records.{spanOf}
 use Rattle.messages.specs.declared.sessions.Tauth.{Tauth}
-use Rattle.messages.specs.declared.sessions.Rauth.{Rauth}
 use Rattle.messages.specs.declared.sessions.Tattach.{Tattach}
-use Rattle.messages.specs.declared.sessions.Rattach.{Rattach}
 use Rattle.messages.specs.declared.sessions.Rlerror.{Rlerror}
 use Rattle.messages.specs.declared.files.Tlopen.{Tlopen}
 use Rattle.messages.specs.declared.files.Rlopen.{Rlopen}
@@ -34,14 +32,8 @@ use Rattle.messages.specs.declared.directories.Tunlinkat.{Tunlinkat}
 abbrev pub tauth : Tauth → List Value
 tauth m = val (m .afid .0) ∷ spanOf (m .uname) ∷ spanOf (m .aname) ∷ val (m .«n_uname») ∷ []
 
-abbrev pub rauth : Rauth → List Value
-rauth m = val (m .aqid .ty) ∷ val (m .aqid .version) ∷ val (m .aqid .path) ∷ []
-
 abbrev pub tattach : Tattach → List Value
 tattach m = val (m .fid .0) ∷ val (m .afid .0) ∷ spanOf (m .uname) ∷ spanOf (m .aname) ∷ val (m .«n_uname») ∷ []
-
-abbrev pub rattach : Rattach → List Value
-rattach m = val (m .qid .ty) ∷ val (m .qid .version) ∷ val (m .qid .path) ∷ []
 
 abbrev pub rlerror : Rlerror → List Value
 rlerror m = val (m .ecode) ∷ []

@@ -2,14 +2,12 @@
 // Opening a session in 9P2000.L: auth, attach, and the error reply.
 
 use layouts::ids::Fid;
-use layouts::qids;
-use layouts::qids::Qid;
 use numbers::Place;
 use strings::Span;
 ghost use Rattle.fields.specs.Fields.{Fields};
 ghost use Rattle.laying.specs.Laying.{Written};
-ghost use Rattle.layouts.specs.Tables.{layoutTauth, layoutRauth, layoutTattach, layoutRattach, layoutRlerror};
-ghost use Rattle.messages.specs.Records.{tauth, rauth, tattach, rattach, rlerror};
+ghost use Rattle.layouts.specs.Tables.{layoutTauth, layoutTattach, layoutRlerror};
+ghost use Rattle.messages.specs.Records.{tauth, tattach, rlerror};
 
 pub struct Tauth {
     pub afid: Fid,
@@ -63,36 +61,6 @@ pub fn write_tauth(out: &mut [u8], p: Place, lent: &[u8], m: Tauth) -> Place
     let q4 = numbers::put_num(out, q3, aname.len as u64, 2);
     let q5 = strings::put_bytes(out, q4, lent, aname);
     numbers::put_u32(out, q5, m.n_uname)
-}
-
-pub struct Rauth {
-    pub aqid: Qid,
-}
-
-pub struct ReadRauth {
-    pub value: Rauth,
-    pub next: Place,
-}
-
-pub fn read_rauth(s: &[u8], p: Place) -> ReadRauth
-    ensures { λ r. ⌜ Fields layoutRauth (now (s .entry)) p (rauth (r .value)) (r .next) ⌝ }
-{
-    let r1 = qids::read_qid(s, p);
-    let p1 = r1.next;
-    let aqid = r1.value;
-    let value = Rauth { aqid };
-    ReadRauth { value, next: p1 }
-}
-
-pub fn write_rauth(out: &mut [u8], p: Place, lent: &[u8], m: Rauth) -> Place
-    ensures { λ r. ⌜ Written layoutRauth (now (lent .entry)) (rauth m) (now (out .entry)) p (now (out .exit)) r ⌝ }
-{
-    let end = laying::advanced(p, 13);
-    let start = laying::begun(p, end, out.len());
-    let aqid = m.aqid;
-    let q1 = numbers::put_u8(out, start, aqid.ty);
-    let q2 = numbers::put_u32(out, q1, aqid.version);
-    numbers::put_u64(out, q2, aqid.path)
 }
 
 pub struct Tattach {
@@ -154,36 +122,6 @@ pub fn write_tattach(out: &mut [u8], p: Place, lent: &[u8], m: Tattach) -> Place
     let q5 = numbers::put_num(out, q4, aname.len as u64, 2);
     let q6 = strings::put_bytes(out, q5, lent, aname);
     numbers::put_u32(out, q6, m.n_uname)
-}
-
-pub struct Rattach {
-    pub qid: Qid,
-}
-
-pub struct ReadRattach {
-    pub value: Rattach,
-    pub next: Place,
-}
-
-pub fn read_rattach(s: &[u8], p: Place) -> ReadRattach
-    ensures { λ r. ⌜ Fields layoutRattach (now (s .entry)) p (rattach (r .value)) (r .next) ⌝ }
-{
-    let r1 = qids::read_qid(s, p);
-    let p1 = r1.next;
-    let qid = r1.value;
-    let value = Rattach { qid };
-    ReadRattach { value, next: p1 }
-}
-
-pub fn write_rattach(out: &mut [u8], p: Place, lent: &[u8], m: Rattach) -> Place
-    ensures { λ r. ⌜ Written layoutRattach (now (lent .entry)) (rattach m) (now (out .entry)) p (now (out .exit)) r ⌝ }
-{
-    let end = laying::advanced(p, 13);
-    let start = laying::begun(p, end, out.len());
-    let qid = m.qid;
-    let q1 = numbers::put_u8(out, start, qid.ty);
-    let q2 = numbers::put_u32(out, q1, qid.version);
-    numbers::put_u64(out, q2, qid.path)
 }
 
 pub struct Rlerror {

@@ -19,5 +19,13 @@ knows rows ty = has (lookup rows ty)
 abbrev pub rlerror : ℕ
 rlerror = 7
 
+-- Rerror, the error of 9P2000 (F14.6)
+abbrev pub rerror : ℕ
+rerror = 107
+
+-- a request that is known or not, and a reply
+abbrev pub paired : Bool → ℕ → ℕ → ℕ → ℕ → ℕ → Bool
+paired known error ty tag ty' tag' = cond (eqb tag tag') (cond known (cond (eqb ty' error) true (eqb ty' (ty + 1))) false) false
+
 abbrev pub pairs : List Row → ℕ → ℕ → ℕ → ℕ → ℕ → Bool
-pairs rows error ty tag ty' tag' = cond (eqb tag tag') (cond (knows rows ty) (cond (eqb ty' error) true (eqb ty' (ty + 1))) false) false
+pairs rows error ty tag ty' tag' = paired (knows rows ty) error ty tag ty' tag'

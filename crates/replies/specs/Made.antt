@@ -5,15 +5,15 @@ use mathlib.Core.Path.{_≡_, ap}
 use mathlib.Core.List.{List}
 use lib.ListN.{getD}
 use Rattle.fields.specs.Values.{Value, val, numOf, startOf, lenOf, countOf}
-use Rattle.common.specs.Records.{rversion, rwalk, rread, rwrite}
-use Rattle.messages.specs.Records.{rattach, rauth, rlopen, rlcreate, rsymlink, rmknod, rreadlink, rreaddir, rmkdir, rlerror}
+use Rattle.common.specs.Records.{rversion, rwalk, rread, rwrite, rattach, rauth}
+use Rattle.messages.specs.Records.{rlopen, rlcreate, rsymlink, rmknod, rreadlink, rreaddir, rmkdir, rlerror}
 use Rattle.metadata.specs.Records.{rstatfs, rgetattr, rxattrwalk, rlock, rgetlock}
 use Rattle.common.specs.declared.sessions.Rversion.{Rversion}
 use Rattle.common.specs.declared.walking.Rwalk.{Rwalk}
 use Rattle.common.specs.declared.files.Rread.{Rread}
 use Rattle.common.specs.declared.files.Rwrite.{Rwrite}
-use Rattle.messages.specs.declared.sessions.Rattach.{Rattach}
-use Rattle.messages.specs.declared.sessions.Rauth.{Rauth}
+use Rattle.common.specs.declared.sessions.Rattach.{Rattach}
+use Rattle.common.specs.declared.sessions.Rauth.{Rauth}
 use Rattle.metadata.specs.declared.attributes.Rstatfs.{Rstatfs}
 use Rattle.messages.specs.declared.files.Rlopen.{Rlopen}
 use Rattle.messages.specs.declared.files.Rlcreate.{Rlcreate}

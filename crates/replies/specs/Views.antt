@@ -5,8 +5,8 @@ use mathlib.Core.List.{List, []}
 use Rattle.fields.specs.Layouts.{Layout}
 use Rattle.fields.specs.Values.{Value}
 use Rattle.layouts.specs.Tables.{layoutRversion, layoutRflush, layoutRwalk, layoutRread, layoutRwrite, layoutRclunk, layoutRremove, layoutRattach, layoutRauth, layoutRstatfs, layoutRlopen, layoutRlcreate, layoutRsymlink, layoutRmknod, layoutRrename, layoutRreadlink, layoutRgetattr, layoutRsetattr, layoutRxattrwalk, layoutRxattrcreate, layoutRreaddir, layoutRfsync, layoutRlock, layoutRgetlock, layoutRlink, layoutRmkdir, layoutRrenameat, layoutRunlinkat, layoutRlerror}
-use Rattle.common.specs.Records.{rversion, rwalk, rread, rwrite}
-use Rattle.messages.specs.Records.{rattach, rauth, rlopen, rlcreate, rsymlink, rmknod, rreadlink, rreaddir, rmkdir, rlerror}
+use Rattle.common.specs.Records.{rversion, rwalk, rread, rwrite, rattach, rauth}
+use Rattle.messages.specs.Records.{rlopen, rlcreate, rsymlink, rmknod, rreadlink, rreaddir, rmkdir, rlerror}
 use Rattle.metadata.specs.Records.{rstatfs, rgetattr, rxattrwalk, rlock, rgetlock}
 use Rattle.layouts.specs.Bodies.{Answer, accepted, refused}
 use Rattle.replies.specs.declared.Rmessage.{Rmessage}

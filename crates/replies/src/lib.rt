@@ -3,6 +3,8 @@
 
 use common::files::Rread;
 use common::files::Rwrite;
+use common::sessions::Rattach;
+use common::sessions::Rauth;
 use common::sessions::Rversion;
 use common::walking::Rwalk;
 use messages::directories::Rmkdir;
@@ -12,8 +14,6 @@ use messages::directories::Rreadlink;
 use messages::directories::Rsymlink;
 use messages::files::Rlcreate;
 use messages::files::Rlopen;
-use messages::sessions::Rattach;
-use messages::sessions::Rauth;
 use messages::sessions::Rlerror;
 use metadata::attributes::Rgetattr;
 use metadata::attributes::Rstatfs;
@@ -172,13 +172,13 @@ pub fn read_rmessage(s: &[u8], ty: u8, p: Place) -> Rbody
             finish(Rmessage::Version(m), e)
         }
         103 => {
-            let r = messages::sessions::read_rauth(s, p);
+            let r = common::sessions::read_rauth(s, p);
             let m = r.value;
             let e = r.next;
             finish(Rmessage::Auth(m), e)
         }
         105 => {
-            let r = messages::sessions::read_rattach(s, p);
+            let r = common::sessions::read_rattach(s, p);
             let m = r.value;
             let e = r.next;
             finish(Rmessage::Attach(m), e)
@@ -257,8 +257,8 @@ pub fn write_rmessage(out: &mut [u8], p: Place, lent: &[u8], m: Rmessage) -> Pla
         Rmessage::Write(x) => common::files::write_rwrite(out, p, lent, x),
         Rmessage::Clunk => laying::begun(p, p, out.len()),
         Rmessage::Remove => laying::begun(p, p, out.len()),
-        Rmessage::Attach(x) => messages::sessions::write_rattach(out, p, lent, x),
-        Rmessage::Auth(x) => messages::sessions::write_rauth(out, p, lent, x),
+        Rmessage::Attach(x) => common::sessions::write_rattach(out, p, lent, x),
+        Rmessage::Auth(x) => common::sessions::write_rauth(out, p, lent, x),
         Rmessage::Statfs(x) => metadata::attributes::write_rstatfs(out, p, lent, x),
         Rmessage::Lopen(x) => messages::files::write_rlopen(out, p, lent, x),
         Rmessage::Lcreate(x) => messages::files::write_rlcreate(out, p, lent, x),

@@ -14,7 +14,7 @@ use Rattle.numbers.specs.declared.Place.the-variants.{At}
 use Rattle.strings.specs.Strings.{stringBytes}
 use Rattle.strings.specs.Spans.{showString}
 use Rattle.strings.specs.SpanLaws.{shown-length, string-inv}
-use Rattle.fields.specs.Layouts.{Field, num, str, dat, strs, quids, Layout, Item, number, string, itemBytes, itemsBytes}
+use Rattle.fields.specs.Layouts.{Field, num, str, dat, strs, quids, boxed, Layout, Item, number, string, itemBytes, itemsBytes}
 use Rattle.fields.specs.Values.{Value, numOf, startOf, lenOf, show, firstOf, othersOf, shows}
 use Rattle.laying.specs.Laying.{limit, writtenPast}
 use Rattle.layouts.specs.Tables.{layoutDirent}
@@ -27,6 +27,7 @@ mostBytes (str ∷ fs) = 65537 + mostBytes fs
 mostBytes (dat ∷ fs) = mostBytes fs
 mostBytes (strs ∷ fs) = mostBytes fs
 mostBytes (quids ∷ fs) = mostBytes fs
+mostBytes (boxed b ∷ fs) = mostBytes fs
 
 abbrev pub bounded : Layout → Bool
 bounded [] = true
@@ -35,6 +36,7 @@ bounded (str ∷ fs) = bounded fs
 bounded (dat ∷ fs) = false
 bounded (strs ∷ fs) = false
 bounded (quids ∷ fs) = false
+bounded (boxed b ∷ fs) = false
 
 no-way : {X : Type 0} → _≡_ {A = Bool} false true → X
 no-way e = absurd (let z : _≡_ {A = ℕ} 0 1 = cc e in omega arith)
@@ -80,6 +82,7 @@ shown-most (str ∷ fs) lent vs b e = field-most str fs lent vs 65537 (mostBytes
 shown-most (dat ∷ fs) lent vs b e = no-way b
 shown-most (strs ∷ fs) lent vs b e = no-way b
 shown-most (quids ∷ fs) lent vs b e = no-way b
+shown-most (boxed c ∷ fs) lent vs b e = no-way b
 
 -- what is written of an entry is tested for room alone, unless its place is past 4,294,901,736
 pub entry-never-ten : (lent : List ℕ) (vs : List Value) (o : List ℕ) (a : ℕ) {is : List Item} {r : List ℕ} → a ≤ 4294901736 → shows layoutDirent lent vs ≡ ok is r

@@ -2,7 +2,7 @@
 -- A record's numbers fit their fields where its machine value is well typed (`WT`), as that of what a program holds is (`Held.antt`).
 use mir.Val.{WT}
 use Rattle.framing.specs.ReadBack.{Readable}
-use Rattle.stretch.specs.Limits.{Limited}
+use Rattle.framing.specs.Limits.{Limited}
 use Rattle.requests.specs.Views.{layoutT, valuesT}
 use Rattle.requests.specs.declared.Tmessage.{Tmessage}
 use Rattle.requests.specs.declared.Tmessage.the-variants as M

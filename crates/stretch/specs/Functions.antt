@@ -40,7 +40,7 @@ use Rattle.framing.specs.Stretch.{typeIn, tagIn, tableFor, answerIn, answerOf, 
 use Rattle.framing.specs.ListingLaws.{goesOn, listed, stopsAt}
 use Rattle.stretch.specs.Views.{viewBody, viewStep, Asked}
 use Rattle.framing.specs.ReadBack.{Back}
-use Rattle.stretch.specs.Limits.{Limited}
+use Rattle.framing.specs.Limits.{Limited}
 use Rattle.stretch.specs.Fitting.{request-fits, reply-fits}
 use Rattle.stretch.specs.Known.{row-of-request, type-of-request, row-of-reply, type-of-reply}
 use Rattle.framing.specs.Stripped.{resized, cutAt}
@@ -50,7 +50,7 @@ use Rattle.framing.specs.Joining.{joined, Ends}
 use Rattle.framing.specs.Damage.{Has, Damaged, EqualBut}
 use Rattle.framing.specs.Positions.{listed-written}
 use Rattle.framing.specs.Cuts.{between}
-use Rattle.stretch.specs.Dialects.{frames, ended, stopped, Lists, listed-by, lists, lists-edited, lists-once, lists-joined, lists-damaged, Direction, stripped, written, written-again, cut, back, local-read}
+use Rattle.framing.specs.Dialects.{frames, ended, stopped, Lists, listed-by, lists, lists-edited, lists-once, lists-joined, lists-damaged, Direction, stripped, written, written-again, cut, back, local-read}
 use Rattle.stretch.specs.declared.Body.the-variants as B
 use Rattle.stretch.specs.declared.Listed.{Listed}
 use Rattle.stretch.specs.declared.Step.{Step}

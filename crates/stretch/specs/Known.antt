@@ -1,15 +1,11 @@
 -- Written by tools/messages from its table of messages.
 -- The type of each case of the two enums is in its table, and has one byte.
-use Prim.Native.Nat.{ℕ, _^_, _<_}
-use native.Mathlib.Omega.{arith}
+use Prim.Native.Nat.{_^_, _<_}
 use mathlib.Core.Path.{_≡_, refl}
-use mathlib.Core.Bool.{Bool, true, false, cond}
-use mathlib.Core.List.{List, [], _∷_}
 use mathlib.Core.Option.{some}
-use lib.Dec.{ltb, eqb}
-use borrow.Author.Tests.{ltb-true, eqb-true}
-use Rattle.fields.specs.Layouts.{Layout}
-use Rattle.layouts.specs.Tables.{Row, row, tableT, tableR, lookup}
+use Rattle.layouts.specs.Tables.{lookup}
+use Rattle.layouts.specs.Tables.{tableT, tableR}
+use Rattle.layouts.specs.TableLaws.{small-row}
 use Rattle.requests.specs.Views.{typeT, layoutT}
 use Rattle.requests.specs.declared.Tmessage.{Tmessage}
 use Rattle.requests.specs.declared.Tmessage.the-variants as M
@@ -47,23 +43,6 @@ row-of-request (M.Link m) = refl
 row-of-request (M.Mkdir m) = refl
 row-of-request (M.RenameAt m) = refl
 row-of-request (M.UnlinkAt m) = refl
-
--- every row's number has one byte
-abbrev below : List Row → Bool
-below [] = true
-below (row k l ∷ rs) = cond (ltb k 256) (below rs) false
-
-small-row : (rs : List Row) (ty : ℕ) {l : Layout} → below rs ≡ true → lookup rs ty ≡ some l → ty < 256 ^ 1
-small-row [] ty b e = absurd (let z : _≡_ {A = ℕ} 0 1 = cc e in omega arith)
-small-row (row k m ∷ rs) ty {l} b e = go (ltb k 256) refl b (λ c f. small-row rs ty c f)
-  where
-    go : (t : Bool) → ltb k 256 ≡ t → cond t (below rs) false ≡ true → (below rs ≡ true → lookup rs ty ≡ some l → ty < 256 ^ 1) → ty < 256 ^ 1
-    go true h c ih = here (eqb k ty) refl e
-      where
-        here : (u : Bool) → eqb k ty ≡ u → lookup (row k m ∷ rs) ty ≡ some l → ty < 256 ^ 1
-        here true f d = let x = eqb-true k ty f in let y = ltb-true k 256 h in omega arith
-        here false f d = ih c (rw (f, lookup) at d)
-    go false h c ih = absurd (let z : _≡_ {A = ℕ} 0 1 = cc c in omega arith)
 
 pub type-of-request : (m : Tmessage) → typeT m < 256 ^ 1
 type-of-request m = small-row tableT (typeT m) refl (row-of-request m)

@@ -5,10 +5,9 @@ pub mod Records
 pub mod Entries
 pub mod Examples
 pub mod Known
-pub mod Limits
 pub mod Held
 pub mod Fitting
-pub mod Dialects
 pub mod Functions
 pub mod TablesBack
+pub mod QidsHeld
 pub mod TableExamples

@@ -8,7 +8,7 @@ use std::collections::BTreeSet;
 
 pub fn write(table: &Table, files: &mut Files) {
     for direction in [Direction::T, Direction::R] {
-        let krate = direction.enums();
+        let krate = &table.dialect.named(direction.enums());
         let (small, rows, cases) = (
             direction.small(),
             table.by_number(direction),
@@ -16,20 +16,20 @@ pub fn write(table: &Table, files: &mut Files) {
         );
         files.put(
             format!("crates/{krate}/src/lib.rt"),
-            source(direction, krate, &rows, &cases),
+            source(table, direction, &rows, &cases),
         );
         files.put(
             format!("crates/{krate}/specs/Views.antt"),
-            views(direction, krate, &cases),
+            views(table, direction, &cases),
         );
-        files.put(format!("crates/{krate}/specs/Made.antt"), made(&cases));
+        files.put(format!("crates/{krate}/specs/Made.antt"), made(table, &cases));
         files.put(
             format!("crates/{krate}/specs/Built.antt"),
             built(direction, krate, &rows, &cases),
         );
         files.put(
             format!("crates/{krate}/proofs/read_{small}message/Proof.antt"),
-            read_proof(direction, krate, &rows),
+            read_proof(table, direction, &rows),
         );
         files.put(
             format!("crates/{krate}/proofs/write_{small}message/Proof.antt"),
@@ -40,15 +40,14 @@ pub fn write(table: &Table, files: &mut Files) {
             type_proof(krate, &cases),
         );
     }
-    files.put("crates/stretch/specs/Known.antt".to_string(), known(table));
+    let stretch = table.dialect.named("stretch");
+    files.put(format!("crates/{stretch}/specs/Known.antt"), known(table));
     files.put(
-        "crates/stretch/specs/Fitting.antt".to_string(),
+        format!("crates/{stretch}/specs/Fitting.antt"),
         fitting(table),
     );
-    files.put(
-        "crates/pairs/src/known.rt".to_string(),
-        known_request(table),
-    );
+    let known = table.dialect.named("known");
+    files.put(format!("crates/pairs/src/{known}.rt"), known_request(table));
 }
 
 /// A case of the enum, with what it holds.
@@ -67,15 +66,16 @@ fn pattern(m: &Message) -> String {
     }
 }
 
-fn source(direction: Direction, krate: &str, rows: &[&Message], cases: &[&Message]) -> String {
-    enums(direction, krate, rows, cases)
+fn source(table: &Table, direction: Direction, rows: &[&Message], cases: &[&Message]) -> String {
+    enums(table, direction, rows, cases)
         + &read(direction, rows)
         + &type_of(direction, cases)
         + &write_body(direction, cases)
 }
 
-fn enums(direction: Direction, krate: &str, rows: &[&Message], cases: &[&Message]) -> String {
-    let (d, count) = (direction.letter(), rows.len());
+fn enums(table: &Table, direction: Direction, rows: &[&Message], cases: &[&Message]) -> String {
+    let (d, many, count) = (direction.letter(), direction.enums(), rows.len());
+    let (krate, tables) = (table.dialect.named(many), table.dialect.tables);
     let records = rows.iter().filter(|m| !m.is_empty());
     let mut uses: BTreeSet<String> = records
         .map(|m| format!("use {}::{};\n", m.module(), m.record()))
@@ -90,11 +90,11 @@ fn enums(direction: Direction, krate: &str, rows: &[&Message], cases: &[&Message
         .map(|m| format!("    {},\n", holding(m, &m.record())))
         .collect();
     format!(
-        "// The {count} {krate} in one enum: a body read by its type number, and written by its case.
+        "// The {count} {many} in one enum: a body read by its type number, and written by its case.
 
 {uses}ghost use mathlib.Core.Path.{{_≡_}};
 ghost use Rattle.laying.specs.Laying.{{Written}};
-ghost use Rattle.layouts.specs.Tables.{{table{d}}};
+ghost use Rattle.layouts.specs.{tables}.{{table{d}}};
 ghost use Rattle.layouts.specs.Bodies.{{readBody, finishAt}};
 ghost use Rattle.{krate}.specs.Views.{{type{d}, layout{d}, values{d}, view{d}}};
 
@@ -208,9 +208,9 @@ fn read_arm(m: &Message, d: char) -> String {
 // ---- definitions
 
 /// The `use` lines of the records' values.
-fn values_uses(cases: &[&Message]) -> String {
+fn values_uses(table: &Table, cases: &[&Message]) -> String {
     let mut text = String::new();
-    for from in ["common", "messages", "metadata"] {
+    for from in table.dialect.records() {
         let values: Vec<String> = cases
             .iter()
             .filter(|m| m.dialect == from && !m.is_empty())
@@ -224,13 +224,14 @@ fn values_uses(cases: &[&Message]) -> String {
     text
 }
 
-fn views(direction: Direction, krate: &str, cases: &[&Message]) -> String {
+fn views(table: &Table, direction: Direction, cases: &[&Message]) -> String {
     let d = direction.letter();
+    let krate = &table.dialect.named(direction.enums());
     let mut text = format!(
-        "-- For each case of `{d}message` its number (F3.2), its layout and its values.\nuse Prim.Native.Nat.{{ℕ}}\nuse mathlib.Core.List.{{List, []}}\nuse Rattle.fields.specs.Layouts.{{Layout}}\nuse Rattle.fields.specs.Values.{{Value}}\nuse Rattle.layouts.specs.Tables.{{{}}}\n",
-        layouts(cases)
+        "-- For each case of `{d}message` its number (F3.2), its layout and its values.\nuse Prim.Native.Nat.{{ℕ}}\nuse mathlib.Core.List.{{List, []}}\nuse Rattle.fields.specs.Layouts.{{Layout}}\nuse Rattle.fields.specs.Values.{{Value}}\n{}",
+        layouts(cases, "", "")
     );
-    text += &values_uses(cases);
+    text += &values_uses(table, cases);
     text += "use Rattle.layouts.specs.Bodies.{Answer, accepted, refused}\n";
     text += &declared(krate, d);
     text += &format!("\nabbrev pub type{d} : {d}message → ℕ\n");
@@ -286,6 +287,7 @@ fn rebuilt(f: &Field, i: usize) -> String {
             "record {{ count = countOf (nth {i} vs); elements = {} }}",
             span(i)
         ),
+        Kind::Stat => format!("madeStat (slotsOf (nth {i} vs))"),
         _ => format!("record {{ 0 = {} }}", number(i)),
     };
     format!("{} = {value}", quoted(&f.name))
@@ -312,7 +314,7 @@ one-{small} m m' e = ap made{record} e
     )
 }
 
-fn made(cases: &[&Message]) -> String {
+fn made(table: &Table, cases: &[&Message]) -> String {
     let mut text = "-- A record is determined by its values: it can be made of them again.
 use Prim.Native.Nat.{ℕ}
 use mathlib.Core.Path.{_≡_, ap}
@@ -322,7 +324,10 @@ use Rattle.fields.specs.Values.{Value, val, numOf, startOf, lenOf, countOf}
 "
     .to_string();
     let records: Vec<_> = cases.iter().filter(|m| !m.is_empty()).collect();
-    text += &values_uses(cases);
+    text += &values_uses(table, cases);
+    if records.iter().any(|m| m.fields.iter().any(|f| f.kind == Kind::Stat)) {
+        text += "use Rattle.fields.specs.Values.{slotsOf}\nuse Rattle.stats.specs.Stats.{madeStat}\n";
+    }
     for m in &records {
         let record = m.record();
         text += &format!(
@@ -412,7 +417,9 @@ fn known(table: &Table) -> String {
         table.by_case(direction).iter().map(named).collect()
     };
     let [head, between, end] = KNOWN;
-    head.to_string()
+    head.replace("TABLES", table.dialect.tables)
+        .replace("REQUESTS", &table.dialect.named("requests"))
+        .replace("REPLIES", &table.dialect.named("replies"))
         + &rows(Direction::T, "row-of-request", "M.")
         + between
         + &rows(Direction::R, "row-of-reply", "Q.")
@@ -429,8 +436,30 @@ fn field_fits(f: &Field, at: &str, limit: &str) -> Vec<String> {
             .collect(),
         Kind::Str | Kind::Names | Kind::Qids => vec!["tt".to_string()],
         Kind::Data => vec![limit.to_string()],
+        Kind::Stat => vec![stat_fits(at)],
         _ => vec![format!("{at} .0 .fits")],
     }
+}
+
+/// The same of a stat's: seven fields of numbers, of which the third is a qid, and four strings.
+fn stat_fits(at: &str) -> String {
+    let mut parts = vec![];
+    for i in 0..7 {
+        let at = format!("{at}{} .0", " .1".repeat(i));
+        match i {
+            2 => parts.extend(["", " .1", " .1 .1"].map(|rest| format!("{at}{rest} .0 .fits"))),
+            _ => parts.push(format!("{at} .fits")),
+        }
+    }
+    parts.extend(["tt"; 4].map(String::from));
+    tupled(&parts)
+}
+
+fn tupled(parts: &[String]) -> String {
+    parts
+        .iter()
+        .rev()
+        .fold("tt".to_string(), |rest, part| format!("({part}, {rest})"))
 }
 
 /// That the values of a case fit: the case holds its record after its tag, and the record its fields in order.
@@ -441,11 +470,7 @@ fn case_fits(m: &Message, law: &str) -> String {
         let limit = format!("l{} .0", " .1".repeat(parts.len()));
         parts.extend(field_fits(f, &at, &limit));
     }
-    let all = parts
-        .iter()
-        .rev()
-        .fold("tt".to_string(), |rest, part| format!("({part}, {rest})"));
-    format!("{law} {} g l = {all}\n", pattern(m))
+    format!("{law} {} g l = {}\n", pattern(m), tupled(&parts))
 }
 
 /// That the values of a record fit, whose machine value is one.
@@ -453,11 +478,11 @@ fn fitting(table: &Table) -> String {
     let mut text = "-- A record's numbers fit their fields where its machine value is well typed (`WT`), as that of what a program holds is (`Held.antt`).
 use mir.Val.{WT}
 use Rattle.framing.specs.ReadBack.{Readable}
-use Rattle.stretch.specs.Limits.{Limited}
+use Rattle.framing.specs.Limits.{Limited}
 "
     .to_string();
     for (direction, letter) in [(Direction::T, 'M'), (Direction::R, 'Q')] {
-        let (krate, d) = (direction.enums(), direction.letter());
+        let (krate, d) = (table.dialect.named(direction.enums()), direction.letter());
         text += &format!(
             "use Rattle.{krate}.specs.Views.{{layout{d}, values{d}}}
 use Rattle.{krate}.specs.declared.{d}message.{{{d}message}}
@@ -482,11 +507,12 @@ use Rattle.{krate}.proofs.{d}message.Laws.{{lowered as lowered{d}}}
 fn known_request(table: &Table) -> String {
     let rows = table.by_number(Direction::T);
     let numbers: Vec<String> = rows.iter().map(|m| m.number.to_string()).collect();
+    let tables = table.dialect.tables;
     format!(
         "// Whether a type is a request's: one of the {}.
 
 ghost use mathlib.Core.Path.{{_≡_}};
-ghost use Rattle.layouts.specs.Tables.{{tableT}};
+ghost use Rattle.layouts.specs.{tables}.{{tableT}};
 ghost use Rattle.pairs.specs.Pairs.{{knows}};
 
 pub(crate) fn known_request(ty: u8) -> bool
@@ -511,15 +537,17 @@ const KNOWN: [&str; 3] = [
 
 // ---- proofs
 
-fn read_proof(direction: Direction, krate: &str, rows: &[&Message]) -> String {
+fn read_proof(table: &Table, direction: Direction, rows: &[&Message]) -> String {
     let (d, small) = (direction.letter(), direction.small());
+    let krate = &table.dialect.named(direction.enums());
+    let tables = table.dialect.tables;
     let function = format!("read_{small}message");
     let mut text = format!(
         "-- Each arm is the row of its number; the rest is a number that has no row.
 use Prim.Native.Nat.{{ℕ}}
 use mathlib.Core.Path.{{_∙_}}
 use Rattle.fields.specs.FieldLaws.{{done}}
-use Rattle.layouts.specs.Tables.{{table{d}}}
+use Rattle.layouts.specs.{tables}.{{table{d}}}
 use Rattle.layouts.specs.BodyLaws.{{known-body, unknown-body}}
 use Rattle.{krate}.specs.Views.{{values{d}, view{d}}}
 {}",

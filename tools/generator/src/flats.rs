@@ -2,20 +2,19 @@
 
 use crate::names::{closed, closed_short, numbered, uses, Occurrences, NOTHING};
 use crate::records::{layouts, type_uses};
-use crate::table::{Direction, Field, Kind, Message, Table};
+use crate::table::{Dialect, Direction, Field, Kind, Message, Table};
 use crate::Files;
 
 pub fn write(table: &Table, files: &mut Files) {
+    let flat = table.dialect.named("flat");
     for family in table.families(|_| true) {
         files.put(
-            format!("crates/flat/src/{family}.rt"),
+            format!("crates/{flat}/src/{family}.rt"),
             family_source(table, &family),
         );
     }
-    for (direction, krate) in [
-        (Direction::T, "flat_requests"),
-        (Direction::R, "flat_replies"),
-    ] {
+    for direction in [Direction::T, Direction::R] {
+        let krate = &table.dialect.named(&format!("flat_{}", direction.enums()));
         let rows = table.by_number(direction);
         files.put(
             format!("crates/{krate}/src/lib.rt"),
@@ -23,9 +22,12 @@ pub fn write(table: &Table, files: &mut Files) {
         );
         for family in table.families(|_| true) {
             let held = held(table, direction, &family);
+            if held.is_empty() {
+                continue;
+            }
             files.put(
                 format!("crates/{krate}/src/{family}.rt"),
-                readers(direction, &family, &held),
+                readers(table, direction, &family, &held),
             );
             for m in held {
                 files.put(
@@ -39,24 +41,32 @@ pub fn write(table: &Table, files: &mut Files) {
         }
         files.put(
             format!("crates/{krate}/proofs/read_flat/Proof.antt"),
-            read_proof(direction, krate, &rows),
+            read_proof(table, direction, krate, &rows),
         );
         files.put(
             format!("crates/{krate}/proofs/write_flat/Proof.antt"),
-            write_proof(direction, krate, &rows),
+            write_proof(table, direction, krate, &rows),
         );
     }
 }
 
 /// The constants of the crate that a family's file names.
-fn constants(rows: &[&Message], directions: impl Iterator<Item = Direction>) -> String {
+fn constants(
+    dialect: &Dialect,
+    rows: &[&Message],
+    directions: impl Iterator<Item = Direction>,
+) -> String {
     let mut text = String::new();
+    let of = match dialect.prefix {
+        "" => "crate",
+        _ => "flat",
+    };
     for (bits, width) in [(8, 1), (16, 2), (32, 4)] {
         if rows
             .iter()
             .any(|m| m.fields.iter().any(|f| widths(f).contains(&width)))
         {
-            text += &format!("use crate::U{bits};\n");
+            text += &format!("use {of}::U{bits};\n");
         }
     }
     for direction in directions {
@@ -73,16 +83,19 @@ fn family_source(table: &Table, family: &str) -> String {
         .collect();
     let mut text = format!(
         "// {}\n\n",
-        table.heads[&("flat".to_string(), family.to_string())]
+        table.heads[&(table.dialect.named("flat"), family.to_string())]
     );
     let directions = [Direction::T, Direction::R]
         .into_iter()
         .filter(|d| rows.iter().any(|m| m.direction == *d));
-    text += &constants(&rows, directions);
+    text += &constants(&table.dialect, &rows, directions);
     let mut lines = type_uses(&rows);
     // A part holds a span.
-    if lines.contains("use fields::Part;") {
+    if lines.contains("use fields::Part;") || lines.contains("use stats::Stat;") {
         lines.insert("use strings::Span;".to_string());
+    }
+    if lines.contains("use stats::Stat;") {
+        lines.insert("use layouts::qids::Qid;".to_string());
     }
     lines.extend(
         rows.iter()
@@ -92,11 +105,8 @@ fn family_source(table: &Table, family: &str) -> String {
         text += &format!("{line}\n");
     }
     text += "ghost use mathlib.Core.Path.{_≡_};\n";
-    text += &format!(
-        "ghost use Rattle.layouts.specs.Tables.{{{}}};\n",
-        layouts(&rows)
-    );
-    for krate in ["common", "messages", "metadata"] {
+    text += &layouts(&rows, "ghost ", ";");
+    for krate in table.dialect.records() {
         let values: Vec<String> = rows
             .iter()
             .filter(|m| m.dialect == krate)
@@ -109,7 +119,10 @@ fn family_source(table: &Table, family: &str) -> String {
             );
         }
     }
-    text += "ghost use Rattle.flat.specs.Flat.{flatValues, stored, fieldValues};\n";
+    text += match table.dialect.prefix {
+        "" => "ghost use Rattle.flat.specs.Flat.{flatValues, stored, fieldValues};\n",
+        _ => "ghost use Rattle.flat.specs.Flat.{flatValues, stored, fieldValues};\n",
+    };
     for row in rows {
         text += &format!("\n{}\n{}", flattened(row), put_together(row));
     }
@@ -121,6 +134,7 @@ fn widths(f: &Field) -> Vec<u8> {
     match f.kind {
         Kind::Qid => vec![1, 4],
         Kind::Names | Kind::Qids => vec![2],
+        Kind::Stat => vec![1, 2, 4],
         kind => kind.width().filter(|w| *w < 8).into_iter().collect(),
     }
 }
@@ -130,6 +144,7 @@ fn count(f: &Field) -> usize {
     match f.kind {
         Kind::Str | Kind::Data => 2,
         Kind::Qid | Kind::Names | Kind::Qids => 3,
+        Kind::Stat => 17,
         _ => 1,
     }
 }
@@ -155,8 +170,25 @@ fn values(f: &Field) -> Vec<String> {
                 "elements.len as u64".into(),
             ]
         }
+        Kind::Stat => stat_values(name),
         _ => vec![format!("{name}.0 as u64")],
     }
+}
+
+const STRINGS: [&str; 4] = ["name", "uid", "gid", "muid"];
+
+/// A stat's values: what is a struct in it has been copied out of it.
+fn stat_values(stat: &str) -> Vec<String> {
+    let number = |name: &str| format!("{stat}.{name} as u64");
+    let mut all = vec![number("ty"), number("dev")];
+    all.extend(["qid.ty as u64", "qid.version as u64", "qid.path"].map(String::from));
+    all.extend(["mode", "atime", "mtime"].map(number));
+    all.push(format!("{stat}.length"));
+    for name in STRINGS {
+        all.push(format!("{name}.start as u64"));
+        all.push(format!("{name}.len as u64"));
+    }
+    all
 }
 
 fn flattened(m: &Message) -> String {
@@ -168,6 +200,11 @@ fn flattened(m: &Message) -> String {
         }
         if matches!(f.kind, Kind::Names | Kind::Qids) {
             text += &format!("    let elements = {}.elements;\n", f.name);
+        }
+        if f.kind == Kind::Stat {
+            for name in ["qid"].iter().chain(&STRINGS) {
+                text += &format!("    let {name} = {}.{name};\n", f.name);
+            }
         }
     }
     let all = m.fields.iter().flat_map(values);
@@ -216,6 +253,7 @@ fn put_together(m: &Message) -> String {
                     narrowed(i, 2)
                 );
             }
+            Kind::Stat => text += &put_stat(name, i),
             kind => {
                 text += &format!(
                     "    let {name} = {}({});\n",
@@ -230,6 +268,33 @@ fn put_together(m: &Message) -> String {
         i += count(f);
     }
     text + &format!("    {record} {{ {} }}\n}}\n", fields.join(", "))
+}
+
+/// A stat of the values from the i-th on.
+fn put_stat(name: &str, i: usize) -> String {
+    let mut text = format!(
+        "    let qid = Qid {{ ty: {}, version: {}, path: {} }};\n",
+        narrowed(i + 2, 1),
+        narrowed(i + 3, 4),
+        narrowed(i + 4, 8)
+    );
+    for (k, string) in STRINGS.iter().enumerate() {
+        let at = i + 9 + 2 * k;
+        text += &format!(
+            "    let {string} = Span {{ start: v[{at}] as usize, len: v[{}] as usize }};\n",
+            at + 1
+        );
+    }
+    text + &format!(
+        "    let {name} = Stat {{ ty: {}, dev: {}, qid, mode: {}, atime: {}, mtime: {}, length: {}, {} }};\n",
+        narrowed(i, 2),
+        narrowed(i + 1, 4),
+        narrowed(i + 5, 4),
+        narrowed(i + 6, 4),
+        narrowed(i + 7, 4),
+        narrowed(i + 8, 8),
+        STRINGS.join(", ")
+    )
 }
 
 // ---- a record read flat
@@ -250,7 +315,8 @@ fn fixed(m: &Message) -> Option<usize> {
     m.fields.iter().map(bytes).sum()
 }
 
-fn readers(direction: Direction, family: &str, rows: &[&Message]) -> String {
+fn readers(table: &Table, direction: Direction, family: &str, rows: &[&Message]) -> String {
+    let flat = table.dialect.named("flat");
     let many = match direction {
         Direction::T => "Requests",
         Direction::R => "Replies",
@@ -258,22 +324,21 @@ fn readers(direction: Direction, family: &str, rows: &[&Message]) -> String {
     let mut text = format!(
         "// {many} of {family}, each read flat at a place.
 
-use flat::{};
+use {flat}::{};
 use numbers::Place;
 ghost use mathlib.Core.Option.{{some}};
-ghost use Rattle.layouts.specs.Tables.{{{}}};
-ghost use Rattle.flat.specs.Flat.{{FlatRead}};
+{}ghost use Rattle.flat.specs.Flat.{{FlatRead}};
 ",
         direction.width(),
-        layouts(rows)
+        layouts(rows, "ghost ", ";")
     );
     for m in rows {
-        text += &reader(m);
+        text += &reader(m, &flat);
     }
     text
 }
 
-fn reader(m: &Message) -> String {
+fn reader(m: &Message, flat: &str) -> String {
     let (small, module, family) = (m.small(), m.module(), &m.family);
     let (read, next, fields) = match fixed(m) {
         // The one test stands before what is read, so that nothing that was read has to wait for the last field's.
@@ -298,7 +363,7 @@ pub(crate) fn read_{small}(s: &[u8], p: Place, values: &mut [u64; {}]) -> Place
         return next;
     }};
 {fields}    let m = r.value;
-    flat::{family}::flat_{small}(m, values);
+    {flat}::{family}::flat_{small}(m, values);
     next
 }}
 ",
@@ -352,13 +417,14 @@ returns-2 c =
 
 fn bodies(table: &Table, direction: Direction, rows: &[&Message]) -> String {
     bodies_head(table, direction, rows.len())
-        + &read_flat(direction, rows)
-        + &write_flat(direction, rows)
+        + &read_flat(table, direction, rows)
+        + &write_flat(table, direction, rows)
 }
 
 fn bodies_head(table: &Table, direction: Direction, count: usize) -> String {
     let (d, many, width) = (direction.letter(), direction.enums(), direction.width());
-    let mut families = table.families(|_| true);
+    let (flat, tables) = (table.dialect.named("flat"), table.dialect.tables);
+    let mut families = table.families(|m| m.direction == direction && !m.is_empty());
     families.sort();
     let families: String = families
         .iter()
@@ -368,21 +434,22 @@ fn bodies_head(table: &Table, direction: Direction, count: usize) -> String {
         "// The {count} {many}, read flat and written from flat values, by their type number.
 
 {families}
-use flat::{width};
+use {flat}::{width};
 use numbers::Place;
 use numbers::Refusal;
-ghost use Rattle.layouts.specs.Tables.{{lookup, table{d}}};
+ghost use Rattle.layouts.specs.Tables.{{lookup}};
+ghost use Rattle.layouts.specs.{tables}.{{table{d}}};
 ghost use Rattle.flat.specs.Flat.{{FlatRead, FlatWritten}};
 "
     )
 }
 
-fn read_flat(direction: Direction, rows: &[&Message]) -> String {
+fn read_flat(table: &Table, direction: Direction, rows: &[&Message]) -> String {
     let (d, small, width, enums) = (
         direction.letter(),
         direction.small(),
         direction.width(),
-        direction.enums(),
+        table.dialect.named(direction.enums()),
     );
     let arms: String = rows.iter().map(|m| read_arm(m)).collect();
     format!(
@@ -401,9 +468,10 @@ pub fn read_flat(s: &[u8], ty: u8, p: Place, values: &mut [u64; {width}]) -> Pla
     )
 }
 
-fn write_flat(direction: Direction, rows: &[&Message]) -> String {
+fn write_flat(table: &Table, direction: Direction, rows: &[&Message]) -> String {
     let (d, width) = (direction.letter(), direction.width());
-    let arms: String = rows.iter().map(|m| write_arm(m)).collect();
+    let flat = table.dialect.named("flat");
+    let arms: String = rows.iter().map(|m| write_arm(m, &flat)).collect();
     format!(
         "
 // A body written at a place from the values of its record, which lie flat: its fields' refusals in order, then 10, then 11; 3 where the
@@ -420,12 +488,12 @@ pub fn write_flat(out: &mut [u8], p: Place, lent: &[u8], ty: u8, values: &[u64; 
     )
 }
 
-fn write_arm(m: &Message) -> String {
+fn write_arm(m: &Message, flat: &str) -> String {
     let (n, small, module, family) = (m.number, m.small(), m.module(), &m.family);
     match m.is_empty() {
         true => format!("        {n} => laying::begun(p, p, out.len()),\n"),
         false => format!(
-            "        {n} => {module}::write_{small}(out, p, lent, flat::{family}::{small}_of(v)),\n"
+            "        {n} => {module}::write_{small}(out, p, lent, {flat}::{family}::{small}_of(v)),\n"
         ),
     }
 }
@@ -438,8 +506,8 @@ fn read_arm(m: &Message) -> String {
     }
 }
 
-fn read_proof(direction: Direction, krate: &str, rows: &[&Message]) -> String {
-    let d = direction.letter();
+fn read_proof(table: &Table, direction: Direction, krate: &str, rows: &[&Message]) -> String {
+    let (d, tables) = (direction.letter(), table.dialect.tables);
     let mut text =
         "-- Each arm is the row of its number, read flat; the rest is a number that has no row.\n"
             .to_string();
@@ -447,7 +515,7 @@ fn read_proof(direction: Direction, krate: &str, rows: &[&Message]) -> String {
         true => "flat-empty, ",
         false => "",
     };
-    text += &format!("use mathlib.Core.Path.{{refl}}\nuse Rattle.layouts.specs.Tables.{{table{d}}}\nuse Rattle.flat.specs.FlatLaws.{{{empty}flat-unknown}}\n");
+    text += &format!("use mathlib.Core.Path.{{refl}}\nuse Rattle.layouts.specs.{tables}.{{table{d}}}\nuse Rattle.flat.specs.FlatLaws.{{{empty}flat-unknown}}\n");
     text += &uses(krate, "read_flat");
     let mut asked = vec![];
     let mut answers = vec![];
@@ -470,14 +538,14 @@ fn read_proof(direction: Direction, krate: &str, rows: &[&Message]) -> String {
     text + &closed("read-flat", &asked)
 }
 
-fn write_proof(direction: Direction, krate: &str, rows: &[&Message]) -> String {
-    let d = direction.letter();
+fn write_proof(table: &Table, direction: Direction, krate: &str, rows: &[&Message]) -> String {
+    let (d, tables) = (direction.letter(), table.dialect.tables);
     let has_empty = rows.iter().any(|m| m.is_empty());
     let mut text = "-- Each arm is the row of its number, written by its record's writer; the rest is a number that has no row.\nuse borrow.Author.Needs.{needs}\nuse mathlib.Core.Path.{refl}\n".to_string();
     if has_empty {
         text += "use Rattle.laying.specs.WritingLaws.{written-nothing}\n";
     }
-    text += &format!("use Rattle.layouts.specs.Tables.{{table{d}}}\nuse Rattle.flat.specs.FlatLaws.{{written-known, written-unknown}}\n");
+    text += &format!("use Rattle.layouts.specs.{tables}.{{table{d}}}\nuse Rattle.flat.specs.FlatLaws.{{written-known, written-unknown}}\n");
     text += &uses(krate, "write_flat");
     let mut calls = Occurrences::default();
     let mut lengths = 0;

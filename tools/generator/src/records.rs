@@ -6,8 +6,8 @@ use crate::Files;
 use std::collections::BTreeSet;
 
 pub fn write(table: &Table, files: &mut Files) {
-    for krate in ["common", "messages", "metadata"] {
-        let families = table.families(|m| m.dialect == krate);
+    for krate in table.dialect.own {
+        let families = table.families(|m| m.dialect == *krate);
         for family in &families {
             let rows: Vec<&Message> = of(table, krate, family);
             files.put(
@@ -55,6 +55,7 @@ pub fn type_uses(rows: &[&Message]) -> BTreeSet<String> {
         ("use layouts::qids::Qid;", Kind::Qid),
         ("use strings::Span;", Kind::Str),
         ("use strings::Span;", Kind::Data),
+        ("use stats::Stat;", Kind::Stat),
     ];
     kinds
         .iter()
@@ -63,10 +64,20 @@ pub fn type_uses(rows: &[&Message]) -> BTreeSet<String> {
         .collect()
 }
 
-/// The names of the messages' layouts.
-pub fn layouts(rows: &[&Message]) -> String {
-    let names: Vec<String> = rows.iter().map(|m| m.layout()).collect();
-    names.join(", ")
+/// The `use` lines of the messages' layouts, by the modules that have them, each with these words before it and after it.
+pub fn layouts(rows: &[&Message], before: &str, after: &str) -> String {
+    let mut text = String::new();
+    for tables in ["Tables", "Plain"] {
+        let of = rows.iter().filter(|m| m.tables() == tables);
+        let names: Vec<String> = of.map(|m| m.layout()).collect();
+        if !names.is_empty() {
+            text += &format!(
+                "{before}use Rattle.layouts.specs.{tables}.{{{}}}{after}\n",
+                names.join(", ")
+            );
+        }
+    }
+    text
 }
 
 fn source(table: &Table, krate: &str, family: &str, rows: &[&Message]) -> String {
@@ -83,10 +94,7 @@ fn source(table: &Table, krate: &str, family: &str, rows: &[&Message]) -> String
     }
     text += "ghost use Rattle.fields.specs.Fields.{Fields};\n";
     text += "ghost use Rattle.laying.specs.Laying.{Written};\n";
-    text += &format!(
-        "ghost use Rattle.layouts.specs.Tables.{{{}}};\n",
-        layouts(rows)
-    );
+    text += &layouts(rows, "ghost ", ";");
     text += &format!(
         "ghost use Rattle.{krate}.specs.Records.{{{}}};\n",
         values.join(", ")
@@ -117,6 +125,7 @@ fn called(kind: Kind) -> String {
         Kind::Data => "data".to_string(),
         Kind::Names => "names".to_string(),
         Kind::Qids => "qids".to_string(),
+        Kind::Stat => "stat".to_string(),
         _ => format!("u{}", kind.width().unwrap_or(0) * 8),
     }
 }
@@ -127,6 +136,7 @@ fn readers(kind: Kind) -> &'static str {
         Kind::Qid => "qids",
         Kind::Str => "strings",
         Kind::Data | Kind::Names | Kind::Qids => "fields",
+        Kind::Stat => "stats",
         _ => "numbers",
     }
 }
@@ -182,6 +192,8 @@ enum Step<'a> {
     /// The count of a field, and its bytes.
     Count(&'a Field),
     Bytes(&'a Field),
+    /// A stat, count and all.
+    Stat(&'a Field),
 }
 
 /// The widths of the numbers of which a field consists.
@@ -190,6 +202,11 @@ fn widths(kind: Kind) -> Option<Vec<u8>> {
         Kind::Qid => Some(vec![1, 4, 8]),
         _ => kind.width().map(|width| vec![width]),
     }
+}
+
+/// A field of a count and bytes.
+fn is_counted(kind: Kind) -> bool {
+    widths(kind).is_none() && kind != Kind::Stat
 }
 
 fn is_part(kind: Kind) -> bool {
@@ -222,6 +239,7 @@ fn steps(m: &Message) -> Vec<Step<'_>> {
                     Step::Copy(name.clone()),
                     Step::Put(width, format!("{name}.0")),
                 ]),
+                None if kind == Kind::Stat => all.push(Step::Stat(f)),
                 None => {
                     all.push(Step::Count(f));
                     if is_part(kind) {
@@ -245,6 +263,7 @@ fn call_of(step: &Step) -> String {
         Step::Count(f) if is_part(f.kind) => "put_u16".to_string(),
         Step::Count(_) => "put_num".to_string(),
         Step::Bytes(_) => "put_bytes".to_string(),
+        Step::Stat(_) => "put_stat".to_string(),
         Step::Copy(_) => String::new(),
     }
 }
@@ -298,7 +317,11 @@ fn written_call(step: &Step, at: &str) -> String {
             let sum: usize = run.iter().map(|w| usize::from(*w)).sum();
             format!("laying::{call}({at}, {sum})")
         }
+        Step::Measure(f) if f.kind == Kind::Stat => {
+            format!("stats::{call}(lent, {}, {at})", f.name)
+        }
         Step::Measure(f) => format!("laying::{call}(lent, {}, {at})", f.name),
+        Step::Stat(f) => format!("stats::{call}(out, {at}, lent, {})", f.name),
         Step::Put(_, value) => format!("numbers::{call}(out, {at}, {value})"),
         Step::Count(f) if is_part(f.kind) => {
             format!("numbers::{call}(out, {at}, {}.count)", f.name)
@@ -323,6 +346,7 @@ fn value(f: &Field) -> String {
         }
         Kind::Str | Kind::Data => format!("spanOf (m .{name})"),
         Kind::Names | Kind::Qids => format!("partOf (m .{name})"),
+        Kind::Stat => format!("statOf (m .{name})"),
         _ => format!("val (m .{name} .0)"),
     }
 }
@@ -344,6 +368,9 @@ fn definitions(table: &Table, krate: &str, families: &[String]) -> String {
         "use Rattle.layouts.specs.Records.{{{}}}\n",
         shown.join(", ")
     );
+    if any(&all, |k| k == Kind::Stat) {
+        text += "use Rattle.stats.specs.Stats.{statOf}\n";
+    }
     for m in &all {
         let record = m.record();
         text += &format!(
@@ -484,7 +511,10 @@ fn call_places(all: &[Step]) -> (String, Vec<String>) {
     let (mut text, mut at, mut back) = (String::new(), "c".to_string(), 0);
     let mut named = vec![];
     for (i, step) in all.iter().enumerate().rev() {
-        let puts = matches!(step, Step::Put(..) | Step::Count(_) | Step::Bytes(_));
+        let puts = matches!(
+            step,
+            Step::Put(..) | Step::Count(_) | Step::Bytes(_) | Step::Stat(_)
+        );
         if let Step::Copy(_) = step {
             back += 1;
             continue;
@@ -524,6 +554,7 @@ fn written_by(all: &[Step], facts: &[String]) -> (String, String, Vec<String>) {
             Step::Begun => begun = next(),
             Step::Put(..) => put.push(format!("put-number {}", next())),
             Step::Count(_) => count = next(),
+            Step::Stat(_) => put.push(format!("put-box {}", next())),
             Step::Bytes(f) => put.push(format!(
                 "put-counted {} tt {count} {}",
                 kind_of(f.kind),
@@ -588,19 +619,22 @@ fn write_uses(m: &Message, all: &[Step], many: bool) -> String {
         true => "use Rattle.numbers.specs.Numbers.{bytes-all, toLE}\n",
         false => "use Rattle.numbers.specs.Numbers.{bytes-all}\n",
     };
-    let others = m.fields.iter().filter(|f| widths(f.kind).is_none());
+    let others = m.fields.iter().filter(|f| is_counted(f.kind));
     let kinds: BTreeSet<&str> = others.map(|f| kind_of(f.kind)).collect();
     if !kinds.is_empty() {
         let kinds: Vec<&str> = kinds.into_iter().collect();
         text += &format!("use Rattle.fields.specs.Layouts.{{{}}}\n", kinds.join(", "));
     }
     if many {
-        text += &format!("use Rattle.numbers.specs.Places.{{Put}}\nuse Rattle.numbers.specs.declared.Place.{{Place}}\nuse Rattle.fields.specs.Values.{{val}}\nuse Rattle.laying.specs.Laying.{{PutAll}}\nuse Rattle.layouts.specs.Tables.{{{}}}\n", m.layout());
+        text += &format!("use Rattle.numbers.specs.Places.{{Put}}\nuse Rattle.numbers.specs.declared.Place.{{Place}}\nuse Rattle.fields.specs.Values.{{val}}\nuse Rattle.laying.specs.Laying.{{PutAll}}\nuse Rattle.layouts.specs.{}.{{{}}}\n", m.tables(), m.layout());
     }
     text += &format!(
         "use Rattle.laying.specs.LayingLaws.{{{}}}\nuse Rattle.laying.specs.WritingLaws.{{written, written-length}}\n",
         written_laws(m)
     );
+    if m.fields.iter().any(|f| f.kind == Kind::Stat) {
+        text += "use Rattle.laying.specs.BoxLaws.{put-box}\n";
+    }
     text + &uses(&m.dialect, &path(m, "write"))
 }
 
@@ -612,7 +646,7 @@ fn written_laws(m: &Message) -> String {
             ("measure", |k| widths(k).is_none()),
             ("measured-none", |_| true),
             ("put-number", |k| widths(k).is_some()),
-            ("put-counted", |k| widths(k).is_none()),
+            ("put-counted", is_counted),
             ("put-done", |_| true),
         ],
     )

@@ -13,10 +13,11 @@ enum Rows {
     Sellers,
 }
 
-pub fn write(table: &Table, files: &mut Files) {
-    for (rows, file) in [
-        (Rows::Ours, "rust/src/rows.rs"),
-        (Rows::Sellers, "rust/examples/swap/protocol/rows.rs"),
+pub fn write(l: &Table, plain: &Table, files: &mut Files) {
+    for (rows, table, file) in [
+        (Rows::Ours, l, "rust/src/rows.rs"),
+        (Rows::Ours, plain, "rust/src/plain/rows.rs"),
+        (Rows::Sellers, l, "rust/examples/swap/protocol/rows.rs"),
     ] {
         files.put(file.to_string(), rows.all(table));
     }
@@ -25,6 +26,16 @@ pub fn write(table: &Table, files: &mut Files) {
 impl Rows {
     fn all(self, table: &Table) -> String {
         let mut text = "// Which record each type has, and which have none.\n".to_string();
+        if self == Rows::Ours {
+            let own = |m: &&Message| table.dialect.own.contains(&m.dialect.as_str());
+            for direction in [Direction::T, Direction::R] {
+                let rows = table.by_number(direction);
+                let records = rows.into_iter().filter(own).filter(|m| !m.is_empty());
+                text += "\nrecords! {\n";
+                text += &records.map(|m| self.record(m)).collect::<String>();
+                text += "}\n";
+            }
+        }
         for (direction, doc) in [(Direction::T, "A request."), (Direction::R, "A reply.")] {
             text += &format!(
                 "\nmessage! {{\n    /// {doc}\n    {}message\n",
@@ -32,7 +43,10 @@ impl Rows {
             );
             let messages = table.by_number(direction);
             let (empty, full): (Vec<_>, Vec<_>) = messages.into_iter().partition(|m| m.is_empty());
-            text += &full.iter().map(|m| self.row(m)).collect::<String>();
+            text += &match self {
+                Rows::Ours => full.iter().map(|m| case(m)).collect::<String>(),
+                Rows::Sellers => full.iter().map(|m| self.row(m)).collect(),
+            };
             text += "    empty:\n";
             text += &empty
                 .iter()
@@ -49,6 +63,7 @@ impl Rows {
             (Rows::Ours, Kind::Data) => "Data<'a>",
             (Rows::Ours, Kind::Names) => "Names<'a>",
             (Rows::Ours, Kind::Qids) => "Qids<'a>",
+            (_, Kind::Stat) => "Stat<'a>",
             (Rows::Sellers, Kind::Fid | Kind::Gid) => "u32",
             (Rows::Sellers, Kind::Tag) => "u16",
             (Rows::Sellers, Kind::Str) => "P9String",
@@ -59,13 +74,19 @@ impl Rows {
         }
     }
 
+    /// A row of the seller's: the number, the case, and the record as it stands there.
     fn row(self, m: &Message) -> String {
-        let borrows = |f: &Field| Rows::Ours.ty(f.kind).contains("'a");
-        let lifetime = if m.fields.iter().any(borrows) {
-            "<'a>"
-        } else {
-            ""
-        };
+        let head = format!("    {} {}: {}{} {{", m.number, m.case, m.record(), lifetime(m));
+        self.held(m, head)
+    }
+
+    /// A record of ours by itself.
+    fn record(self, m: &Message) -> String {
+        self.held(m, format!("    {}{} {{", m.record(), lifetime(m)))
+    }
+
+    /// The fields of a record, after its head.
+    fn held(self, m: &Message, head: String) -> String {
         // `gen` is a word of Rattle's, and none of Rust's before its edition of 2024.
         let name = |name: &str| {
             if name == "gen_" {
@@ -79,7 +100,6 @@ impl Rows {
             .iter()
             .map(|f| format!("{}: {},", name(&f.name), self.ty(f.kind)))
             .collect();
-        let head = format!("    {} {}: {}{lifetime} {{", m.number, m.case, m.record());
         let line = format!("{head} {} }}\n", fields.join(" "));
         if line.trim_end().len() <= WIDTH {
             return line;
@@ -96,4 +116,18 @@ impl Rows {
         }
         text + "\n    }\n"
     }
+}
+
+/// The lifetime of a record that borrows.
+fn lifetime(m: &Message) -> &'static str {
+    let borrows = |f: &Field| Rows::Ours.ty(f.kind).contains("'a");
+    match m.fields.iter().any(borrows) {
+        true => "<'a>",
+        false => "",
+    }
+}
+
+/// A case of ours, which holds a record that is declared apart.
+fn case(m: &Message) -> String {
+    format!("    {} {}: {}{}\n", m.number, m.case, m.record(), lifetime(m))
 }

@@ -1,4 +1,4 @@
-//! The table of messages, read from messages.txt.
+//! The tables of messages, one for each dialect: messages.txt for 9P2000.L, plain.txt for 9P2000.
 
 use std::collections::BTreeMap;
 
@@ -14,8 +14,47 @@ pub enum Kind {
     Data,
     Names,
     Qids,
+    Stat,
 }
 
+/// Which crates a dialect has, and where the definitions have its tables.
+pub struct Dialect {
+    /// What the names of its crates begin with, but for those of its records.
+    pub prefix: &'static str,
+    /// The crates of its own records, and those whose records it has beside them.
+    pub own: &'static [&'static str],
+    pub shared: &'static [&'static str],
+    /// The module of crates/layouts/specs that has its tables.
+    pub tables: &'static str,
+}
+
+pub const L: Dialect = Dialect {
+    prefix: "",
+    own: &["common", "messages", "metadata"],
+    shared: &[],
+    tables: "Tables",
+};
+
+pub const PLAIN: Dialect = Dialect {
+    prefix: "plain_",
+    own: &["plain"],
+    shared: &["common"],
+    tables: "Plain",
+};
+
+impl Dialect {
+    /// One of its crates, as `plain_requests`.
+    pub fn named(&self, krate: &str) -> String {
+        format!("{}{krate}", self.prefix)
+    }
+
+    /// The crates that have its records.
+    pub fn records(&self) -> impl Iterator<Item = &'static str> {
+        self.shared.iter().chain(self.own).copied()
+    }
+}
+
+#[derive(Clone)]
 pub struct Field {
     pub name: String,
     pub kind: Kind,
@@ -27,6 +66,7 @@ pub enum Direction {
     R,
 }
 
+#[derive(Clone)]
 pub struct Message {
     pub dialect: String,
     pub family: String,
@@ -37,6 +77,7 @@ pub struct Message {
 }
 
 pub struct Table {
+    pub dialect: Dialect,
     pub messages: Vec<Message>,
     /// The first line of a family's file, by crate and family.
     pub heads: BTreeMap<(String, String), String>,
@@ -59,6 +100,7 @@ impl Kind {
             "d" => Kind::Data,
             "names" => Kind::Names,
             "qids" => Kind::Qids,
+            "stat" => Kind::Stat,
             _ => return None,
         })
     }
@@ -76,6 +118,7 @@ impl Kind {
             Kind::Qid => "Qid",
             Kind::Str | Kind::Data => "Span",
             Kind::Names | Kind::Qids => "Part",
+            Kind::Stat => "Stat",
         }
     }
 
@@ -132,6 +175,14 @@ impl Message {
         self.record().to_lowercase()
     }
 
+    /// The module of crates/layouts/specs that has its layout.
+    pub fn tables(&self) -> &'static str {
+        match PLAIN.own.contains(&self.dialect.as_str()) {
+            true => PLAIN.tables,
+            false => L.tables,
+        }
+    }
+
     /// The layout's name in the definitions, as `layoutTversion`.
     pub fn layout(&self) -> String {
         format!("layout{}", self.record())
@@ -148,17 +199,24 @@ impl Message {
 }
 
 impl Table {
-    pub fn parsed(text: &str) -> Result<Self, String> {
+    /// A dialect's table, with the messages that it shares with another.
+    pub fn parsed(dialect: Dialect, text: &str, other: Option<&Table>) -> Result<Self, String> {
         let mut table = Table {
+            dialect,
             messages: vec![],
             heads: BTreeMap::new(),
             order: vec![],
         };
         for (at, line) in text.lines().enumerate() {
             table.take(line).ok_or(format!(
-                "messages.txt, line {}: not a row of the table",
+                "line {}: not a row of the table",
                 at + 1
             ))?;
+        }
+        if let Some(other) = other {
+            let shared = |m: &&Message| table.dialect.shared.contains(&m.dialect.as_str());
+            let rows: Vec<Message> = other.messages.iter().filter(shared).cloned().collect();
+            table.messages.splice(0..0, rows);
         }
         Ok(table)
     }

@@ -4,7 +4,8 @@ use native.Mathlib.Omega.{arith}
 use mathlib.Core.Path.{sym}
 use lib.Seq.{length-take-le}
 use Rattle.numbers.specs.Numbers.{bytes-all}
-use Rattle.frames.specs.FrameLaws.{own-held, rframe-no, rframe-yes, rframe-bad}
+use Rattle.framing.specs.Standing.{own-held}
+use Rattle.frames.specs.FrameLaws.{rframe-no, rframe-yes, rframe-bad}
 use Rattle.frames.proofs.read_rframe_at.Statement.{statement}
 use Rattle.frames.proofs.read_rframe_at.Tie as tie
 

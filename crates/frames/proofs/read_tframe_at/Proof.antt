@@ -4,7 +4,8 @@ use native.Mathlib.Omega.{arith}
 use mathlib.Core.Path.{sym}
 use lib.Seq.{length-take-le}
 use Rattle.numbers.specs.Numbers.{bytes-all}
-use Rattle.frames.specs.FrameLaws.{own-held, tframe-no, tframe-yes}
+use Rattle.framing.specs.Standing.{own-held}
+use Rattle.frames.specs.FrameLaws.{tframe-no, tframe-yes}
 use Rattle.frames.proofs.read_tframe_at.Statement.{statement}
 use Rattle.frames.proofs.read_tframe_at.Tie as tie
 

@@ -1,6 +1,6 @@
 -- The refusal that a header holds.
 use borrow.Author.Needs.{needs}
-use Rattle.frames.specs.FrameLaws.{why-not, why-so}
+use Rattle.framing.specs.Standing.{why-not, why-so}
 use Rattle.frames.proofs.why.Statement.{statement}
 use Rattle.frames.proofs.why.Tie as tie
 

@@ -5,6 +5,7 @@ use lib.Seq.{length-take-le}
 use Rattle.numbers.specs.Numbers.{bytes-all}
 use Rattle.framing.specs.HeaderLaws.{head-yes}
 use Rattle.exports.specs.Answers.{ended}
+use Rattle.layouts.specs.Tables.{tableR}
 use Rattle.exports.specs.FrameReading.{flatReplies, headless-read, frame-read, body-failed}
 use Rattle.reply_exports.proofs.sheafsledge_read_rframe.Statement.{statement}
 use Rattle.reply_exports.proofs.sheafsledge_read_rframe.Tie as tie
@@ -33,7 +34,7 @@ returns c =
     let d = f .before .before .before .before in
     let e = d .before .before in
     let b = bytes-all (e .before .before .args .bytes .now) (λ i. e .before .shared-slice-known .given i .fits) in
-    body-failed flatReplies _ (e .read-header .ensures) b (d .head .given .1) (f .read-flat .ensures) (q .enum-told2 .given .1) (c .ended .ensures ∙ ap ended (q .enum-told2 .given .1))
+    body-failed (flatReplies tableR) _ (e .read-header .ensures) b (d .head .given .1) (f .read-flat .ensures) (q .enum-told2 .given .1) (c .ended .ensures ∙ ap ended (q .enum-told2 .given .1))
 
 returns-2 : tie.Need-returns-2
 returns-2 c =
@@ -42,12 +43,12 @@ returns-2 c =
     let d = f .before .before .before .before in
     let e = d .before .before in
     let b = bytes-all (e .before .before .args .bytes .now) (λ i. e .before .shared-slice-known .given i .fits) in
-    frame-read flatReplies _ (e .read-header .ensures) b (d .head .given .1) (f .read-flat .ensures) (q .enum-told .given .1) (c .outcome-of .ensures)
+    frame-read (flatReplies tableR) _ (e .read-header .ensures) b (d .head .given .1) (f .read-flat .ensures) (q .enum-told .given .1) (c .outcome-of .ensures)
 
 returns-3 : tie.Need-returns-3
 returns-3 c =
     let d = c .before .before in
-    headless-read flatReplies _ (d .before .before .read-header .ensures) (d .head2 .given .1) (c .ended2 .ensures) refl
+    headless-read (flatReplies tableR) _ (d .before .before .read-header .ensures) (d .head2 .given .1) (c .ended2 .ensures) refl
 
 pub sheafsledge-read-rframe-spec : {M : Type 1} → statement M
 sheafsledge-read-rframe-spec =

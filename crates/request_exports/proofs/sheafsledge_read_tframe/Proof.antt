@@ -4,6 +4,7 @@ use mathlib.Core.Path.{refl, sym}
 use lib.Seq.{length-take-le}
 use Rattle.numbers.specs.Numbers.{bytes-all}
 use Rattle.framing.specs.HeaderLaws.{head-yes}
+use Rattle.layouts.specs.Tables.{tableT}
 use Rattle.exports.specs.FrameReading.{flatRequests, headless-read, request-read}
 use Rattle.request_exports.proofs.sheafsledge_read_tframe.Statement.{statement}
 use Rattle.request_exports.proofs.sheafsledge_read_tframe.Tie as tie
@@ -25,12 +26,12 @@ returns c =
     let d = f .before .before .before .before in
     let e = d .before .before in
     let b = bytes-all (e .before .before .args .bytes .now) (λ i. e .before .shared-slice-known .given i .fits) in
-    request-read _ (e .read-header .ensures) b (d .head .given .1) (f .read-flat .ensures) (c .outcome-of .ensures)
+    request-read tableT _ (e .read-header .ensures) b (d .head .given .1) (f .read-flat .ensures) (c .outcome-of .ensures)
 
 returns-2 : tie.Need-returns-2
 returns-2 c =
     let d = c .before .before in
-    headless-read flatRequests _ (d .before .before .read-header .ensures) (d .head2 .given .1) (c .ended .ensures) refl
+    headless-read (flatRequests tableT) _ (d .before .before .read-header .ensures) (d .head2 .given .1) (c .ended .ensures) refl
 
 pub sheafsledge-read-tframe-spec : {M : Type 1} → statement M
 sheafsledge-read-tframe-spec =

@@ -1,0 +1,8 @@
+pub mod Views
+pub mod StepLaws
+pub mod One
+pub mod Known
+pub mod Held
+pub mod Fitting
+pub mod Functions
+pub mod Examples

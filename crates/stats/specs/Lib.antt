@@ -1,0 +1,3 @@
+pub mod Stats
+pub mod Following
+pub mod StatLaws

@@ -1,0 +1,64 @@
+-- What a stat's record holds of it (F14.2), and what its functions answer.
+use Prim.Native.Nat.{ℕ}
+use mathlib.Core.Path.{_≡_, ap}
+use mathlib.Core.List.{List, [], _∷_, map}
+use lib.ListN.{length, getD}
+use Rattle.numbers.specs.Places.{readAt, restAt}
+use Rattle.numbers.specs.declared.Place.{Place}
+use Rattle.strings.specs.declared.Span.{Span}
+use Rattle.fields.specs.Layouts.{Shape, follow}
+use Rattle.fields.specs.Values.{Slot, slot, text, slotNum, slotStart, slotLen, Value, block}
+use Rattle.fields.specs.Fields.{noSlot}
+use Rattle.laying.specs.Laying.{cellsSize}
+use Rattle.layouts.specs.Plain.{statShape}
+use Rattle.stats.specs.declared.Stat.{Stat}
+
+abbrev textOf : Span → Slot
+textOf v = text (v .start) (v .len)
+
+-- its fields in order; neither its count nor its size
+abbrev pub slots : Stat → List Slot
+slots v =
+    slot (v .ty) ∷ slot (v .dev) ∷ slot (v .qid .ty) ∷ slot (v .qid .version) ∷ slot (v .qid .path) ∷ slot (v .mode) ∷ slot (v .atime) ∷ slot (v .mtime) ∷ slot (v .length)
+    ∷ textOf (v .name) ∷ textOf (v .uid) ∷ textOf (v .gid) ∷ textOf (v .muid) ∷ []
+
+abbrev pub statOf : Stat → Value
+statOf v = block (slots v)
+
+-- a stat made of its fields again
+abbrev nth : ℕ → List Slot → Slot
+nth i l = getD l i (slot 0)
+
+abbrev spanIn : Slot → Span
+spanIn v = record { start = slotStart v; len = slotLen v }
+
+abbrev pub madeStat : List Slot → Stat
+madeStat l = record {
+  ty = slotNum (nth 0 l);
+  dev = slotNum (nth 1 l);
+  qid = record { ty = slotNum (nth 2 l); version = slotNum (nth 3 l); path = slotNum (nth 4 l) };
+  mode = slotNum (nth 5 l);
+  atime = slotNum (nth 6 l);
+  mtime = slotNum (nth 7 l);
+  length = slotNum (nth 8 l);
+  name = spanIn (nth 9 l);
+  uid = spanIn (nth 10 l);
+  gid = spanIn (nth 11 l);
+  muid = spanIn (nth 12 l);
+}
+
+-- so its fields determine it
+pub one-stat : (v v' : Stat) → slots v ≡ slots v' → v ≡ v'
+one-stat v v' e = ap madeStat e
+
+-- the place after the fields of a box at p of s, their text not looked at
+pub record Followed (fs : List Shape) (s : List ℕ) (p q : Place) : Type 0 where
+  pub is : q ≡ restAt (length s) (readAt (follow fs) s p)
+
+-- a stat that was refused, and the place that says why
+pub record Blank (v : Stat) (q k : Place) : Type 0 where
+  pub value : slots v ≡ map noSlot statShape
+  pub next : q ≡ k
+
+pub record Sized (v : Stat) (n : ℕ) : Type 0 where
+  pub is : n ≡ cellsSize statShape (slots v)
