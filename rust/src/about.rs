@@ -1,7 +1,18 @@
 //! What the documentation says of each message and each field, by name.
 
-/// A sentence for a record or a field. One that has none does not compile.
+/// A sentence for a record, or for a field of one. What has none does not compile.
 macro_rules! about {
+    // Fields that mean something of their own in a record.
+    (Topen mode) => { "What to open it for: 0 to read, 1 to write, 2 for both, 3 to run it; and 16 to empty it, 64 to remove it once it is closed." };
+    (Tcreate mode) => { about!(Topen mode) };
+    (Stat ty) => { "The kind of device, for the kernel's own use." };
+    (Stat dev) => { "The device, for the kernel's own use." };
+    (Stat mode) => { "Permissions, and the kind of file in the highest bits." };
+    (Stat length) => { "The file's length in bytes; 0 for a directory." };
+    (Stat uid) => { "The owner's name." };
+    (Stat gid) => { "The group's name." };
+    // All others.
+    ($record:ident $field:ident) => { about!($field) };
     (Tstatfs) => { "Asks for the state of the file system that a file is on." };
     (Rstatfs) => { "The state of a file system, as statfs(2) has it." };
     (Tlopen) => { "Opens a file." };
@@ -49,6 +60,16 @@ macro_rules! about {
     (Tclunk) => { "Gives a fid up." };
     (Tremove) => { "Removes a file, and gives its fid up in either case." };
     (Rlerror) => { "The request has failed." };
+    // Those of 9P2000 alone.
+    (Rerror) => { "The request has failed." };
+    (Topen) => { "Opens a file." };
+    (Ropen) => { "The file is open." };
+    (Tcreate) => { "Makes a file in the fid's directory and opens it; the fid is that file's from then on." };
+    (Rcreate) => { "The file is made and open." };
+    (Tstat) => { "Asks what there is to know of a file." };
+    (Rstat) => { "What there is to know of a file." };
+    (Twstat) => { "Changes what there is to know of a file." };
+    (Stat) => { "What there is to know of a file. On the wire a count and a size stand before it; both are counted when it is written, and no record holds them." };
     // Replies without a record.
     (Rename) => { "It is moved." };
     (SetAttr) => { "The attributes are set." };
@@ -60,6 +81,7 @@ macro_rules! about {
     (Flush) => { "The request is taken back, or was answered before." };
     (Clunk) => { "The fid is given up." };
     (Remove) => { "The file is removed." };
+    (Wstat) => { "It is changed." };
     // Fields.
     (fid) => { "The file that is meant." };
     (afid) => { "The fid for authentication; [`Fid::NONE`](crate::Fid::NONE) where there is none." };
@@ -94,6 +116,12 @@ macro_rules! about {
     (count) => { "How many bytes." };
     (data) => { "The bytes." };
     (ecode) => { "Linux's number for the error." };
+    (ename) => { "What has failed, in words." };
+    (perm) => { "The permissions of the new file, and its kind in the highest bits." };
+    (stat) => { "What there is to know of the file." };
+    (muid) => { "Who last wrote to it, by name." };
+    (atime) => { "When it was last read, in seconds since 1970." };
+    (mtime) => { "When it was last written, in seconds since 1970." };
     (datasync) => { "Other than 0 where the attributes may wait." };
     (request_mask) => { "Which attributes are asked for, a bit each." };
     (valid) => { "Which of the fields are meant, a bit each." };

@@ -47,7 +47,7 @@ impl<'a> Dirent<'a> {
     /// output is as it was: 11 where it ends before the entry does.
     pub fn encode(&self, out: &mut [u8], at: usize) -> Result<usize, Refusal> {
         let mut values = [0; ENTRY_VALUES];
-        let [name, _] = fill(&mut values, self);
+        let [name] = fill(&mut values, self);
         ffi::write_dirent(out, at, name, &values)
     }
 
@@ -72,7 +72,7 @@ impl<'a> Field<'a> for Dirent<'a> {
     }
 
     #[inline(always)]
-    fn put<const N: usize>(&self, put: &mut Filling<'_, 'a, N>) {
+    fn put<const N: usize, const S: usize>(&self, put: &mut Filling<'_, 'a, N, S>) {
         self.qid.put(put);
         self.offset.put(put);
         self.ty.put(put);
@@ -223,7 +223,7 @@ impl Gathered {
             if name.len() > SHORT {
                 return (len, Some(entry));
             }
-            fill(row, &entry);
+            let [_] = fill(row, &entry);
             row[NAME_START] = (SHORT * len) as u64;
             put_short(place, name);
             len += 1;
@@ -280,7 +280,7 @@ impl Block<'_> {
     #[inline(never)]
     fn pack_alone(&mut self, entry: &Dirent) -> Result<bool, Refusal> {
         let mut rows = [[0; ENTRY_VALUES]];
-        let [name, _] = fill(&mut rows[0], entry);
+        let [name] = fill(&mut rows[0], entry);
         self.pack(name, &rows)
     }
 }

@@ -64,29 +64,35 @@ pub fn text(bytes: &[u8], start: usize, len: usize) -> &str {
     unsafe { core::str::from_utf8_unchecked(shown) }
 }
 
-/// A record that is being laid out: its values, and the bytes that their spans point into, at most two
-/// slices which count as standing one after the other.
-pub struct Filling<'p, 'a, const N: usize> {
+/// A record that is being laid out: its values, and the bytes that their spans point into, at most so
+/// many slices which count as standing one after the other.
+pub struct Filling<'p, 'a, const N: usize, const S: usize> {
     put: &'p mut [u64; N],
-    lent: [&'a [u8]; 2],
+    lent: [&'a [u8]; S],
     values: usize,
     slices: usize,
+    /// How many bytes the slices have.
+    bytes: usize,
 }
 
 /// Lays a record's values out, and answers the slices.
 #[inline(always)]
-pub fn fill<'a, const N: usize>(put: &mut [u64; N], record: &impl Field<'a>) -> [&'a [u8]; 2] {
+pub fn fill<'a, const N: usize, const S: usize>(
+    put: &mut [u64; N],
+    record: &impl Field<'a>,
+) -> [&'a [u8]; S] {
     let mut filling = Filling {
         put,
-        lent: [&[]; 2],
+        lent: [&[]; S],
         values: 0,
         slices: 0,
+        bytes: 0,
     };
     record.put(&mut filling);
     filling.lent
 }
 
-impl<'a, const N: usize> Filling<'_, 'a, N> {
+impl<'a, const N: usize, const S: usize> Filling<'_, 'a, N, S> {
     #[inline(always)]
     fn value(&mut self, value: u64) {
         self.put[self.values] = value;
@@ -95,17 +101,18 @@ impl<'a, const N: usize> Filling<'_, 'a, N> {
 
     #[inline(always)]
     fn span(&mut self, bytes: &'a [u8]) {
-        // The other slice stands before it, if there is one.
-        self.value(self.lent[0].len() as u64);
+        // The others stand before it, if there are any.
+        self.value(self.bytes as u64);
         self.value(bytes.len() as u64);
         self.lent[self.slices] = bytes;
         self.slices += 1;
+        self.bytes += bytes.len();
     }
 }
 
 pub trait Field<'a>: Sized {
     fn take(taken: &mut Taken<'a, '_>) -> Self;
-    fn put<const N: usize>(&self, put: &mut Filling<'_, 'a, N>);
+    fn put<const N: usize, const S: usize>(&self, put: &mut Filling<'_, 'a, N, S>);
     /// How many bytes it is on the wire.
     fn size(&self) -> usize;
 }
@@ -119,7 +126,7 @@ macro_rules! numbers {
             }
 
             #[inline(always)]
-            fn put<const N: usize>(&self, put: &mut Filling<'_, 'a, N>) {
+            fn put<const N: usize, const S: usize>(&self, put: &mut Filling<'_, 'a, N, S>) {
                 put.value(u64::from(*self));
             }
 
@@ -141,7 +148,7 @@ macro_rules! ids {
             }
 
             #[inline(always)]
-            fn put<const N: usize>(&self, put: &mut Filling<'_, 'a, N>) {
+            fn put<const N: usize, const S: usize>(&self, put: &mut Filling<'_, 'a, N, S>) {
                 self.0.put(put);
             }
 
@@ -160,7 +167,7 @@ impl<'a> Field<'a> for () {
     fn take(_: &mut Taken<'a, '_>) -> Self {}
 
     #[inline(always)]
-    fn put<const N: usize>(&self, _: &mut Filling<'_, 'a, N>) {}
+    fn put<const N: usize, const S: usize>(&self, _: &mut Filling<'_, 'a, N, S>) {}
 
     fn size(&self) -> usize {
         0
@@ -175,7 +182,7 @@ impl<'a> Field<'a> for Text<'a> {
     }
 
     #[inline(always)]
-    fn put<const N: usize>(&self, put: &mut Filling<'_, 'a, N>) {
+    fn put<const N: usize, const S: usize>(&self, put: &mut Filling<'_, 'a, N, S>) {
         put.span(self.as_str().as_bytes());
     }
 
@@ -191,7 +198,7 @@ impl<'a> Field<'a> for Data<'a> {
     }
 
     #[inline(always)]
-    fn put<const N: usize>(&self, put: &mut Filling<'_, 'a, N>) {
+    fn put<const N: usize, const S: usize>(&self, put: &mut Filling<'_, 'a, N, S>) {
         put.span(self.0);
     }
 
@@ -211,7 +218,7 @@ macro_rules! elements {
             }
 
             #[inline(always)]
-            fn put<const N: usize>(&self, put: &mut Filling<'_, 'a, N>) {
+            fn put<const N: usize, const S: usize>(&self, put: &mut Filling<'_, 'a, N, S>) {
                 let (count, part) = self.part();
                 put.value(u64::from(count));
                 put.span(part);
@@ -237,7 +244,7 @@ impl<'a> Field<'a> for Qid {
     }
 
     #[inline(always)]
-    fn put<const N: usize>(&self, put: &mut Filling<'_, 'a, N>) {
+    fn put<const N: usize, const S: usize>(&self, put: &mut Filling<'_, 'a, N, S>) {
         put.value(u64::from(self.ty));
         put.value(u64::from(self.version));
         put.value(self.path);

@@ -75,7 +75,7 @@ pub trait Make<F> {
 }
 
 /// What [`Tframe::decode`] makes of it.
-struct AsItIs;
+pub(crate) struct AsItIs;
 
 impl<F> Make<F> for AsItIs {
     type Made = Result<Decoded<F>, Refusal>;
@@ -87,10 +87,10 @@ impl<F> Make<F> for AsItIs {
 }
 
 /// What stands beside a message.
-struct Framed<M> {
-    tag: Tag,
-    used: usize,
-    make: M,
+pub(crate) struct Framed<M> {
+    pub tag: Tag,
+    pub used: usize,
+    pub make: M,
 }
 
 impl<'a, M: Make<Tframe<'a>>> Onward<Tmessage<'a>> for Framed<M> {
@@ -237,7 +237,7 @@ impl<'a> Rframe<'a> {
             // Every file is asked for it, and no arm has to be found for it on either side.
             Rmessage::GetAttr(attr) => {
                 let mut values = [0; R_VALUES];
-                fill(&mut values, attr);
+                let [] = fill(&mut values, attr);
                 return ffi::write_rgetattr(out, self.tag, &values).told();
             }
             _ => {}
@@ -310,7 +310,7 @@ fn written_r(tag: Tag, msg: &Rmessage, out: &mut [u8]) -> Outcome {
 }
 
 /// A frame that has a size is refused in an output without room for that alone.
-fn sized(in_no_room: Result<usize, Refusal>, size: usize) -> Result<usize, Refusal> {
+pub(crate) fn sized(in_no_room: Result<usize, Refusal>, size: usize) -> Result<usize, Refusal> {
     match in_no_room {
         Err(Refusal::NoRoom) => Ok(size),
         other => other,
@@ -318,7 +318,7 @@ fn sized(in_no_room: Result<usize, Refusal>, size: usize) -> Result<usize, Refus
 }
 
 #[cfg(feature = "std")]
-fn send(
+pub(crate) fn send(
     encoded: Result<usize, Refusal>,
     stream: &mut impl Write,
     buffer: &[u8],

@@ -1,8 +1,10 @@
-//! 9P2000.L frames for a server in Rust, read and written by a proved library.
+//! 9P2000.L frames for a server in Rust, read and written by a proved library; those of the older
+//! 9P2000 have a module of their own, [`plain`].
 //!
 //! The types bear the names of p9 0.3.2's protocol module. What is read borrows from the bytes, and
 //! a refusal has its number. Nothing is allocated, but for a Twalk of the caller's own names that
-//! are longer than 512 bytes together ([`Names::of`]). Where a frame ends is what its size says:
+//! are longer than 512 bytes together ([`Names::of`]), and a message of 9P2000 with several strings
+//! that are. Where a frame ends is what its size says:
 //! bytes after the last field are a tail, and never another request; [`stream::Frames`] cuts a
 //! stream into frames by that, in a buffer that it allocates once, and [`stretch()`] bytes that
 //! hold several: [`Listed::fields`] says where each field of theirs stands. The entries of a
@@ -58,7 +60,9 @@ mod ids;
 pub mod pcap;
 mod places;
 mod plans;
+#[macro_use]
 mod records;
+pub mod plain;
 mod refusal;
 #[cfg(feature = "std")]
 pub mod stream;
@@ -74,14 +78,30 @@ pub use data::Data;
 pub use dirents::{Dirent, Dirents, Packed};
 pub use frames::{Decoded, Make, Rframe, Tframe};
 pub use ids::{Fid, Gid, Tag};
-pub use places::{FieldAt, Fields, Value};
+pub use places::{FieldAt, Value};
 pub use plans::{accepts_plan, plan_writes, twrites, Twrites};
 pub use records::*;
 pub use refusal::{Refusal, Sentence};
-pub use stretch::{answers, stretch, Body, Listed, Mark, Stop, Stretch};
+pub use stretch::{answers, stretch, Mark, Stop};
 pub use tables::{write_rwalk, write_twalk, WalkHead};
 pub use text::Text;
 pub use walks::{Names, NamesIter, Qids, QidsIter};
+
+/// What is the same in every dialect, for code that takes frames of any: the root's and
+/// [`plain`]'s types of these names are made of them.
+pub mod any {
+    pub use crate::places::Fields;
+    pub use crate::stretch::{Body, Held, Listed, Stretch};
+}
+
+/// What a frame of 9P2000.L holds.
+pub type Body<'a> = stretch::Body<Tmessage<'a>, Rmessage<'a>>;
+/// A frame of a stretch of 9P2000.L.
+pub type Listed<'a> = stretch::Listed<Body<'a>>;
+/// The frames of a stretch of 9P2000.L, see [`stretch()`].
+pub type Stretch<'a> = stretch::Stretch<'a, Body<'a>>;
+/// The fields of a listed frame of 9P2000.L, see [`Listed::fields`].
+pub type Fields<'a> = places::Fields<'a, Body<'a>>;
 
 /// Whether bytes are UTF-8 by RFC 3629, as the strings of a frame have to be.
 ///

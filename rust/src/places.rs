@@ -1,10 +1,13 @@
 //! Where the fields of a listed frame stand in the stretch, for who shows its bytes.
 
 use core::iter::FusedIterator;
+use core::marker::PhantomData;
 use core::ops::Range;
 
 use crate::frames::HEADER;
-use crate::{Body, Data, Fid, Gid, Listed, Names, Qid, Qids, Tag, Text};
+use crate::plain::Stat;
+use crate::stretch::{Held, Listed};
+use crate::{Data, Fid, Gid, Names, Qid, Qids, Tag, Text};
 
 /// What a field holds.
 #[derive(Clone, Copy, Debug, PartialEq, Eq)]
@@ -21,15 +24,17 @@ pub enum Value<'a> {
     Qids(Qids<'a>),
     /// A qid, whose three numbers are one field.
     Qid(Qid),
+    /// A stat of 9P2000, which is one field too.
+    Stat(Stat<'a>),
 }
 
 impl Value<'_> {
-    /// How many bytes its count is on the wire, where it has one.
+    /// How many bytes its count is on the wire, where it has one; a stat has a size as well.
     fn count(&self) -> usize {
         match self {
             Self::Number(_) | Self::Qid(_) => 0,
             Self::Text(_) | Self::Names(_) | Self::Qids(_) => 2,
-            Self::Data(_) => 4,
+            Self::Data(_) | Self::Stat(_) => 4,
         }
     }
 }
@@ -51,6 +56,7 @@ values! {
     Names: Names<'a>;
     Qids: Qids<'a>;
     Qid: Qid;
+    Stat: Stat<'a>;
 }
 
 macro_rules! ids {
@@ -85,28 +91,48 @@ pub struct FieldAt<'a> {
 }
 
 impl<'a> FieldAt<'a> {
-    /// Its bytes without its count: those of the text, the data or the elements alone.
+    /// Its bytes without its count: those of the text, the data, the elements or the stat's fields alone.
     pub fn shown(&self) -> Range<usize> {
         self.range.start + self.value.count()..self.range.end
     }
 
-    /// Each string that it holds, and where its letters stand: a string itself, the names of a walk,
-    /// each without its count. Nothing of other fields.
+    /// The fields of a stat, and where each stands; nothing of other fields. They come after its count and
+    /// its size.
+    pub fn parts(&self) -> impl Iterator<Item = FieldAt<'a>> {
+        let (value, mut at) = (self.value, self.shown().start);
+        (0..).map_while(move |number| {
+            let Value::Stat(stat) = value else {
+                return None;
+            };
+            let Named { name, size, value } = stat.field(number)?;
+            let start = at;
+            at += size;
+            let range = start..at;
+            Some(FieldAt { name, range, value })
+        })
+    }
+
+    /// Each string that it holds, and where its letters stand: a string itself, the names of a walk, the
+    /// four strings of a stat, each without its count. Nothing of other fields.
     pub fn texts(&self) -> impl Iterator<Item = (Range<usize>, Text<'a>)> {
         let (text, names, mut at) = match self.value {
             Value::Text(text) => (Some(text), Names::default(), self.range.start),
             Value::Names(names) => (None, names, self.shown().start),
             _ => (None, Names::default(), self.range.end),
         };
-        text.into_iter().chain(names).map(move |text| {
+        let own = text.into_iter().chain(names).map(move |text| {
             let start = at + Value::Text(text).count();
             at = start + text.len();
             (start..at, text)
-        })
+        });
+        own.chain(self.parts().filter_map(|part| match part.value {
+            Value::Text(text) => Some((part.shown(), text)),
+            _ => None,
+        }))
     }
 }
 
-impl<'a> Listed<'a> {
+impl<B> Listed<B> {
     /// Where its size, its type and its tag stand.
     pub fn header_range(&self) -> Range<usize> {
         self.at..self.at + HEADER
@@ -129,11 +155,15 @@ impl<'a> Listed<'a> {
     /// assert_eq!(&bytes[version.shown()], b"9P2000");
     /// # Ok::<(), sheafsledge::Stop>(())
     /// ```
-    pub fn fields(&self) -> Fields<'a> {
+    pub fn fields<'a>(&self) -> Fields<'a, B>
+    where
+        B: Held<'a>,
+    {
         Fields {
             body: self.body,
             number: 0,
             at: self.header_range().end,
+            bytes: PhantomData,
         }
     }
 
@@ -146,20 +176,18 @@ impl<'a> Listed<'a> {
 
 /// The fields of a listed frame, see [`Listed::fields`].
 #[derive(Clone, Copy, Debug)]
-pub struct Fields<'a> {
-    body: Body<'a>,
+pub struct Fields<'a, B> {
+    body: B,
     number: usize,
     at: usize,
+    bytes: PhantomData<&'a [u8]>,
 }
 
-impl<'a> Iterator for Fields<'a> {
+impl<'a, B: Held<'a>> Iterator for Fields<'a, B> {
     type Item = FieldAt<'a>;
 
     fn next(&mut self) -> Option<FieldAt<'a>> {
-        let Named { name, size, value } = match &self.body {
-            Body::Request(msg) => msg.as_ref().ok()?.field(self.number),
-            Body::Reply(msg) => msg.as_ref().ok()?.field(self.number),
-        }?;
+        let Named { name, size, value } = self.body.field(self.number)?;
         let start = self.at;
         self.number += 1;
         self.at += size;
@@ -168,4 +196,4 @@ impl<'a> Iterator for Fields<'a> {
     }
 }
 
-impl FusedIterator for Fields<'_> {}
+impl<'a, B: Held<'a>> FusedIterator for Fields<'a, B> {}

@@ -5,14 +5,15 @@ use crate::places::Named;
 use crate::walks::{Names, Qids};
 use crate::{Data, Fid, Gid, Qid, Refusal, Tag, Text};
 
-/// A record's fields cross in declared order, which is the layout's.
+/// A record's fields cross in declared order, which is the layout's. A stat stands after some bytes that
+/// are counted anew each time.
 macro_rules! record {
-    ($name:ident $(<$a:lifetime>)? { $($field:ident: $kind:ty,)* }) => {
+    ($name:ident $(<$a:lifetime>)? $(after $counts:literal)? { $($field:ident: $kind:ty,)* }) => {
         #[doc = about!($name)]
         #[derive(Clone, Copy, Debug, PartialEq, Eq)]
         pub struct $name $(<$a>)? {
             $(
-                #[doc = about!($field)]
+                #[doc = about!($name $field)]
                 pub $field: $kind,
             )*
         }
@@ -25,18 +26,18 @@ macro_rules! record {
             }
 
             #[inline(always)]
-            fn put<const N: usize>(&self, put: &mut Filling<'_, 'a, N>) {
+            fn put<const N: usize, const S: usize>(&self, put: &mut Filling<'_, 'a, N, S>) {
                 $(self.$field.put(put);)*
             }
 
             fn size(&self) -> usize {
-                0 $(+ self.$field.size())*
+                0 $(+ $counts)? $(+ self.$field.size())*
             }
         }
 
         impl<'a> $name $(<$a>)? {
             /// Its field of that number, from 0 on.
-            fn field(&self, number: usize) -> Option<Named<'a>> {
+            pub(crate) fn field(&self, number: usize) -> Option<Named<'a>> {
                 let mut skipped = 0..number;
                 $(if skipped.next().is_none() {
                     return Some(Named {
@@ -51,6 +52,13 @@ macro_rules! record {
     };
 }
 
+/// So many records.
+macro_rules! records {
+    ($($name:ident $(<$a:lifetime>)? { $($field:ident: $kind:ty,)* })*) => {
+        $(record!($name $(<$a>)? { $($field: $kind,)* });)*
+    };
+}
+
 /// What becomes of a message in the arm that makes it. There are too many arms for a closure to be
 /// inlined in each.
 pub(crate) trait Onward<M> {
@@ -62,11 +70,9 @@ pub(crate) trait Onward<M> {
 macro_rules! message {
     (
         $(#[$doc:meta])* $message:ident
-        $($ty:literal $case:ident: $record:ident $(<$a:lifetime>)? { $($field:ident: $kind:ty,)* })*
+        $($ty:literal $case:ident: $record:ident $(<$a:lifetime>)?)*
         empty: $($number:literal $empty:ident: $name:ident)*
     ) => {
-        $(record!($record $(<$a>)? { $($field: $kind,)* });)*
-
         $(#[$doc])*
         #[derive(Clone, Copy, Debug, PartialEq, Eq)]
         pub enum $message<'a> {
@@ -100,7 +106,10 @@ macro_rules! message {
             /// where they are to be. All arms go on to one call of the library: with a call in each
             /// they would be too many to be inlined.
             #[inline(always)]
-            pub(crate) fn put<const N: usize>(&self, values: &mut [u64; N]) -> (u8, [&'a [u8]; 2]) {
+            pub(crate) fn put<const N: usize, const S: usize>(
+                &self,
+                values: &mut [u64; N],
+            ) -> (u8, [&'a [u8]; S]) {
                 match self {
                     $(Self::$case(record) => ($ty, fill(values, record)),)*
                     $(Self::$empty => ($number, fill(values, &())),)*

@@ -3,34 +3,82 @@
 
 use core::fmt;
 use core::iter::FusedIterator;
+use core::marker::PhantomData;
 
 use crate::boundary::Outcome;
 use crate::fields::Taken;
+use crate::places::Named;
 use crate::records::Onward;
 use crate::{ffi, Refusal, Rmessage, Tag, Tmessage};
 
 /// What a frame holds: a request if its type is even, else a reply.
 #[derive(Clone, Copy, Debug, PartialEq, Eq)]
-pub enum Body<'a> {
+pub enum Body<T, R> {
     /// A request, or why it can't be read.
-    Request(Result<Tmessage<'a>, Refusal>),
+    Request(Result<T, Refusal>),
     /// A reply, or why it can't be read.
-    Reply(Result<Rmessage<'a>, Refusal>),
+    Reply(Result<R, Refusal>),
 }
 
-impl<'a> From<Result<Tmessage<'a>, Refusal>> for Body<'a> {
+impl<T, R> Body<T, R> {
+    /// Why it can't be read, if it can't.
     #[inline(always)]
-    fn from(msg: Result<Tmessage<'a>, Refusal>) -> Self {
-        Self::Request(msg)
+    pub fn refusal(&self) -> Option<Refusal> {
+        match self {
+            Self::Request(msg) => msg.as_ref().err().copied(),
+            Self::Reply(msg) => msg.as_ref().err().copied(),
+        }
     }
 }
 
-impl<'a> From<Result<Rmessage<'a>, Refusal>> for Body<'a> {
-    #[inline(always)]
-    fn from(msg: Result<Rmessage<'a>, Refusal>) -> Self {
-        Self::Reply(msg)
-    }
+/// What the frames of a dialect hold: a [`Body`] of its two enums.
+pub trait Held<'a>: Copy {
+    /// That of a whole frame, and its tail.
+    #[doc(hidden)]
+    fn read(frame: Unread<'a>) -> (Self, usize);
+    /// Why it can't be read, if it can't.
+    fn refusal(&self) -> Option<Refusal>;
+    /// The field of that number, from 0 on, of a message that was read.
+    #[doc(hidden)]
+    fn field(&self, number: usize) -> Option<Named<'a>>;
+    /// What a type is called; none if it is unknown.
+    fn name_of(ty: u8) -> Option<&'static str>;
 }
+
+/// A dialect's two enums, and the calls that read the values of each.
+macro_rules! held {
+    ($t:ident $read_t:path, $r:ident $read_r:path) => {
+        impl<'a> $crate::stretch::Held<'a> for $crate::stretch::Body<$t<'a>, $r<'a>> {
+            #[inline(always)]
+            fn read(frame: $crate::stretch::Unread<'a>) -> (Self, usize) {
+                match frame.ty % 2 {
+                    0 => frame.body(Self::Request, $read_t, $t::take),
+                    _ => frame.body(Self::Reply, $read_r, $r::take),
+                }
+            }
+
+            #[inline(always)]
+            fn refusal(&self) -> Option<$crate::Refusal> {
+                $crate::stretch::Body::refusal(self)
+            }
+
+            fn field(&self, number: usize) -> Option<$crate::places::Named<'a>> {
+                match self {
+                    Self::Request(msg) => msg.as_ref().ok()?.field(number),
+                    Self::Reply(msg) => msg.as_ref().ok()?.field(number),
+                }
+            }
+
+            fn name_of(ty: u8) -> Option<&'static str> {
+                $t::name_of(ty).or_else(|| $r::name_of(ty))
+            }
+        }
+    };
+}
+
+pub(crate) use held;
+
+held!(Tmessage ffi::read_tbody, Rmessage ffi::read_rbody);
 
 /// A frame of a stretch.
 ///
@@ -38,7 +86,7 @@ impl<'a> From<Result<Rmessage<'a>, Refusal>> for Body<'a> {
 /// body tells of, and all ranges. The strings and the data of the body are slices of the stretch.
 /// `size` and `tail` are numbers of bytes, and no positions.
 #[derive(Clone, Copy, Debug, PartialEq, Eq)]
-pub struct Listed<'a> {
+pub struct Listed<B> {
     /// Where it starts in the stretch: its position.
     pub at: usize,
     /// How long it says that it is, and is.
@@ -48,14 +96,14 @@ pub struct Listed<'a> {
     /// What joins a reply to its request.
     pub tag: Tag,
     /// What it holds.
-    pub body: Body<'a>,
+    pub body: B,
     /// How many bytes stand after its last field; 0 where the body is refused.
     pub tail: usize,
     /// Where the next one starts.
     pub next: usize,
 }
 
-impl Listed<'_> {
+impl<B> Listed<B> {
     /// Where it starts in the stretch, as `at` says. A frame that is read alone has position 0.
     pub fn position(&self) -> usize {
         self.at
@@ -107,21 +155,32 @@ pub struct Stop {
 /// };
 /// println!("{frame:?}");
 /// ```
-pub fn stretch(bytes: &[u8]) -> Stretch<'_> {
-    let position = Some(0);
-    Stretch { bytes, position }
+pub fn stretch(bytes: &[u8]) -> crate::Stretch<'_> {
+    Stretch::of(bytes)
 }
 
-/// The frames of a stretch, see [`stretch()`].
+/// The frames of a stretch, see [`stretch()`](crate::stretch()).
 #[derive(Clone, Copy, Debug)]
-pub struct Stretch<'a> {
+pub struct Stretch<'a, B> {
     bytes: &'a [u8],
     /// None after the end, and after a refusal.
     position: Option<usize>,
+    held: PhantomData<B>,
 }
 
-impl<'a> Iterator for Stretch<'a> {
-    type Item = Result<Listed<'a>, Stop>;
+impl<'a, B> Stretch<'a, B> {
+    pub(crate) fn of(bytes: &'a [u8]) -> Self {
+        let (position, held) = (Some(0), PhantomData);
+        Stretch {
+            bytes,
+            position,
+            held,
+        }
+    }
+}
+
+impl<'a, B: Held<'a>> Iterator for Stretch<'a, B> {
+    type Item = Result<Listed<B>, Stop>;
 
     #[inline]
     fn next(&mut self) -> Option<Self::Item> {
@@ -144,10 +203,7 @@ impl<'a> Iterator for Stretch<'a> {
             size,
             ty,
         };
-        let (body, tail) = match ty % 2 {
-            0 => frame.body(ffi::read_tbody, Tmessage::take),
-            _ => frame.body(ffi::read_rbody, Rmessage::take),
-        };
+        let (body, tail) = B::read(frame);
         // Put beside the body once: made in each of the arms that make a message, it would be carried
         // out of every one of them.
         Some(Ok(Listed {
@@ -163,26 +219,24 @@ impl<'a> Iterator for Stretch<'a> {
 }
 
 /// A whole frame whose body is still to be read.
-struct Unread<'a> {
+pub struct Unread<'a> {
     /// The stretch, up to where the frame ends.
     bytes: &'a [u8],
     at: usize,
     size: usize,
-    ty: u8,
+    pub(crate) ty: u8,
 }
 
 impl<'a> Unread<'a> {
     /// What it holds and its tail, by what reads the values of its direction and what makes a message
     /// of them.
     #[inline(always)]
-    fn body<M, const N: usize>(
+    pub(crate) fn body<M, B, const N: usize>(
         self,
+        held: impl FnOnce(Result<M, Refusal>) -> B,
         read: impl FnOnce(&[u8], usize, u8, &mut [u64; N]) -> Outcome,
         take: impl FnOnce(u8, &mut Taken<'a, '_>, Alone) -> Result<M, Refusal>,
-    ) -> (Body<'a>, usize)
-    where
-        Body<'a>: From<Result<M, Refusal>>,
-    {
+    ) -> (B, usize) {
         let Self {
             bytes,
             at,
@@ -191,7 +245,7 @@ impl<'a> Unread<'a> {
         } = self;
         let mut values = [0; N];
         let told = read(bytes, at, ty, &mut values);
-        let body = Body::from(match Refusal::of(told.refusal, told.place) {
+        let body = held(match Refusal::of(told.refusal, told.place) {
             Some(refusal) => Err(refusal),
             None => {
                 let (values, frame) = (values.iter(), bytes);
@@ -207,7 +261,7 @@ impl<'a> Unread<'a> {
 }
 
 /// Nothing stands beside a message in the arm that makes it.
-struct Alone;
+pub struct Alone;
 
 impl<M> Onward<M> for Alone {
     type Answer = Result<M, Refusal>;
@@ -218,7 +272,7 @@ impl<M> Onward<M> for Alone {
     }
 }
 
-impl FusedIterator for Stretch<'_> {}
+impl<'a, B: Held<'a>> FusedIterator for Stretch<'a, B> {}
 
 impl fmt::Display for Stop {
     fn fmt(&self, f: &mut fmt::Formatter) -> fmt::Result {

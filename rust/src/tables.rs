@@ -53,7 +53,7 @@ pub fn write_rwalk(out: &mut [u8], tag: Tag, qids: &[Qid]) -> Result<usize, Refu
 }
 
 /// What names are put together in on the stack: those of a path are mostly no longer.
-const SHORT: usize = 512;
+pub(crate) const SHORT: usize = 512;
 
 /// Names that stand each for itself, no more than a walk has. The library takes one text that the rows
 /// point into, so they are put together first: on the stack, or long ones on the heap. The caller does

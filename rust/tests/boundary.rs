@@ -104,15 +104,30 @@ fn crossed((name, ty): Typed) -> Vec<Typed> {
 }
 
 /// Both sides have names for the lengths of arrays; here they are in figures.
-fn in_figures(text: &str, names: &str) -> String {
-    let named = names
-        .lines()
-        .filter_map(|line| line.strip_prefix("pub const "))
-        .filter_map(|line| line.split_once(": usize = "));
-    named.fold(text.to_string(), |text, (name, rest)| {
-        let length = format!("; {}]", rest.trim_end_matches(';'));
-        text.replace(&format!("; {name}]"), &length)
-    })
+fn in_figures(text: &str, lengths: &[(&str, &str)]) -> String {
+    lengths
+        .iter()
+        .fold(text.to_string(), |text, (name, length)| {
+            text.replace(&format!("; {name}]"), &format!("; {length}]"))
+        })
+}
+
+/// The lengths that a text names.
+fn lengths(text: &str) -> impl Iterator<Item = (&str, &str)> {
+    let lines = text.lines();
+    let named = lines.filter_map(|line| line.strip_prefix("pub const ")?.split_once(": usize = "));
+    named.map(|(name, length)| (name, length.trim_end_matches(';')))
+}
+
+/// The lengths that a text of the library takes from another crate: two may have the same name there.
+fn used<'t>(text: &'t str, crates: &'t BTreeMap<String, String>) -> Vec<(&'t str, &'t str)> {
+    let paths = text.lines().filter_map(|line| line.strip_prefix("use "));
+    let paths = paths.filter_map(|path| path.trim_end_matches(';').split_once("::"));
+    let found = paths.filter_map(|(krate, name)| {
+        let mut there = lengths(crates.get(krate)?);
+        there.find(|(named, _)| *named == name)
+    });
+    found.collect()
 }
 
 /// In Rust a count comes after its pointer, under any name.
@@ -144,6 +159,13 @@ fn sources(root: &Path) -> Vec<PathBuf> {
     found
 }
 
+/// The name of the crate that a source is of.
+fn crate_of(source: &Path) -> String {
+    let folder = source.ancestors().nth(2).and_then(Path::file_name);
+    let name = folder.expect("a source stands in its crate's src/");
+    name.to_string_lossy().into_owned()
+}
+
 fn boundary() -> String {
     let path = Path::new(env!("CARGO_MANIFEST_DIR")).join("sys/src/lib.rs");
     fs::read_to_string(path).expect("sys/src/lib.rs is there")
@@ -153,10 +175,18 @@ fn both() -> (Side, Side) {
     let here = Path::new(env!("CARGO_MANIFEST_DIR"));
     let (mut library, mut rust) = (Side::default(), Side::default());
     let read = |path: &PathBuf| fs::read_to_string(path).expect("a source is text");
-    let texts: Vec<String> = sources(&here.join("..")).iter().map(read).collect();
-    let names = texts.join("\n");
-    for text in &texts {
-        let text = in_figures(text, &names);
+    let texts: Vec<(String, String)> = sources(&here.join(".."))
+        .iter()
+        .map(|path| (crate_of(path), read(path)))
+        .collect();
+    let mut crates = BTreeMap::<String, String>::new();
+    for (krate, text) in &texts {
+        *crates.entry(krate.clone()).or_default() += text;
+    }
+    for (krate, text) in &texts {
+        let own = lengths(&crates[krate]);
+        let lengths: Vec<_> = own.chain(used(text, &crates)).collect();
+        let text = in_figures(text, &lengths);
         declared(&text, "pub extern \"C\" fn ", crossed, &mut library);
     }
     let text = boundary();
@@ -164,7 +194,7 @@ fn both() -> (Side, Side) {
         .split("macro_rules!")
         .next()
         .expect("a part before the macros");
-    let text = in_figures(text, text);
+    let text = in_figures(text, &lengths(text).collect::<Vec<_>>());
     declared(&text, "pub fn ", |typed| vec![typed], &mut rust);
     counts_named(&mut rust.functions, &library);
     (library, rust)

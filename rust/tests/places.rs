@@ -61,6 +61,7 @@ fn crossed(field: &FieldAt) -> Vec<u64> {
         Value::Names(names) => [&[names.len() as u64], &span[..]].concat(),
         Value::Qids(qids) => [&[qids.len() as u64], &span[..]].concat(),
         Value::Qid(qid) => vec![qid.ty.into(), qid.version.into(), qid.path],
+        Value::Stat(_) => field.parts().flat_map(|part| crossed(&part)).collect(),
     }
 }
 

@@ -8,9 +8,10 @@ _sheafsledge() {
         return
     fi
     case ${COMP_WORDS[1]} in
-    list | where) offers='--names --json --output -o --help -h' ;;
-    pairs | plan) offers='--output -o --help -h' ;;
-    fields) offers='--json --output -o --help -h' ;;
+    list | where) offers='--names --json --dialect --output -o --help -h' ;;
+    pairs) offers='--dialect --output -o --help -h' ;;
+    plan) offers='--output -o --help -h' ;;
+    fields) offers='--json --dialect --output -o --help -h' ;;
     join) offers='--last-may-stop --output -o --help -h' ;;
     entries) offers='--block --output -o --help -h' ;;
     pcap) offers='--output -o --times --help -h' ;;
@@ -19,11 +20,17 @@ _sheafsledge() {
     for ((i = 2; i < COMP_CWORD; i++)); do
         [ "${COMP_WORDS[i]}" != -- ] || offers=''
     done
+    # In `--dialect=NAME` the mark is a word of its own.
+    [ "$before" != = ] || before=${COMP_WORDS[COMP_CWORD - 2]}
+    [ "$word" != = ] || word=''
     case $before in
-    -o | --output | --times | =) offers='' ;;
+    --dialect)
+        mapfile -t COMPREPLY < <(compgen -W '9P2000.L 9P2000' -- "$word")
+        return
+        ;;
+    -o | --output | --times) offers='' ;;
     esac
     case $word in
-    =) word='' ;;
     -*)
         mapfile -t COMPREPLY < <(compgen -W "$offers" -- "$word")
         return

@@ -4,6 +4,7 @@
 #![forbid(unsafe_code)]
 
 mod command;
+mod dialect;
 mod digits;
 mod entries;
 mod fields;

@@ -1,6 +1,6 @@
 //! The frames of a recording of any length, piece by piece.
 //!
-//! A piece is cut and read by the crate's `stretch`; a frame that a piece ends in is kept for the
+//! A piece is cut and read by the crate's `stretch` of the dialect; a frame that a piece ends in is kept for the
 //! next one. A frame that is longer than a piece is never held whole: what its fields need of it is,
 //! and the rest is passed over.
 
@@ -9,9 +9,13 @@ mod broken;
 mod tests;
 
 use std::io::{self, ErrorKind, Read};
+use std::marker::PhantomData;
 use std::ops::Range;
 
-use sheafsledge::{stretch, Body, Listed, Refusal, Rframe, Stop, Tag, Tframe};
+use sheafsledge::any::{Held, Listed};
+use sheafsledge::{Refusal, Stop};
+
+use crate::dialect::Dialect;
 
 pub use broken::Broken;
 
@@ -54,13 +58,16 @@ impl Row {
     /// Of a frame in a piece that starts there. What of the body nobody asks for is not made, as
     /// long as this is inlined.
     #[inline(always)]
-    fn of(start: u64, frame: &Listed) -> Self {
+    fn of<'a>(start: u64, frame: &Listed<impl Held<'a>>) -> Self {
         Self {
             at: start + frame.at as u64,
             size: frame.size as u32,
             ty: frame.ty,
             tag: frame.tag.0,
-            refusal: refusal(&frame.body).map(|refusal| counted_on(start, refusal)),
+            refusal: frame
+                .body
+                .refusal()
+                .map(|refusal| counted_on(start, refusal)),
             tail: frame.tail as u32,
         }
     }
@@ -93,7 +100,8 @@ pub enum Ended {
     Stopped { at: u64, refusal: Refusal },
 }
 
-pub struct Recording<S> {
+/// One in a dialect.
+pub struct Recording<S, D> {
     source: S,
     /// How long a piece is.
     piece: usize,
@@ -105,9 +113,10 @@ pub struct Recording<S> {
     start: u64,
     rows: Vec<Row>,
     broken: Vec<Broken>,
+    dialect: PhantomData<D>,
 }
 
-impl<S: Source> Recording<S> {
+impl<S: Source, D: Dialect> Recording<S, D> {
     /// A header has to fit into a piece, so a shorter one is made as long.
     pub fn new(source: S, piece: usize) -> Self {
         let piece = piece.max(HEADER);
@@ -119,6 +128,7 @@ impl<S: Source> Recording<S> {
             start: 0,
             rows: Vec::with_capacity(ROWS),
             broken: Vec::new(),
+            dialect: PhantomData,
         }
     }
 
@@ -134,13 +144,13 @@ impl<S: Source> Recording<S> {
 
     /// What one of the rows holds, read once more, as a stretch of its own: a listing without bodies
     /// does not wait for them.
-    pub fn frame(&self, row: &Row) -> Listed<'_> {
+    pub fn frame(&self, row: &Row) -> Listed<D::Body<'_>> {
         let size = row.size as usize;
         let bytes = match size > self.piece {
             true => &self.buffer,
             false => &self.buffer[self.left.start - (self.start - row.at) as usize..][..size],
         };
-        front(bytes, size)
+        D::front(bytes, size)
     }
 
     /// How many bytes the recording has. After it has ended, what is left of it is passed over.
@@ -189,7 +199,7 @@ impl<S: Source> Recording<S> {
     /// here.
     fn take(&mut self) -> Option<Refusal> {
         let piece = &self.buffer[self.left.clone()];
-        for frame in stretch(piece) {
+        for frame in D::stretch(piece) {
             let frame = match frame {
                 Ok(frame) => frame,
                 Err(Stop { refusal, .. }) => return Some(refusal),
@@ -228,7 +238,7 @@ impl<S: Source> Recording<S> {
             if !self.fill(wanted)? {
                 return Ok(false);
             }
-            let row = Row::of(self.start, &front(&self.buffer[..wanted], size));
+            let row = Row::of(self.start, &D::front(&self.buffer[..wanted], size));
             if row.refusal != Some(Refusal::Short) || wanted == size {
                 break row;
             }
@@ -288,37 +298,7 @@ fn more(wanted: usize) -> usize {
     }
 }
 
-/// A frame by its first bytes, at least a header. If these are too few it is refused as short; any
-/// other answer is that of the whole frame, since its fields are read in their order.
-fn front(bytes: &[u8], size: usize) -> Listed<'_> {
-    let (ty, tag) = (bytes[4], Tag(u16::from_le_bytes([bytes[5], bytes[6]])));
-    let (body, used) = match ty % 2 {
-        0 => match Tframe::decode(bytes) {
-            Ok(read) => (Body::Request(read.frame.msg), read.used),
-            Err(refusal) => (Body::Request(Err(refusal)), size),
-        },
-        _ => match Rframe::decode(bytes) {
-            Ok(read) => (Body::Reply(Ok(read.frame.msg)), read.used),
-            Err(refusal) => (Body::Reply(Err(refusal)), size),
-        },
-    };
-    let tail = match refusal(&body) {
-        Some(_) => 0,
-        None => size - used,
-    };
-    let (at, next) = (0, size);
-    Listed {
-        at,
-        size,
-        ty,
-        tag,
-        body,
-        tail,
-        next,
-    }
-}
-
-/// The same, its place counted from the recording's first byte: that of the piece stands there.
+/// A refusal of a piece, its place counted from the recording's first byte: the piece starts there.
 #[cold]
 fn counted_on(start: u64, refusal: Refusal) -> Refusal {
     let counted = |at| start as usize + at;
@@ -326,14 +306,5 @@ fn counted_on(start: u64, refusal: Refusal) -> Refusal {
         Refusal::NotUtf8 { at } => Refusal::NotUtf8 { at: counted(at) },
         Refusal::ZeroByte { at } => Refusal::ZeroByte { at: counted(at) },
         other => other,
-    }
-}
-
-/// Why a frame's body can't be read.
-#[inline(always)]
-fn refusal(body: &Body) -> Option<Refusal> {
-    match body {
-        Body::Request(body) => body.as_ref().err().copied(),
-        Body::Reply(body) => body.as_ref().err().copied(),
     }
 }

@@ -2,7 +2,7 @@
 
 use std::hint::black_box;
 
-use sheafsledge::{stretch, Decoded, Refusal, Rframe, Tframe};
+use sheafsledge::{plain, stretch, Decoded, Refusal, Rframe, Tframe};
 
 pub trait Frame<'a>: Copy {
     fn read(bytes: &'a [u8]) -> Result<Decoded<Self>, Refusal>;
@@ -10,11 +10,11 @@ pub trait Frame<'a>: Copy {
 }
 
 macro_rules! frame {
-    ($frame:ident) => {
-        impl<'a> Frame<'a> for $frame<'a> {
+    ($($frame:ident)::+) => {
+        impl<'a> Frame<'a> for $($frame)::+<'a> {
             #[inline]
             fn read(bytes: &'a [u8]) -> Result<Decoded<Self>, Refusal> {
-                $frame::decode(bytes)
+                $($frame)::+::decode(bytes)
             }
 
             #[inline]
@@ -27,6 +27,8 @@ macro_rules! frame {
 
 frame!(Tframe);
 frame!(Rframe);
+frame!(plain::Tframe);
+frame!(plain::Rframe);
 
 /// The frame as the crate has it, if it writes it again as it was.
 pub fn same<'a, F: Frame<'a>>(frame: &'a [u8]) -> Option<F> {

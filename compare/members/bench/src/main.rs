@@ -3,6 +3,7 @@
 mod blocks;
 mod captures;
 mod clock;
+mod dialects;
 mod frames;
 mod in_rust;
 mod served;
@@ -29,6 +30,7 @@ fn main() -> ExitCode {
     let mut replies = replies.iter();
     let done = requests.all(|(name, frame)| rows::<CrossedT, Request, Tframe>(name, frame))
         && replies.all(|(name, frame)| rows::<CrossedR, Reply, Rframe>(name, frame))
+        && dialects::rows()
         && stretch::row_of_a_million()
         && blocks::rows()
         && captures::rows_of_a_million()

@@ -2,6 +2,7 @@
 
 use sheafsledge::{Body, Dirent, Dirents, Listed, Rmessage};
 
+use crate::dialect::L;
 use crate::digits::push;
 use crate::list::{self, Form, Summary};
 use crate::recording::{Ended, Row};
@@ -22,7 +23,7 @@ pub struct Lines {
     paint: Paint,
     counted: Counted,
     /// For the last line.
-    list: list::Lines<false>,
+    list: list::Lines<L, false>,
 }
 
 impl Lines {
@@ -36,6 +37,8 @@ impl Lines {
 }
 
 impl Form for Lines {
+    type Dialect = L;
+
     fn begin(&mut self, heading: Option<&str>, text: &mut Vec<u8>) {
         begin(heading, text);
     }

@@ -2,23 +2,27 @@
 
 use std::ffi::OsStr;
 
-use sheafsledge::{message_name, Qid, Value};
+use sheafsledge::plain::Stat;
+use sheafsledge::{Qid, Value};
 
+use crate::dialect::Dialect;
 use crate::list::json::{named, number, quoted, string};
 use crate::list::{self, Form};
 use crate::recording::Ended;
 
 use super::parts::{Holds, Part, PartForm};
 
-pub struct Json(list::Json);
+pub struct Json<D>(list::Json<D>);
 
-impl Json {
+impl<D: Dialect> Json<D> {
     pub fn of(file: &OsStr) -> Self {
         Self(list::Json::of(file))
     }
 }
 
-impl PartForm for Json {
+impl<D: Dialect> PartForm for Json<D> {
+    type Dialect = D;
+
     fn begin(&mut self, _: Option<&str>, _: &mut Vec<u8>) {}
 
     fn part(&mut self, part: &Part, text: &mut Vec<u8>) {
@@ -35,7 +39,7 @@ impl PartForm for Json {
             Holds::Refused(refusal) => Some(refusal),
             _ => None,
         };
-        named(text, part.ty.and_then(message_name), refusal);
+        named(text, part.ty.and_then(D::name), refusal);
     }
 
     fn end(&mut self, ended: &Ended, frames: u64, text: &mut Vec<u8>) {
@@ -62,6 +66,7 @@ fn holds(part: &Part, text: &mut Vec<u8>) {
         Holds::Value(Value::Names(names)) => array(names.iter().map(|name| quoted(&name))),
         Holds::Value(Value::Qids(qids)) => array(qids.iter().map(object)),
         Holds::Value(Value::Qid(qid)) => object(qid),
+        Holds::Value(Value::Stat(stat)) => stat_object(&stat),
     };
     text.extend_from_slice(b",\"value\":");
     text.extend_from_slice(held.as_bytes());
@@ -69,6 +74,26 @@ fn holds(part: &Part, text: &mut Vec<u8>) {
 
 fn array(elements: impl Iterator<Item = String>) -> String {
     format!("[{}]", elements.collect::<Vec<_>>().join(","))
+}
+
+fn stat_object(stat: &Stat) -> String {
+    let Stat {
+        ty, dev, qid, mode, ..
+    } = *stat;
+    let Stat {
+        atime,
+        mtime,
+        length,
+        ..
+    } = *stat;
+    let texts = [stat.name, stat.uid, stat.gid, stat.muid];
+    let [name, uid, gid, muid] = texts.map(|text| quoted(&text));
+    let qid = object(qid);
+    format!(
+        "{{\"ty\":{ty},\"dev\":{dev},\"qid\":{qid},\"mode\":{mode},\"atime\":{atime},\
+         \"mtime\":{mtime},\"length\":{length},\"name\":{name},\"uid\":{uid},\"gid\":{gid},\
+         \"muid\":{muid}}}"
+    )
 }
 
 fn object(Qid { ty, version, path }: Qid) -> String {

@@ -3,8 +3,10 @@
 use std::fmt::Display;
 use std::io::Write;
 
+use sheafsledge::plain::Stat;
 use sheafsledge::{Qid, Value};
 
+use crate::dialect::Dialect;
 use crate::digits::push;
 use crate::list::json::quoted;
 use crate::list::{self, numbered, Form};
@@ -13,20 +15,22 @@ use crate::terminal::{Paint, Shade};
 
 use super::parts::{Holds, Part, PartForm};
 
-pub struct Lines {
+pub struct Lines<D> {
     paint: Paint,
     /// For the last line.
-    list: list::Lines<false>,
+    list: list::Lines<D, false>,
 }
 
-impl Lines {
+impl<D: Dialect> Lines<D> {
     pub fn new(paint: Paint) -> Self {
         let list = list::Lines::new(paint);
         Self { paint, list }
     }
 }
 
-impl PartForm for Lines {
+impl<D: Dialect> PartForm for Lines<D> {
+    type Dialect = D;
+
     fn begin(&mut self, heading: Option<&str>, text: &mut Vec<u8>) {
         text.extend_from_slice(heading.unwrap_or_default().as_bytes());
         text.extend_from_slice(b"at type field start length value\n");
@@ -96,7 +100,22 @@ fn holds(part: &Part, text: &mut Vec<u8>) {
             Value::Names(names) => names.iter().for_each(|name| word(text, quoted(&name))),
             Value::Qids(qids) => qids.iter().for_each(|qid| dotted(text, qid)),
             Value::Qid(qid) => dotted(text, qid),
+            Value::Stat(held) => stat(text, &held),
         },
+    }
+}
+
+/// Its fields in their order.
+fn stat(text: &mut Vec<u8>, stat: &Stat) {
+    number(text, stat.ty);
+    number(text, stat.dev);
+    dotted(text, stat.qid);
+    for n in [stat.mode, stat.atime, stat.mtime] {
+        number(text, n);
+    }
+    number(text, stat.length);
+    for held in [stat.name, stat.uid, stat.gid, stat.muid] {
+        word(text, quoted(&held));
     }
 }
 

@@ -5,6 +5,7 @@ mod lines;
 mod parts;
 
 use crate::command::Command;
+use crate::dialect::{self, Dialect, Plain, DIALECT, L};
 use crate::help;
 use crate::list::{self, OUTPUT};
 use crate::status::{Failure, Status};
@@ -30,8 +31,9 @@ standard input. Each byte of a file belongs to one line.
 A line has the frame's position, its type, the field's name, where the field
 starts in the file and how long it is, and what it holds: a number; a text or a
 walk's names in quotes, as JSON has them; a qid as TYPE.VERSION.PATH; of data
-how many bytes it has. A text, names and qids begin with 2 bytes that count
-them, data with 4. Other lines are named
+how many bytes it has; of a stat its eleven fields, in their order. A text,
+names and qids begin with 2 bytes that count them, data and a stat with 4.
+Other lines are named
 
   header   a frame's first 7 bytes: its size, its type and its tag
   tail     the bytes after its last field, if there are any
@@ -41,16 +43,20 @@ them, data with 4. Other lines are named
 The last line, and the summary on standard error, are those of 'sheafsledge
 list'.
 ",
-    options: &[JSON, OUTPUT, help::HELP],
+    options: &[JSON, DIALECT, OUTPUT, help::HELP],
     examples: &["fields examples/diod-session.bin"],
     status: "0 if all is sound; 1 if there is a refusal, a tail or a stop",
     run,
 };
 
 fn run(words: &Words) -> Result<Status, Failure> {
+    dialect::of(words, [run_in::<L>, run_in::<Plain>])?(words)
+}
+
+fn run_in<D: Dialect>(words: &Words) -> Result<Status, Failure> {
     let json = words.has(JSON.long);
     list::listed(words, |paint, listing, files| match json {
-        true => listing.of(files, |file| Parted(Json::of(file))),
-        false => listing.of(files, |_| Parted(Lines::new(paint))),
+        true => listing.of(files, |file| Parted(Json::<D>::of(file))),
+        false => listing.of(files, |_| Parted(Lines::<D>::new(paint))),
     })
 }

@@ -3,9 +3,11 @@
 use std::io;
 use std::ops::Range;
 
-use sheafsledge::{FieldAt, Listed, Refusal, Value};
+use sheafsledge::any::Listed;
+use sheafsledge::{FieldAt, Refusal, Value};
 
-use crate::list::Form;
+use crate::dialect::Dialect;
+use crate::list::{BodyOf, Form};
 use crate::recording::{Ended, Row};
 
 /// Bytes that belong together.
@@ -30,6 +32,7 @@ pub enum Holds<'a> {
 
 /// A way to write the parts, and what stands around them.
 pub trait PartForm {
+    type Dialect: Dialect;
     fn begin(&mut self, heading: Option<&str>, text: &mut Vec<u8>);
     fn part(&mut self, part: &Part, text: &mut Vec<u8>);
     fn end(&mut self, ended: &Ended, frames: u64, text: &mut Vec<u8>);
@@ -39,13 +42,20 @@ pub trait PartForm {
 pub struct Parted<F>(pub F);
 
 impl<F: PartForm> Form for Parted<F> {
+    type Dialect = F::Dialect;
+
     fn begin(&mut self, heading: Option<&str>, text: &mut Vec<u8>) {
         self.0.begin(heading, text);
     }
 
     fn row(&mut self, _: &Row, _: &mut Vec<u8>) {}
 
-    fn body<'a>(&mut self, row: &Row, frame: impl FnOnce() -> Listed<'a>, text: &mut Vec<u8>) {
+    fn body<'a>(
+        &mut self,
+        row: &Row,
+        frame: impl FnOnce() -> Listed<BodyOf<'a, Self>>,
+        text: &mut Vec<u8>,
+    ) {
         let frame = frame();
         let mut part = |name, range, holds| self.0.part(&of_a_frame(row, name, range, holds), text);
         let header = frame.header_range();

@@ -10,6 +10,7 @@ use std::ffi::OsStr;
 use std::io::{self, Write};
 
 use crate::command::Command;
+use crate::dialect::L;
 use crate::help;
 use crate::input::{named, shown, Input};
 use crate::list::{self, Summary, OUTPUT};
@@ -138,7 +139,7 @@ impl Joining {
 
 /// To where it ends or stops; what is after a stop is only looked at where it is taken too.
 fn read(source: impl Source, may_stop: bool, summary: &mut Summary) -> io::Result<Ended> {
-    let mut recording = Recording::new(source, PIECE);
+    let mut recording = Recording::<_, L>::new(source, PIECE);
     loop {
         let ended = recording.go_on()?;
         for row in recording.rows() {

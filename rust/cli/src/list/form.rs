@@ -2,14 +2,19 @@
 
 use std::io;
 
-use sheafsledge::Listed;
+use sheafsledge::any::Listed;
 
+use crate::dialect::Dialect;
 use crate::recording::{Broken, Ended, Row};
 
 use super::summary::Summary;
 
-/// A way to write a listing.
+/// What a frame of a form's dialect holds.
+pub type BodyOf<'a, F> = <<F as Form>::Dialect as Dialect>::Body<'a>;
+
+/// A way to write a listing of frames of a dialect.
 pub trait Form {
+    type Dialect: Dialect;
     /// `heading` where the listing is one of several.
     fn begin(&mut self, heading: Option<&str>, text: &mut Vec<u8>);
     fn row(&mut self, row: &Row, text: &mut Vec<u8>);
@@ -17,7 +22,15 @@ pub trait Form {
     fn broken(&mut self, _: &Broken, _: &mut Vec<u8>) {}
     /// Of each frame after its row, if `frame` is asked what it holds. It tells as if the frame were
     /// alone.
-    fn body<'a>(&mut self, _: &Row, _frame: impl FnOnce() -> Listed<'a>, _: &mut Vec<u8>) {}
+    fn body<'a>(
+        &mut self,
+        _: &Row,
+        _frame: impl FnOnce() -> Listed<BodyOf<'a, Self>>,
+        _: &mut Vec<u8>,
+    ) where
+        Self: Sized,
+    {
+    }
     /// Before the end of a recording, if `bytes` is asked how long that is.
     fn rest(
         &mut self,

@@ -2,24 +2,28 @@
 
 use std::ffi::OsStr;
 use std::fmt::Write;
+use std::marker::PhantomData;
 
-use sheafsledge::{message_name, Refusal};
+use sheafsledge::Refusal;
 
+use crate::dialect::Dialect;
 use crate::digits::push;
 use crate::recording::{Ended, Row};
 
 use super::form::Form;
 
-pub struct Json {
+pub struct Json<D> {
     /// `{"file":"NAME"`, what each object begins with.
     front: Vec<u8>,
+    dialect: PhantomData<D>,
 }
 
-impl Json {
+impl<D: Dialect> Json<D> {
     pub fn of(file: &OsStr) -> Self {
         let front = format!("{{\"file\":{}", quoted(&file.to_string_lossy()));
         let front = front.into_bytes();
-        Self { front }
+        let dialect = PhantomData;
+        Self { front, dialect }
     }
 
     /// What an object begins with, and its first numbers.
@@ -31,11 +35,13 @@ impl Json {
     /// What a frame's object ends with: its name, and why it is refused.
     #[inline]
     pub fn close(&self, text: &mut Vec<u8>, row: &Row) {
-        named(text, message_name(row.ty), row.refusal);
+        named(text, D::name(row.ty), row.refusal);
     }
 }
 
-impl Form for Json {
+impl<D: Dialect> Form for Json<D> {
+    type Dialect = D;
+
     fn begin(&mut self, _: Option<&str>, _: &mut Vec<u8>) {}
 
     fn row(&mut self, row: &Row, text: &mut Vec<u8>) {

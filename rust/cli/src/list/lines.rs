@@ -1,7 +1,8 @@
 //! The proved lister's text; with `NAMED`, two columns more.
 
-use sheafsledge::message_name;
+use std::marker::PhantomData;
 
+use crate::dialect::Dialect;
 use crate::digits::{push, put, Rising, LINE};
 use crate::recording::{Ended, Row};
 use crate::terminal::{Paint, Shade};
@@ -11,15 +12,16 @@ use super::form::Form;
 /// The answer and the tail of a sound frame, and the line's end.
 const SOUND: &[u8; 5] = b" 0 0\n";
 
-pub struct Lines<const NAMED: bool> {
+pub struct Lines<D, const NAMED: bool> {
     paint: Paint,
     at: Rising,
+    dialect: PhantomData<D>,
 }
 
-impl<const NAMED: bool> Lines<NAMED> {
+impl<D: Dialect, const NAMED: bool> Lines<D, NAMED> {
     pub fn new(paint: Paint) -> Self {
-        let at = Rising::new();
-        Self { paint, at }
+        let (at, dialect) = (Rising::new(), PhantomData);
+        Self { paint, at, dialect }
     }
 
     /// A line of the lister's six columns, put where it is to stand.
@@ -59,7 +61,7 @@ impl<const NAMED: bool> Lines<NAMED> {
         self.line(row, text);
         text.pop();
         if NAMED {
-            name_it(row, text);
+            name_it::<D>(row, text);
         }
         text.extend_from_slice(end.as_bytes());
         text.push(b'\n');
@@ -67,8 +69,8 @@ impl<const NAMED: bool> Lines<NAMED> {
 }
 
 /// What the message is called, and why it is refused, after the other columns.
-pub fn name_it(row: &Row, text: &mut Vec<u8>) {
-    let name = message_name(row.ty).unwrap_or("?");
+pub fn name_it<D: Dialect>(row: &Row, text: &mut Vec<u8>) {
+    let name = D::name(row.ty).unwrap_or("?");
     let sentence = row.refusal.map(|refusal| refusal.meaning());
     for word in [Some(name), sentence].into_iter().flatten() {
         text.push(b' ');
@@ -93,7 +95,9 @@ fn unsound(row: &Row, line: &mut [u8; LINE], place: usize) -> usize {
     place + 1
 }
 
-impl<const NAMED: bool> Form for Lines<NAMED> {
+impl<D: Dialect, const NAMED: bool> Form for Lines<D, NAMED> {
+    type Dialect = D;
+
     fn begin(&mut self, heading: Option<&str>, text: &mut Vec<u8>) {
         text.extend_from_slice(heading.unwrap_or_default().as_bytes());
         text.extend_from_slice(b"at size type tag answer tail");

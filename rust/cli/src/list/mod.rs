@@ -9,6 +9,7 @@ use std::ffi::{OsStr, OsString};
 use std::io::{self, Write};
 
 use crate::command::Command;
+use crate::dialect::{self, Dialect, Plain, DIALECT, L};
 use crate::help;
 use crate::input::{is_standard, named, Input};
 use crate::output::Output;
@@ -17,7 +18,7 @@ use crate::status::{say, Failure, Status};
 use crate::terminal::{error_is_terminal, is_watched, Paint};
 use crate::words::{Opt, Words};
 
-pub use form::Form;
+pub use form::{BodyOf, Form};
 pub use json::Json;
 pub use lines::{name_it, Lines};
 pub use summary::{entries, numbered, Summary};
@@ -60,18 +61,22 @@ bytes follow the last field inside the frame. The last line is 'end BYTES
 FRAMES', or 'stop POSITION NUMBER' where the recording is cut (12) or has a size
 that no frame has (13). A summary goes to standard error.
 ",
-    options: &[NAMES, JSON, OUTPUT, help::HELP],
+    options: &[NAMES, JSON, DIALECT, OUTPUT, help::HELP],
     examples: &["list examples/diod-session.bin"],
     status: "0 if all is sound; 1 if there is a refusal, a tail or a stop",
     run,
 };
 
 fn run(words: &Words) -> Result<Status, Failure> {
+    dialect::of(words, [run_in::<L>, run_in::<Plain>])?(words)
+}
+
+fn run_in<D: Dialect>(words: &Words) -> Result<Status, Failure> {
     let forms = (words.has(JSON.long), words.has(NAMES.long));
     listed(words, |paint, listing, files| match forms {
-        (true, _) => listing.of(files, Json::of),
-        (false, true) => listing.of(files, |_| Lines::<true>::new(paint)),
-        (false, false) => listing.of(files, |_| Lines::<false>::new(paint)),
+        (true, _) => listing.of(files, Json::<D>::of),
+        (false, true) => listing.of(files, |_| Lines::<D, true>::new(paint)),
+        (false, false) => listing.of(files, |_| Lines::<D, false>::new(paint)),
     })
 }
 
@@ -139,12 +144,12 @@ impl Listing {
     }
 
     /// The inner error is of the file that is read: the others can still be.
-    fn file(&mut self, file: &OsStr, mut form: impl Form) -> Result<io::Result<()>, Failure> {
+    fn file<F: Form>(&mut self, file: &OsStr, mut form: F) -> Result<io::Result<()>, Failure> {
         let input = match Input::open(file, self.watched) {
             Ok(input) => input,
             Err(error) => return Ok(Err(error)),
         };
-        let mut recording = Recording::new(input, PIECE);
+        let mut recording = Recording::<_, F::Dialect>::new(input, PIECE);
         let (mut frames, mut begun) = (0, false);
         let ended = loop {
             let ended = match recording.go_on() {
@@ -173,10 +178,10 @@ impl Listing {
     }
 
     /// Those that a recording has just come to.
-    fn frames(
+    fn frames<F: Form>(
         &mut self,
-        recording: &Recording<impl Source>,
-        form: &mut impl Form,
+        recording: &Recording<impl Source, F::Dialect>,
+        form: &mut F,
     ) -> io::Result<()> {
         for row in recording.rows() {
             self.summary.row(row);

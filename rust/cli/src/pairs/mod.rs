@@ -3,6 +3,7 @@
 mod paired;
 
 use crate::command::Command;
+use crate::dialect::{self, Dialect, Plain, DIALECT, L};
 use crate::help;
 use crate::list;
 use crate::status::{Failure, Status};
@@ -22,9 +23,9 @@ yet; 'stray' if there is none. For a request it is the position of its answer,
 or 'open' if there is none.
 
 A reply can answer a known request of the same tag if its type is the next
-number, or 7, an Rlerror. Bodies are not looked at.
+number, or 7, an Rlerror; in 9P2000 107, an Rerror. Bodies are not looked at.
 ",
-    options: &[list::OUTPUT, help::HELP],
+    options: &[DIALECT, list::OUTPUT, help::HELP],
     examples: &["pairs examples/diod-session.bin"],
     status: "\
 0 if all is sound; 1 if there is a refusal, a tail, a stop, a stray or
@@ -33,7 +34,11 @@ an open request",
 };
 
 fn run(words: &Words) -> Result<Status, Failure> {
+    dialect::of(words, [run_in::<L>, run_in::<Plain>])?(words)
+}
+
+fn run_in<D: Dialect>(words: &Words) -> Result<Status, Failure> {
     list::listed(words, |paint, listing, files| {
-        listing.of(files, |_| Paired::new(paint))
+        listing.of(files, |_| Paired::<D>::new(paint))
     })
 }

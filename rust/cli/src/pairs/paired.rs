@@ -2,8 +2,9 @@
 
 use std::collections::{HashMap, VecDeque};
 
-use sheafsledge::{answers, message_name, Mark, Tag};
+use sheafsledge::{Mark, Tag};
 
+use crate::dialect::Dialect;
 use crate::digits::push;
 use crate::list::{Form, Lines, Summary};
 use crate::recording::{Ended, Row};
@@ -19,9 +20,9 @@ enum Other {
     Unknown,
 }
 
-pub struct Paired {
+pub struct Paired<D> {
     paint: Paint,
-    lines: Lines<false>,
+    lines: Lines<D, false>,
     /// The rows from the first request on that is not answered yet: a line says what comes later.
     held: VecDeque<(Row, Other)>,
     /// How many rows were written, and so the number of the first that is held.
@@ -33,7 +34,7 @@ pub struct Paired {
     left_open: u64,
 }
 
-impl Paired {
+impl<D: Dialect> Paired<D> {
     pub fn new(paint: Paint) -> Self {
         Self {
             paint,
@@ -62,14 +63,14 @@ impl Paired {
     /// The number of the latest request that a reply answers, which is answered then.
     fn answered(&mut self, row: &Row) -> Option<u64> {
         let open = self.open.get_mut(&row.tag)?.iter_mut();
-        let can = open.filter(|(ty, _)| answers(mark(*ty, row.tag), mark(row.ty, row.tag)));
+        let can = open.filter(|(ty, _)| D::answers(mark(*ty, row.tag), mark(row.ty, row.tag)));
         let (_, numbers) = can.max_by_key(|(_, numbers)| numbers.last().copied())?;
         numbers.pop()
     }
 
     /// No reply answers a request of no known type, so that nothing has to wait for it.
     fn request(&mut self, row: &Row) -> Other {
-        if message_name(row.ty).is_none() {
+        if D::name(row.ty).is_none() {
             return Other::Open;
         }
         let number = self.written + self.held.len() as u64;
@@ -122,7 +123,9 @@ fn mark(ty: u8, tag: u16) -> Mark {
     Mark { ty, tag }
 }
 
-impl Form for Paired {
+impl<D: Dialect> Form for Paired<D> {
+    type Dialect = D;
+
     fn begin(&mut self, heading: Option<&str>, text: &mut Vec<u8>) {
         self.lines.begin(heading, text);
         text.pop();

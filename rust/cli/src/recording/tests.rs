@@ -5,6 +5,9 @@ use std::io::{self, ErrorKind, Read};
 use sheafsledge::{stretch, Refusal};
 
 use super::*;
+use crate::dialect::{Plain, L};
+
+const INSTRUMENT: &[u8] = include_bytes!("../../../../examples/instrument-session.bin");
 
 const SESSION: &[u8] = include_bytes!("../../../../examples/diod-session.bin");
 
@@ -70,8 +73,11 @@ impl Source for Slow<'_> {
     }
 }
 
-fn all(source: impl Source, piece: usize) -> io::Result<(Vec<Row>, Vec<Broken>, Ended)> {
-    let mut recording = Recording::new(source, piece);
+fn all<D: Dialect>(
+    source: impl Source,
+    piece: usize,
+) -> io::Result<(Vec<Row>, Vec<Broken>, Ended)> {
+    let mut recording = Recording::<_, D>::new(source, piece);
     let (mut rows, mut broken) = (Vec::new(), Vec::new());
     loop {
         let ended = recording.go_on()?;
@@ -85,9 +91,9 @@ fn all(source: impl Source, piece: usize) -> io::Result<(Vec<Row>, Vec<Broken>, 
 }
 
 /// What the crate's iterator says of all the bytes at once.
-fn owed(bytes: &[u8]) -> (Vec<Row>, Ended) {
+fn owed<D: Dialect>(bytes: &[u8]) -> (Vec<Row>, Ended) {
     let mut rows = Vec::new();
-    for frame in stretch(bytes) {
+    for frame in D::stretch(bytes) {
         match frame {
             Ok(frame) => rows.push(Row::of(0, &frame)),
             Err(Stop { at, refusal }) => {
@@ -100,10 +106,10 @@ fn owed(bytes: &[u8]) -> (Vec<Row>, Ended) {
 }
 
 #[track_caller]
-fn is_as_one_stretch(bytes: &[u8], piece: usize, step: usize) {
-    let (rows, broken, ended) = all(Slow::new(bytes, step), piece).expect("it can be read");
+fn is_as_one_stretch<D: Dialect>(bytes: &[u8], piece: usize, step: usize) {
+    let (rows, broken, ended) = all::<D>(Slow::new(bytes, step), piece).expect("it can be read");
     let told = (rows, ended);
-    assert_eq!(told, owed(bytes), "pieces of {piece}, steps of {step}");
+    assert_eq!(told, owed::<D>(bytes), "pieces of {piece}, steps of {step}");
     let broken = broken.iter().map(shown);
     let owed = told.0.iter().filter_map(|row| breaks(row, bytes));
     assert!(broken.eq(owed), "pieces of {piece}, steps of {step}");
@@ -151,7 +157,7 @@ fn frames() -> Vec<Vec<u8>> {
     let byte = |pair: &[u8]| u8::from_str_radix(std::str::from_utf8(pair).ok()?, 16).ok();
     let bytes = |hex: &str| hex.as_bytes().chunks(2).map(byte).collect::<Option<_>>();
     let frames: Vec<Vec<u8>> = hex.filter_map(bytes).collect();
-    let whole = |frame: &Vec<u8>| frame.len() > 6 && owed(frame).0.len() == 1;
+    let whole = |frame: &Vec<u8>| frame.len() > 6 && owed::<L>(frame).0.len() == 1;
     frames.into_iter().filter(whole).collect()
 }
 
@@ -183,11 +189,29 @@ fn drawn(frames: &[Vec<u8>], draws: &mut Draws) -> Vec<u8> {
 }
 
 #[test]
+fn a_session_of_9p2000_cut_anywhere_is_listed_as_one_stretch() {
+    for cut in 0..=INSTRUMENT.len() {
+        for (piece, step) in [(7, 5), (19, 3), (64, 50), (1000, 1000)] {
+            is_as_one_stretch::<Plain>(&INSTRUMENT[..cut], piece, step);
+        }
+    }
+    // The Rstat's name breaks, in pieces that are shorter than the frame.
+    let mut bytes = INSTRUMENT.to_vec();
+    for (place, byte) in [(250 + 52, 0xff), (250 + 52, 0), (250 + 7, 0), (250 + 9, 0)] {
+        let was = std::mem::replace(&mut bytes[place], byte);
+        for piece in 7..120 {
+            is_as_one_stretch::<Plain>(&bytes, piece, 11);
+        }
+        bytes[place] = was;
+    }
+}
+
+#[test]
 fn a_session_cut_anywhere_is_listed_as_one_stretch() {
     let cuts = (0..200).chain((200..SESSION.len()).step_by(97));
     for cut in cuts.chain([SESSION.len()]) {
         for (piece, step) in [(7, 3), (64, 1 << 20), (1000, 999), (1 << 20, 1 << 20)] {
-            is_as_one_stretch(&SESSION[..cut], piece, step);
+            is_as_one_stretch::<L>(&SESSION[..cut], piece, step);
         }
     }
 }
@@ -196,11 +220,11 @@ fn a_session_cut_anywhere_is_listed_as_one_stretch() {
 fn pieces_end_at_every_byte() {
     let start = &SESSION[..1500];
     for piece in 0..300 {
-        is_as_one_stretch(start, piece, 1 << 20);
+        is_as_one_stretch::<L>(start, piece, 1 << 20);
     }
     for step in [1, 2, 3, 5, 8] {
-        is_as_one_stretch(SESSION, 8, step);
-        is_as_one_stretch(SESSION, 64, step);
+        is_as_one_stretch::<L>(SESSION, 8, step);
+        is_as_one_stretch::<L>(SESSION, 64, step);
     }
 }
 
@@ -211,16 +235,20 @@ fn drawn_stretches_are_listed_as_one() {
     let mut broken = 0;
     for _ in 0..200 {
         let bytes = drawn(&frames, draws);
-        broken += owed(&bytes).0.iter().filter(|row| row.breaks()).count();
+        broken += owed::<L>(&bytes)
+            .0
+            .iter()
+            .filter(|row| row.breaks())
+            .count();
         for piece in [7, 8, 11, 23, 64, 500, 1 << 20] {
-            is_as_one_stretch(&bytes, piece, 1 + draws.below(400));
+            is_as_one_stretch::<L>(&bytes, piece, 1 + draws.below(400));
         }
     }
     assert!(broken > 20, "{broken} broken strings");
 }
 
 /// Where a frame's header, its fields and its tail stand.
-fn ranges(start: u64, frame: &Listed) -> Vec<(u64, usize)> {
+fn ranges(start: u64, frame: &sheafsledge::Listed) -> Vec<(u64, usize)> {
     let fields = frame.fields().map(|field| field.range);
     let front = [frame.header_range()].into_iter().chain(fields);
     let all = front.chain([frame.tail_range()]);
@@ -240,7 +268,7 @@ fn fields_stand_where_those_of_one_stretch_do() {
             .collect();
         for piece in [7, 11, 23, 64, 1 << 20] {
             let source = Slow::new(&bytes, 1 + draws.below(400));
-            let (mut recording, mut told) = (Recording::new(source, piece), Vec::new());
+            let (mut recording, mut told) = (Recording::<_, L>::new(source, piece), Vec::new());
             while recording.go_on().expect("it can be read").is_none() {
                 let rows = recording.rows().iter();
                 told.extend(rows.flat_map(|row| ranges(row.at, &recording.frame(row))));
@@ -261,8 +289,8 @@ fn a_string_may_break_at_every_byte_of_a_long_frame() {
             frame[place] = byte;
             let bytes = [&frame[..], b"\x07\0\0\0\x6d\x01\0", &frame].concat();
             for piece in [7, 13, 21, 22, 23, 24, 30, 31, 32, 64] {
-                is_as_one_stretch(&bytes, piece, 5);
-                is_as_one_stretch(&bytes[..bytes.len() - 1], piece, 5);
+                is_as_one_stretch::<L>(&bytes, piece, 5);
+                is_as_one_stretch::<L>(&bytes[..bytes.len() - 1], piece, 5);
             }
         }
     }
@@ -272,8 +300,8 @@ fn a_string_may_break_at_every_byte_of_a_long_frame() {
 #[test]
 fn many_frames_of_one_piece_are_told_of_in_their_order() {
     let bytes = b"\x07\0\0\0\x6d\x01\0".repeat(3 * ROWS + 1);
-    is_as_one_stretch(&bytes, 1 << 20, 1 << 20);
-    is_as_one_stretch(&bytes[..7 * ROWS], 7 * ROWS, 1 << 20);
+    is_as_one_stretch::<L>(&bytes, 1 << 20, 1 << 20);
+    is_as_one_stretch::<L>(&bytes[..7 * ROWS], 7 * ROWS, 1 << 20);
 }
 
 /// What a long frame is judged by: its first bytes answer as all of it does, unless they are too
@@ -282,15 +310,15 @@ fn many_frames_of_one_piece_are_told_of_in_their_order() {
 fn an_answer_other_than_short_stands() {
     let (frames, draws) = (frames(), &mut Draws(2));
     for _ in 0..100 {
-        for row in owed(&drawn(&frames, draws)).0 {
+        for row in owed::<L>(&drawn(&frames, draws)).0 {
             assert!(row.tail <= row.size);
         }
         let bytes = drawn(&frames, draws);
         for frame in stretch(&bytes).flatten() {
             let bytes = &bytes[frame.at..frame.next];
             for end in 7..=bytes.len() {
-                let seen = front(&bytes[..end], bytes.len());
-                let short = refusal(&seen.body) == Some(Refusal::Short);
+                let seen = L::front(&bytes[..end], bytes.len());
+                let short = seen.body.refusal() == Some(Refusal::Short);
                 if !short || end == bytes.len() {
                     assert_eq!(Row::of(frame.at as u64, &seen), Row::of(0, &frame));
                 }
@@ -305,7 +333,7 @@ fn a_source_that_fails_is_told_of_at_any_byte() {
         for piece in [7, 64, 1 << 20] {
             let mut source = Slow::new(SESSION, 31);
             source.fails = Some(fails);
-            let error = all(source, piece).expect_err("it fails");
+            let error = all::<L>(source, piece).expect_err("it fails");
             assert_eq!(error.kind(), ErrorKind::PermissionDenied);
         }
     }
@@ -319,7 +347,7 @@ fn a_size_of_no_frame_stops_it_at_once() {
     for piece in [7, 64, 1 << 20] {
         let mut source = Slow::new(&bytes, 5);
         source.fails = Some(bytes.len());
-        let (rows, _, ended) = all(source, piece).expect("it is not read on");
+        let (rows, _, ended) = all::<L>(source, piece).expect("it is not read on");
         let (at, refusal) = (42, Refusal::StretchSize);
         assert_eq!((rows.len(), ended), (2, Ended::Stopped { at, refusal }));
     }
@@ -371,7 +399,7 @@ fn sparse(size: u32, ty: u8, body: &[u8], missing: u64) -> (String, u64) {
         zeros,
         read: &mut read,
     };
-    let (rows, _, ended) = all(source, PIECE).expect("it can be read");
+    let (rows, _, ended) = all::<L>(source, PIECE).expect("it can be read");
     let told = match (rows.as_slice(), ended) {
         ([row], Ended::Whole(_)) => format!("{} {} {}", row.size, row.answer(), row.tail),
         ([], Ended::Stopped { at, refusal }) => format!("stop {at} {}", refusal.number()),

@@ -2,24 +2,27 @@
 
 use std::ffi::OsStr;
 
+use crate::dialect::Dialect;
 use crate::list::{self, Form, Summary};
 use crate::recording::{Broken, Ended, Row};
 
 use super::hex;
 
-pub struct Json {
-    list: list::Json,
+pub struct Json<D> {
+    list: list::Json<D>,
     broken: u64,
 }
 
-impl Json {
+impl<D: Dialect> Json<D> {
     pub fn of(file: &OsStr) -> Self {
         let (list, broken) = (list::Json::of(file), 0);
         Self { list, broken }
     }
 }
 
-impl Form for Json {
+impl<D: Dialect> Form for Json<D> {
+    type Dialect = D;
+
     fn begin(&mut self, _: Option<&str>, _: &mut Vec<u8>) {}
 
     fn row(&mut self, row: &Row, _: &mut Vec<u8>) {

@@ -1,5 +1,6 @@
 //! A line for each string that breaks; with `NAMED`, two columns more.
 
+use crate::dialect::Dialect;
 use crate::digits::push;
 use crate::list::{self, name_it, Form, Summary};
 use crate::recording::{Broken, Ended, Row};
@@ -7,14 +8,14 @@ use crate::terminal::{Paint, Shade};
 
 use super::hex;
 
-pub struct Lines<const NAMED: bool> {
+pub struct Lines<D, const NAMED: bool> {
     paint: Paint,
     /// For the last line.
-    list: list::Lines<NAMED>,
+    list: list::Lines<D, NAMED>,
     broken: u64,
 }
 
-impl<const NAMED: bool> Lines<NAMED> {
+impl<D: Dialect, const NAMED: bool> Lines<D, NAMED> {
     pub fn new(paint: Paint) -> Self {
         let (list, broken) = (list::Lines::new(paint), 0);
         Self {
@@ -47,7 +48,9 @@ impl<const NAMED: bool> Lines<NAMED> {
     }
 }
 
-impl<const NAMED: bool> Form for Lines<NAMED> {
+impl<D: Dialect, const NAMED: bool> Form for Lines<D, NAMED> {
+    type Dialect = D;
+
     fn begin(&mut self, heading: Option<&str>, text: &mut Vec<u8>) {
         text.extend_from_slice(heading.unwrap_or_default().as_bytes());
         text.extend_from_slice(b"at answer place bytes");
@@ -66,7 +69,7 @@ impl<const NAMED: bool> Form for Lines<NAMED> {
         }
         self.bytes(broken, text);
         if NAMED {
-            name_it(row, text);
+            name_it::<D>(row, text);
         }
         text.push(b'\n');
     }

@@ -4,6 +4,7 @@ mod json;
 mod lines;
 
 use crate::command::Command;
+use crate::dialect::{self, Dialect, Plain, DIALECT, L};
 use crate::help;
 use crate::list::{self, JSON, OUTPUT};
 use crate::status::{Failure, Status};
@@ -35,18 +36,22 @@ broken; or the string's first zero byte. No byte of another frame is shown, and
 The last line is that of 'sheafsledge list'. Nothing is printed of other frames,
 but the summary on standard error counts all.
 ",
-    options: &[NAMES, JSON, OUTPUT, help::HELP],
+    options: &[NAMES, JSON, DIALECT, OUTPUT, help::HELP],
     examples: &["where examples/diod-session.bin"],
     status: "0 if no string breaks and there is no stop, else 1",
     run,
 };
 
 fn run(words: &Words) -> Result<Status, Failure> {
+    dialect::of(words, [run_in::<L>, run_in::<Plain>])?(words)
+}
+
+fn run_in<D: Dialect>(words: &Words) -> Result<Status, Failure> {
     let forms = (words.has(JSON.long), words.has(NAMES.long));
     list::listed(words, |paint, listing, files| match forms {
-        (true, _) => listing.of(files, Json::of),
-        (false, true) => listing.of(files, |_| Lines::<true>::new(paint)),
-        (false, false) => listing.of(files, |_| Lines::<false>::new(paint)),
+        (true, _) => listing.of(files, Json::<D>::of),
+        (false, true) => listing.of(files, |_| Lines::<D, true>::new(paint)),
+        (false, false) => listing.of(files, |_| Lines::<D, false>::new(paint)),
     })
 }
 

@@ -1,5 +1,6 @@
 //! The command as users run it.
 
+mod dialects;
 mod entries;
 mod fields;
 mod join;

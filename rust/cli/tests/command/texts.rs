@@ -118,6 +118,29 @@ fn files_are_completed() {
 }
 
 #[test]
+fn dialects_are_completed() {
+    for (typed, told) in [
+        (
+            &["sheafsledge", "list", "--dialect", ""][..],
+            "9P2000.L 9P2000",
+        ),
+        (
+            &["sheafsledge", "fields", "--dialect", "="],
+            "9P2000.L 9P2000",
+        ),
+        (
+            &["sheafsledge", "pairs", "--dialect", "=", "9P2000."],
+            "9P2000.L",
+        ),
+        (&["sheafsledge", "where", "--dialect", "9P2001"], ""),
+    ] {
+        if let Some(offers) = offered(typed) {
+            assert_eq!(offers, words(told), "{typed:?}");
+        }
+    }
+}
+
+#[test]
 fn the_manual_has_this_version() {
     let version = format!("\"sheafsledge {}\"", env!("CARGO_PKG_VERSION"));
     assert!(MANUAL
