@@ -11,7 +11,7 @@ use Rattle.utf8.specs.Utf8.{char, chars, utf8, noZero}
 use Rattle.strings.specs.Spans.{showSpan, showString}
 use Rattle.fields.specs.Layouts.{string, qids, readField, readFields, itemBytes, itemsBytes}
 use Rattle.fields.specs.Values.{places, show, shows}
-use Rattle.layouts.specs.Tables.{layoutRwalk}
+use Rattle.layouts.specs.Tables.{layoutRwalk, tableT, tableR}
 use Rattle.layouts.specs.declared.qids.Qid.{Qid}
 use Rattle.framing.specs.Frames.{readTypeTag, readHeader, readFrame}
 use Rattle.tables.specs.Tables.{nameFields, nameValues, qidItems}
@@ -34,19 +34,19 @@ pub same-places : places 7 (qids (length one) (qidsBytes one) ∷ []) ≡ places
 unfolding places itemBytes itemsBytes qidItems toLE
 same-places = refl
 
-pub qids-apart : {tag n tag' n' : ℕ} {o' : List ℕ} → RwalkBack tag one o' n → RwalkBack tag' two o' n' → ⊥
+pub qids-apart : {tag n tag' n' : ℕ} {o' : List ℕ} → RwalkBack tableR tag one o' n → RwalkBack tableR tag' two o' n' → ⊥
 qids-apart B C =
     let e = rwalk-one one two ((lit< tt, lit< tt, lit< tt), tt) ((lit< tt, lit< tt, lit< tt), tt) B C .1 in
     let z : _≡_ {A = ℕ} 1 2 = ap firstPath e in
     omega arith
 
 -- an Rwalk of the first, computed
-pub rwalk-of-one : RwalkBack 1 one (22 ∷ 0 ∷ 0 ∷ 0 ∷ 111 ∷ 1 ∷ 0 ∷ 1 ∷ 0 ∷ 128 ∷ 0 ∷ 0 ∷ 0 ∷ 0 ∷ 1 ∷ 0 ∷ 0 ∷ 0 ∷ 0 ∷ 0 ∷ 0 ∷ 0 ∷ []) 22
+pub rwalk-of-one : RwalkBack tableR 1 one (22 ∷ 0 ∷ 0 ∷ 0 ∷ 111 ∷ 1 ∷ 0 ∷ 1 ∷ 0 ∷ 128 ∷ 0 ∷ 0 ∷ 0 ∷ 0 ∷ 1 ∷ 0 ∷ 0 ∷ 0 ∷ 0 ∷ 0 ∷ 0 ∷ 0 ∷ []) 22
 unfolding fromLE toLE raw readNum readField readFields itemBytes itemsBytes places qidItems readTypeTag readHeader readFrame shows show showSpan
 rwalk-of-one = record { reads = refl; after = refl }
 
 -- the statement with the other table's qids is false
-pub qids-not-shown : {tag n : ℕ} {o' : List ℕ} → RwalkBack tag one o' n → shows layoutRwalk o' (places 7 (qids (length one) (qidsBytes one) ∷ [])) ≡ ok (qids (length two) (qidsBytes two) ∷ []) [] → ⊥
+pub qids-not-shown : {tag n : ℕ} {o' : List ℕ} → RwalkBack tableR tag one o' n → shows layoutRwalk o' (places 7 (qids (length one) (qidsBytes one) ∷ [])) ≡ ok (qids (length two) (qidsBytes two) ∷ []) [] → ⊥
 qids-not-shown B w =
     let d : ok (qids (length one) (qidsBytes one) ∷ []) [] ≡ ok (qids (length two) (qidsBytes two) ∷ []) [] = sym (B .after) ∙ w in
     let e = qids-one one two ((lit< tt, lit< tt, lit< tt), tt) ((lit< tt, lit< tt, lit< tt), tt) (cc d) in
@@ -66,7 +66,7 @@ shown-b : shows (nameFields row) (98 ∷ []) (nameValues row) ≡ ok (string (98
 unfolding shows show showString showSpan char chars utf8 noZero
 shown-b = refl
 
-pub names-apart : {tag n tag' n' : ℕ} {o' : List ℕ} → TwalkBack tag 1 2 (97 ∷ []) row o' n → TwalkBack tag' 1 2 (98 ∷ []) row o' n' → ⊥
+pub names-apart : {tag n tag' n' : ℕ} {o' : List ℕ} → TwalkBack tableT tag 1 2 (97 ∷ []) row o' n → TwalkBack tableT tag' 1 2 (98 ∷ []) row o' n' → ⊥
 names-apart B C =
     let a : string (97 ∷ []) ∷ [] ≡ map string (B .names) = (let d = sym shown-a ∙ B .shown in cc d) in
     let b : string (98 ∷ []) ∷ [] ≡ map string (C .names) = (let d = sym shown-b ∙ C .shown in cc d) in

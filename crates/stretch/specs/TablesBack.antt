@@ -19,7 +19,9 @@ use Rattle.fields.specs.Layouts.{num, Item, number, string, strings, qids, kind
 use Rattle.fields.specs.LayoutLaws.{reads-fields}
 use Rattle.fields.specs.Values.{val, span, places, show, shows}
 use Rattle.fields.specs.ValueLaws.{shows-items}
-use Rattle.layouts.specs.Tables.{Row, layoutTwalk, layoutRwalk, tableT, tableR}
+use Rattle.layouts.specs.Tables.{Row, lookup, layoutTwalk, layoutRwalk}
+use Rattle.layouts.specs.Tables as L
+use Rattle.layouts.specs.Plain as P
 use Rattle.layouts.specs.Bodies.{accepted}
 use Rattle.layouts.specs.declared.qids.Qid.{Qid}
 use Rattle.framing.specs.Frames.{framed, readFrame}
@@ -97,11 +99,11 @@ names-bytes [] = refl
 names-bytes (b ∷ bs) = ap (λ (x : List ℕ). stringBytes b ++ x) (names-bytes bs)
 
 -- the names that the table's spans show, the frame that is read, and those names shown of the frame's bytes
-pub record TwalkBack (tag fid newfid : ℕ) (lent : List ℕ) (t : List (List ℕ)) (o' : List ℕ) (n : ℕ) : Type 0 where
+pub record TwalkBack (rows : List Row) (tag fid newfid : ℕ) (lent : List ℕ) (t : List (List ℕ)) (o' : List ℕ) (n : ℕ) : Type 0 where
   pub names : List (List ℕ)
   pub left : List ℕ
   pub shown : shows (nameFields t) lent (nameValues t) ≡ ok (map string names) left
-  pub reads : readFrame tableT o' ≡ framed 0 tag (accepted 110 (places 7 (number 4 fid ∷ number 4 newfid ∷ strings names ∷ [])) n)
+  pub reads : readFrame rows o' ≡ framed 0 tag (accepted 110 (places 7 (number 4 fid ∷ number 4 newfid ∷ strings names ∷ [])) n)
   pub after : shows layoutTwalk o' (places 7 (number 4 fid ∷ number 4 newfid ∷ strings names ∷ [])) ≡ ok (number 4 fid ∷ number 4 newfid ∷ strings names ∷ []) []
 
 walk-inv : {X : Type 0} (t : List (List ℕ)) (lent : List ℕ) (fid newfid k : ℕ) {is : List Item} {r : List ℕ} → shows (walkFields t) lent (walkValues fid newfid k t) ≡ ok is r
@@ -122,9 +124,9 @@ unfolding itemsBytes itemBytes
 walk-bytes fid newfid l =
     ap (λ (x : List ℕ). toLE 4 fid ++ (toLE 4 newfid ++ x)) (ap (λ (x : List ℕ). toLE 2 (length l) ++ x) (names-bytes l) ∙ sym (append-nil (toLE 2 (length l) ++ manyBytes l)))
 
-pub twalk-back : {tag fid newfid n : ℕ} {lent o o' : List ℕ} (t : List (List ℕ)) → tag < 256 ^ 2 → fid < 256 ^ 4 → newfid < 256 ^ 4 → TwalkWritten tag fid newfid lent t o o' (At n)
-    → TwalkBack tag fid newfid lent t o' n
-twalk-back {tag} {fid} {newfid} {n} {lent} {o} {o'} t g x y w =
+pub twalk-back : {rows : List Row} {tag fid newfid n : ℕ} {lent o o' : List ℕ} (t : List (List ℕ)) → lookup rows 110 ≡ some layoutTwalk → tag < 256 ^ 2 → fid < 256 ^ 4 → newfid < 256 ^ 4 → TwalkWritten tag fid newfid lent t o o' (At n)
+    → TwalkBack rows tag fid newfid lent t o' n
+twalk-back {rows} {tag} {fid} {newfid} {n} {lent} {o} {o'} t k g x y w =
     let m : Result (List Item) = shows (walkFields t) lent (walkValues fid newfid (length t) t) in
     let p = in-table (length t) m (w .is) in
     let W = p .1 in
@@ -137,12 +139,12 @@ twalk-back {tag} {fid} {newfid} {n} {lent} {o} {o'} t g x y w =
     let ks : List Item = number 4 fid ∷ number 4 newfid ∷ strings l ∷ [] in
     let i : itemsBytes (W .items) ≡ itemsBytes ks
     = ap itemsBytes (f ∙ ap₂ (λ k (z : List Item). number 4 fid ∷ number 4 newfid ∷ number 2 k ∷ z) (sym c) (N .are)) ∙ walk-bytes fid newfid l in
-    let B : FrameBack tableT 110 tag n o' ks
-    = frame-back W i (record { sized = let z = W .small in omega arith; typed = lit< tt; tagged = g; goods = (x, (y, ((omega arith, N .good), tt))); known = refl }) in
+    let B : FrameBack rows 110 tag n o' ks
+    = frame-back W i (record { sized = let z = W .small in omega arith; typed = lit< tt; tagged = g; goods = (x, (y, ((omega arith, N .good), tt))); known = k }) in
     record { names = l; left = r; shown = e ∙ ap (λ z. ok z r) (N .are); reads = B .reads; after = B .after })
 
 -- one output is the Twalk of one pair of fids and of one list of names
-pub twalk-one : {tag fid newfid n tag' fid' newfid' n' : ℕ} {lent lent' o' : List ℕ} {t t' : List (List ℕ)} (B : TwalkBack tag fid newfid lent t o' n) (C : TwalkBack tag' fid' newfid' lent' t' o' n')
+pub twalk-one : {rows : List Row} {tag fid newfid n tag' fid' newfid' n' : ℕ} {lent lent' o' : List ℕ} {t t' : List (List ℕ)} (B : TwalkBack rows tag fid newfid lent t o' n) (C : TwalkBack rows tag' fid' newfid' lent' t' o' n')
     → (tag ≡ tag') × (fid ≡ fid') × (newfid ≡ newfid') × (B .names ≡ C .names)
 twalk-one B C =
     let e = frame-one refl (record { reads = B .reads; after = B .after }) (record { reads = C .reads; after = C .after }) in
@@ -152,21 +154,21 @@ twalk-one B C =
 -- ---- qids
 
 -- the qids that were written stand in the frame that is read, 13 bytes each, and are shown of its bytes
-pub record RwalkBack (tag : ℕ) (t : List Qid) (o' : List ℕ) (n : ℕ) : Type 0 where
-  pub reads : readFrame tableR o' ≡ framed 0 tag (accepted 111 (places 7 (qids (length t) (qidsBytes t) ∷ [])) n)
+pub record RwalkBack (rows : List Row) (tag : ℕ) (t : List Qid) (o' : List ℕ) (n : ℕ) : Type 0 where
+  pub reads : readFrame rows o' ≡ framed 0 tag (accepted 111 (places 7 (qids (length t) (qidsBytes t) ∷ [])) n)
   pub after : shows layoutRwalk o' (places 7 (qids (length t) (qidsBytes t) ∷ [])) ≡ ok (qids (length t) (qidsBytes t) ∷ []) []
 
-pub rwalk-back : {tag n : ℕ} {o o' : List ℕ} (t : List Qid) → tag < 256 ^ 2 → RwalkWritten tag t o o' (At n) → RwalkBack tag t o' n
+pub rwalk-back : {rows : List Row} {tag n : ℕ} {o o' : List ℕ} (t : List Qid) → lookup rows 111 ≡ some layoutRwalk → tag < 256 ^ 2 → RwalkWritten tag t o o' (At n) → RwalkBack rows tag t o' n
 unfolding itemsBytes itemBytes
-rwalk-back {tag} {n} {o} {o'} t g w =
+rwalk-back {rows} {tag} {n} {o} {o'} t k g w =
     let p = in-table (length t) (ok (number 2 (length t) ∷ qidItems t) []) (w .is) in
     let W = p .1 in
     let h = p .0 in
     let e = W .shown in
     let f : number 2 (length t) ∷ qidItems t ≡ W .items = cc e in
     let i : itemsBytes (W .items) ≡ itemsBytes (qids (length t) (qidsBytes t) ∷ []) = ap itemsBytes (sym f) ∙ sym (append-nil (toLE 2 (length t) ++ qidsBytes t)) in
-    let B : FrameBack tableR 111 tag n o' (qids (length t) (qidsBytes t) ∷ [])
-    = frame-back W i (record { sized = let z = W .small in omega arith; typed = lit< tt; tagged = g; goods = ((omega arith, qids-length t), tt); known = refl }) in
+    let B : FrameBack rows 111 tag n o' (qids (length t) (qidsBytes t) ∷ [])
+    = frame-back W i (record { sized = let z = W .small in omega arith; typed = lit< tt; tagged = g; goods = ((omega arith, qids-length t), tt); known = k }) in
     record { reads = B .reads; after = B .after }
 
 -- qids whose numbers fit their fields
@@ -214,8 +216,12 @@ qids-one t t' g h e =
     qids-of-items t t' (cc d)
 
 -- one output is the Rwalk of one table
-pub rwalk-one : {tag n tag' n' : ℕ} {o' : List ℕ} (t t' : List Qid) → QidsFit t → QidsFit t' → RwalkBack tag t o' n → RwalkBack tag' t' o' n' → (tag ≡ tag') × (t ≡ t')
+pub rwalk-one : {rows : List Row} {tag n tag' n' : ℕ} {o' : List ℕ} (t t' : List Qid) → QidsFit t → QidsFit t' → RwalkBack rows tag t o' n → RwalkBack rows tag' t' o' n' → (tag ≡ tag') × (t ≡ t')
 rwalk-one t t' g h B C =
     let e = frame-one refl (record { reads = B .reads; after = B .after }) (record { reads = C .reads; after = C .after }) in
     let f = e .2 in
     (e .0, qids-one t t' g h (cc f))
+
+-- every dialect has the rows of both walks, and so what is written from tables is read back in each
+pub walks-everywhere : ((lookup L.tableT 110 ≡ some layoutTwalk) × (lookup L.tableR 111 ≡ some layoutRwalk)) × ((lookup P.tableT 110 ≡ some layoutTwalk) × (lookup P.tableR 111 ≡ some layoutRwalk))
+walks-everywhere = ((refl, refl), (refl, refl))
