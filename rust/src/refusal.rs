@@ -123,6 +123,11 @@ refusals! {
     16 HoldsRefusal InvalidData "the frame holds a refusal, and no message to write"
     17 TooManyElements InvalidInput "a walk has more than sixteen elements"
     18 StatMalformed InvalidData "a stat's count, its size and its fields do not agree"
+    19 Trailer InvalidData "the recording has no trailer, or not that of its frames"
+    20 TagOpen InvalidData "the request's tag is that of an open request"
+    21 NoRequest InvalidData "the reply answers no open request"
+    22 FidInUse InvalidData "a fid that has to be new is in use"
+    23 FidUnknown InvalidInput "the fid is unknown"
     24 TableFull InvalidInput "the table has too few rows"
     25 Capture InvalidData "the capture file is malformed, or the frame does not fit one"
     26 MsizeTooSmall InvalidInput "the msize is below 24, and no Twrite with data fits"
@@ -201,7 +206,7 @@ mod tests {
             let told = Refusal::of(number, 14).map(Refusal::number);
             let owed = match number {
                 0 => None,
-                1..=18 | 24..=27 => Some(number),
+                1..=27 => Some(number),
                 _ => Some(255),
             };
             assert_eq!(told, owed);

@@ -25,6 +25,11 @@ numberOf R.NoSuchElement = 15
 numberOf R.HoldsRefusal = 16
 numberOf R.TooManyElements = 17
 numberOf R.StatMalformed = 18
+numberOf R.Trailer = 19
+numberOf R.TagOpen = 20
+numberOf R.NoRequest = 21
+numberOf R.FidInUse = 22
+numberOf R.FidUnknown = 23
 numberOf R.TableFull = 24
 numberOf R.Capture = 25
 numberOf R.MsizeTooSmall = 26
@@ -34,7 +39,7 @@ numberOf R.EndTooFar = 27
 
 -- in the order of their numbers, from 0 on; `Short` stands where a number is no refusal's
 abbrev byNumber : List Refusal
-byNumber = R.Short ∷ R.Short ∷ R.SizeBelowFour ∷ R.UnknownType ∷ R.DataTooLong ∷ R.NotUtf8 ∷ R.ZeroByte ∷ R.StringTooLong ∷ R.TableTooLong ∷ R.SpanOutside ∷ R.FrameTooLong ∷ R.NoRoom ∷ R.StretchCut ∷ R.StretchSize ∷ R.PartMalformed ∷ R.NoSuchElement ∷ R.HoldsRefusal ∷ R.TooManyElements ∷ R.StatMalformed ∷ R.Short ∷ R.Short ∷ R.Short ∷ R.Short ∷ R.Short ∷ R.TableFull ∷ R.Capture ∷ R.MsizeTooSmall ∷ R.EndTooFar ∷ []
+byNumber = R.Short ∷ R.Short ∷ R.SizeBelowFour ∷ R.UnknownType ∷ R.DataTooLong ∷ R.NotUtf8 ∷ R.ZeroByte ∷ R.StringTooLong ∷ R.TableTooLong ∷ R.SpanOutside ∷ R.FrameTooLong ∷ R.NoRoom ∷ R.StretchCut ∷ R.StretchSize ∷ R.PartMalformed ∷ R.NoSuchElement ∷ R.HoldsRefusal ∷ R.TooManyElements ∷ R.StatMalformed ∷ R.Trailer ∷ R.TagOpen ∷ R.NoRequest ∷ R.FidInUse ∷ R.FidUnknown ∷ R.TableFull ∷ R.Capture ∷ R.MsizeTooSmall ∷ R.EndTooFar ∷ []
 
 there : (k : Refusal) → getD byNumber (numberOf k) R.Short ≡ k
 there R.Short = refl
@@ -55,6 +60,11 @@ there R.NoSuchElement = refl
 there R.HoldsRefusal = refl
 there R.TooManyElements = refl
 there R.StatMalformed = refl
+there R.Trailer = refl
+there R.TagOpen = refl
+there R.NoRequest = refl
+there R.FidInUse = refl
+there R.FidUnknown = refl
 there R.TableFull = refl
 there R.Capture = refl
 there R.MsizeTooSmall = refl
