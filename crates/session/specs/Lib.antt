@@ -1,0 +1,7 @@
+pub mod Rows
+pub mod Rules
+pub mod Steady
+pub mod Keys
+pub mod Sound
+pub mod Words
+pub mod Own
