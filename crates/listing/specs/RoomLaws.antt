@@ -1,5 +1,5 @@
 -- The text of any input fits the room, over any two tables; so the lister's promise has no premise.
-use Prim.Native.Nat.{ℕ, zero, suc, _+_, _*_, _/_, _%_, _^_, _≤_, _<_}
+use Prim.Native.Nat.{ℕ, zero, suc, _+_, _*_, _-_, _/_, _%_, _^_, _≤_, _<_}
 use native.Mathlib.Omega.{arith}
 use native.Mathlib.Nat.{pow-le-pow-right}
 use mathlib.Core.Path.{_≡_, refl, sym, ap, _∙_}
@@ -19,10 +19,9 @@ use Rattle.numbers.specs.declared.Place.{Place}
 use Rattle.numbers.specs.declared.Place.the-variants.{At, Refused}
 use Rattle.layouts.specs.Tables.{Row, tableT, tableR}
 use Rattle.layouts.specs.Bodies.{Answer, accepted, refused}
-use Rattle.framing.specs.Raising.{raise}
 use Rattle.framing.specs.Stretch.{typeIn, tagIn, tailIn, answerOf, front, stop, Listing, entry, ends, stops, listFrom, listing}
 use Rattle.framing.specs.ListingLaws.{front-case, list-next}
-use Rattle.listing.specs.Text.{figures, decimal, joined, newline, fieldPieces, answerNumber, linePieces, endWord, stopWord, lastPieces, linesFrom, report, ReportPut, HasPosition, room, Reported}
+use Rattle.listing.specs.Text.{figures, decimal, joined, newline, fieldPieces, answerNumber, linePieces, endWord, stopWord, lastPieces, header, linesFrom, report, ReportPut, positionOf, room, Reported}
 use Rattle.listing.specs.TextLaws.{all-fits}
 
 -- ---- a number below 10 ^ k has at most k figures (F8.4)
@@ -129,18 +128,36 @@ record Lines (bytes text : ℕ) : Type 0 where
   seven : 7 * frames ≤ bytes
   most : text ≤ 31 * frames + 15
 
--- one line more
-one-more : (at size ty tag n left bytes : ℕ) (a : Answer) (l : Listing) → at < 10 ^ 5 → size < 10 ^ 5 → ty < 10 ^ 3 → tag < 10 ^ 5 → 7 ≤ size → size + left ≤ bytes
-    → Lines left (length (joined (linesFrom (suc n) l))) → Lines bytes (length (joined (linesFrom n (entry at size ty tag (raise at a) (tailIn size a) l))))
+-- fields as narrow as those of so many bytes, after n frames
+abbrev pub Narrow : ℕ → ℕ → Listing → Type 0
+Narrow n bytes (entry at size ty tag a tail l) =
+    ((at < 10 ^ 5) × (size < 10 ^ 5) × (ty < 10 ^ 3) × (tag < 10 ^ 5) × (tail < 10 ^ 5) × (7 ≤ size) × (size ≤ bytes)) × Narrow (suc n) (bytes - size) l
+Narrow n bytes (ends p) = (p < 10 ^ 5) × (n < 10 ^ 4)
+Narrow n bytes (stops k p) = p < 10 ^ 5
+
+narrow-lines : (n bytes : ℕ) (l : Listing) → Narrow n bytes l → Lines bytes (length (joined (linesFrom n l)))
 unfolding linesFrom
-one-more at size ty tag n left bytes a l h1 h2 h3 h4 h5 h6 i =
-    let e = answer-most (raise at a) in
-    let f = tail-within size a in
-    let g = line-most h1 h2 h3 h4 e (let z : tailIn size a < 10 ^ 5 = omega arith in z) in
-    let j = joined-append (linePieces at size ty tag (answerNumber (raise at a)) (tailIn size a)) (linesFrom (suc n) l) in
+narrow-lines n bytes (entry at size ty tag a tail l) h =
+    let f = h .0 in
+    let i = narrow-lines (suc n) (bytes - size) l (h .1) in
+    let g = line-most (f .0) (f .1) (f .2) (f .3) (answer-most a) (f .4) in
+    let j = joined-append (linePieces at size ty tag (answerNumber a) tail) (linesFrom (suc n) l) in
+    let v = f .5 in
+    let w = f .6 in
     let s = i .seven in
     let m = i .most in
     record { frames = suc (i .frames); seven = omega arith; most = omega arith }
+narrow-lines n bytes (ends p) h = record { frames = 0; seven = omega arith; most = last-most endWord 4 p n (omega arith) (omega arith) (h .0) (h .1) }
+narrow-lines n bytes (stops k p) h = record { frames = 0; seven = omega arith; most = last-most stopWord 2 p (numberOf k) (omega arith) (omega arith) h (number-most k) }
+
+-- 29 bytes of header, at most 9,362 lines of at most 31, and a last line of at most 15
+pub narrow-most : (bytes : ℕ) (l : Listing) → bytes ≤ 65536 → Narrow 0 bytes l → length (joined (header ∷ linesFrom 0 l)) ≤ room
+unfolding joined
+narrow-most bytes l b h =
+    let i = narrow-lines 0 bytes l h in
+    let m = i .most in
+    let v = i .seven in
+    omega arith
 
 module _ (ts rs : List Row) where
   none-left : (p : ℕ) → listFrom ts rs p 0 [] ≡ ends p
@@ -153,11 +170,10 @@ module _ (ts rs : List Row) where
 
   -- of fewer than k bytes, from p on, after n frames
   abbrev Most : ℕ → Type 0
-  Most k = (xs : List ℕ) (p n : ℕ) → length xs < k → Bytes xs → p + length xs ≤ 65536 → 7 * n ≤ p → Lines (length xs) (length (joined (linesFrom n (listFrom ts rs p 0 xs))))
+  Most k = (xs : List ℕ) (p n : ℕ) → length xs < k → Bytes xs → p + length xs ≤ 65536 → 7 * n ≤ p → Narrow n (length xs) (listFrom ts rs p 0 xs)
 
   step : (k : ℕ) → Most k → Most (suc k)
-  unfolding linesFrom
-  step k ih [] p n h b l m = rw (none-left p) record { frames = 0; seven = omega arith; most = last-most endWord 4 p n (omega arith) (omega arith) (omega arith) (omega arith) }
+  step k ih [] p n h b l m = rw (none-left p) (omega arith, omega arith)
   step k ih (x ∷ xs) p n h b l m =
       front-case ts rs p (x ∷ xs)
       (λ size f e.
@@ -169,26 +185,24 @@ module _ (ts rs : List Row) where
       let d = length-drop size (x ∷ xs) in
       let u = taken-most 1 (drop 4 g) (bytes-drop 4 g c) in
       let v = taken-most 2 (drop 5 g) (bytes-drop 5 g c) in
+      let w = tail-within size (answerOf ts rs g) in
       let i = ih r (p + size) (suc n) (omega arith) (bytes-drop size (x ∷ xs) b) (omega arith) (omega arith) in
-      rw (list-next ts rs p size (x ∷ xs) f)
-      (one-more p size (typeIn g) (tagIn g) n (length r) (length (x ∷ xs)) (answerOf ts rs g) (listFrom ts rs (p + size) 0 r) (omega arith) (omega arith) (omega arith) (omega arith) s (omega arith) i))
-      (λ k e. rw (stopped p x xs e) record { frames = 0; seven = omega arith; most = last-most stopWord 2 p (numberOf k) (omega arith) (omega arith) (omega arith) (number-most k) })
+      rw (list-next ts rs p size (x ∷ xs) f) ((omega arith, omega arith, omega arith, omega arith, omega arith, s, t), rw d at i))
+      (λ k e. rw (stopped p x xs e) (omega arith))
 
   lines-most : (k : ℕ) → Most k
   lines-most zero = λ xs p n h b l m. absurd (omega arith)
   lines-most (suc k) = step k (lines-most k)
 
-  -- 29 bytes of header, at most 9,362 lines of at most 31, and a last line of at most 15; or the one line of F8.1
+  pub listing-narrow : (s : List ℕ) → Bytes s → length s ≤ 65536 → Narrow 0 (length s) (listing ts rs s)
+  unfolding listing
+  listing-narrow s b h = lines-most (suc (length s)) s 0 0 (omega arith) b (omega arith) (omega arith)
+
+  -- that much, or the one line of F8.1
   pub text-most : (s : List ℕ) → Bytes s → length (joined (report ts rs s)) ≤ room
-  unfolding joined listing
+  unfolding joined
   text-most s b =
-      or-else (length s) 65536
-      (λ h.
-      let i = lines-most (suc (length s)) s 0 0 (omega arith) b (omega arith) (omega arith) in
-      let m = i .most in
-      let v = i .seven in
-      rw (le-ltb 65536 (length s) h) (omega arith))
-      (λ h. rw (lt-ltb 65536 (length s) h) (omega arith))
+      or-else (length s) 65536 (λ h. rw (le-ltb 65536 (length s) h) (narrow-most (length s) (listing ts rs s) h (listing-narrow s b h))) (λ h. rw (lt-ltb 65536 (length s) h) (omega arith))
 
 -- ---- the promise
 
@@ -198,11 +212,5 @@ report-fits {s} {o} b l r =
     let w = all-fits (report tableT tableR s) o 0 (omega arith) in
     (r .is .bytes ∙ w .bytes, r .is .next ∙ w .next ∙ ap At (omega arith))
 
-pub no-position : {X : Type 0} {q : Place} {k : Refusal} {at : ℕ} → q ≡ Refused k at → HasPosition q → X
-no-position e h = absurd (rw e at h)
-
-pub has-position : {q : Place} {n : ℕ} → q ≡ At n → HasPosition q
-has-position e = rw e tt
-
-pub reported : {s o o' : List ℕ} {q : Place} {n : ℕ} → Bytes s → room ≡ length o → ReportPut s o o' q → q ≡ At n → Reported s o o' n
-reported b l r e = let f = report-fits b l r in record { bytes = f .0; count = let g = sym e ∙ f .1 in cc g }
+pub reported : {s o o' : List ℕ} {q : Place} {n : ℕ} → Bytes s → room ≡ length o → ReportPut s o o' q → n ≡ positionOf q → Reported s o o' n
+reported b l r e = let f = report-fits b l r in record { bytes = f .0; count = e ∙ ap positionOf (f .1) }

@@ -113,6 +113,11 @@ pub record FieldPut (n : ℕ) (next o : List ℕ) (p : Place) (o' : List ℕ) (q
 pub record TailPut (n tail : ℕ) (o : List ℕ) (p : Place) (o' : List ℕ) (q : Place) : Type 0 where
   pub is : PiecesPut (tailPieces n tail) o p o' q
 
+-- with an answer that is told
+pub record FramePut (l : Listed) (n : ℕ) (o : List ℕ) (p : Place) (o' : List ℕ) (q : Place) : Type 0 where
+  pub is : PiecesPut (linePieces (l .at) (l .size) (l .ty) (l .tag .0) n (l .tail)) o p o' q
+
+-- with the body's own
 pub record LinePut (l : Listed) (o : List ℕ) (p : Place) (o' : List ℕ) (q : Place) : Type 0 where
   pub is : PiecesPut (linePieces (l .at) (l .size) (l .ty) (l .tag .0) (answerNumber (viewBody (l .body))) (l .tail)) o p o' q
 
@@ -127,10 +132,10 @@ pub record LinesPut (s o : List ℕ) (p : Place) (o' : List ℕ) (q : Place) : T
 pub record ReportPut (s o o' : List ℕ) (q : Place) : Type 0 where
   pub is : PiecesPut (report tableT tableR s) o (At 0) o' q
 
--- a place that is not refused
-abbrev pub HasPosition : Place → Type 0
-HasPosition (At n) = Unit {0}
-HasPosition (Refused k at) = ⊥
+-- where a place is; 0 where it is refused
+abbrev pub positionOf : Place → ℕ
+positionOf (At n) = n
+positionOf (Refused k at) = 0
 
 -- ---- what the lister promises
 

@@ -22,7 +22,7 @@ use Rattle.strings.specs.Spans.{bytesIn, showSpan, checkAt, SpanPut}
 use Rattle.strings.specs.SpanLaws.{shown-in, passing}
 use Rattle.layouts.specs.Tables.{tableT, tableR}
 use Rattle.framing.specs.WritingLaws.{put-fits, past-fits, put-over, over-none}
-use Rattle.listing.specs.Text.{figures, decimal, putAll, pastAll, PiecesPut, joined, space, newline, answerNumber, DecimalPut, FieldPut, TailPut, LinePut, LastPut, report, Reported}
+use Rattle.listing.specs.Text.{figures, decimal, putAll, pastAll, PiecesPut, joined, space, newline, answerNumber, DecimalPut, FieldPut, TailPut, FramePut, LinePut, LastPut, report, Reported}
 use Rattle.stretch.specs.Views.{viewBody}
 use Rattle.stretch.specs.declared.Listed.{Listed}
 
@@ -93,9 +93,12 @@ tail-none {n} e a = record { is = rw (ne-eqb n 0 e) (all-put a all-none) }
 pub last-put : {w o o1 o2 o3 : List ℕ} {x n : ℕ} {p q r t : Place} → Put w o p o1 q → FieldPut x space o1 q o2 r → FieldPut n newline o2 r o3 t → LastPut w x n o p o3 t
 last-put a b c = record { is = all-put a (all-then (b .is) (c .is)) }
 
-pub line-put : (l : Listed) {n : ℕ} {o o1 o2 o3 o4 o5 o6 : List ℕ} {p a b c d e q : Place} → n ≡ answerNumber (viewBody (l .body)) → FieldPut (l .at) space o p o1 a → FieldPut (l .size) space o1 a o2 b
-    → FieldPut (l .ty) space o2 b o3 c → FieldPut (l .tag .0) space o3 c o4 d → FieldPut n space o4 d o5 e → TailPut n (l .tail) o5 e o6 q → LinePut l o p o6 q
-line-put l e f1 f2 f3 f4 f5 f6 = record { is = rw (← e) (all-then (f1 .is) (all-then (f2 .is) (all-then (f3 .is) (all-then (f4 .is) (all-then (f5 .is) (f6 .is)))))) }
+pub frame-put : (l : Listed) {n : ℕ} {o o1 o2 o3 o4 o5 o6 : List ℕ} {p a b c d e q : Place} → FieldPut (l .at) space o p o1 a → FieldPut (l .size) space o1 a o2 b
+    → FieldPut (l .ty) space o2 b o3 c → FieldPut (l .tag .0) space o3 c o4 d → FieldPut n space o4 d o5 e → TailPut n (l .tail) o5 e o6 q → FramePut l n o p o6 q
+frame-put l f1 f2 f3 f4 f5 f6 = record { is = all-then (f1 .is) (all-then (f2 .is) (all-then (f3 .is) (all-then (f4 .is) (all-then (f5 .is) (f6 .is))))) }
+
+pub line-put : {l : Listed} {n : ℕ} {o o' : List ℕ} {p q : Place} → n ≡ answerNumber (viewBody (l .body)) → FramePut l n o p o' q → LinePut l o p o' q
+line-put e f = record { is = rw (← e) (f .is) }
 
 -- the output keeps its length
 length-all : (bs : List (List ℕ)) (o : List ℕ) (p : Place) → length (putAll bs o p) ≡ length o

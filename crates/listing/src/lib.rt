@@ -12,9 +12,9 @@ use strings::Span;
 ghost use mathlib.Core.Path.{_≡_};
 ghost use Rattle.numbers.specs.Places.{Put};
 ghost use Rattle.stretch.specs.Views.{viewBody};
-ghost use Rattle.listing.specs.Text.{answerNumber, DecimalPut, FieldPut, TailPut, LinePut, LastPut, LinesPut, ReportPut, HasPosition, Reported};
+ghost use Rattle.listing.specs.Text.{answerNumber, DecimalPut, FieldPut, TailPut, FramePut, LinePut, LastPut, LinesPut, ReportPut, positionOf, Reported};
 
-fn put_text(out: &mut [u8], p: Place, text: &[u8]) -> Place
+pub fn put_text(out: &mut [u8], p: Place, text: &[u8]) -> Place
     ensures { λ r. ⌜ Put (now (text .entry)) (now (out .entry)) p (now (out .exit)) r ⌝ }
 {
     let all = Span {
@@ -66,13 +66,11 @@ fn put_tail(out: &mut [u8], p: Place, answer: u8, tail: usize) -> Place
     put_text(out, p, b"-\n")
 }
 
-// Position, size, type, tag, answer and tail.
-fn put_line(out: &mut [u8], p: Place, l: Listed) -> Place
-    ensures { λ r. ⌜ LinePut l (now (out .entry)) p (now (out .exit)) r ⌝ }
+// Position, size, type, tag, answer and tail; the answer is told.
+pub fn put_frame(out: &mut [u8], p: Place, l: Listed, answer: u8) -> Place
+    ensures { λ r. ⌜ FramePut l answer (now (out .entry)) p (now (out .exit)) r ⌝ }
 {
     let tag = l.tag;
-    let body = l.body;
-    let answer = answer_of(body);
     let a = put_field(out, p, l.at as u64, b" ");
     let b = put_field(out, a, l.size as u64, b" ");
     let c = put_field(out, b, l.ty as u64, b" ");
@@ -81,8 +79,17 @@ fn put_line(out: &mut [u8], p: Place, l: Listed) -> Place
     put_tail(out, e, answer, l.tail)
 }
 
+// A frame's line, with the answer of its body.
+fn put_line(out: &mut [u8], p: Place, l: Listed) -> Place
+    ensures { λ r. ⌜ LinePut l (now (out .entry)) p (now (out .exit)) r ⌝ }
+{
+    let body = l.body;
+    let answer = answer_of(body);
+    put_frame(out, p, l, answer)
+}
+
 // The last line: a word and two figures.
-fn put_last(out: &mut [u8], p: Place, word: &[u8], position: usize, n: u64) -> Place
+pub fn put_last(out: &mut [u8], p: Place, word: &[u8], position: usize, n: u64) -> Place
     ensures { λ r. ⌜ LastPut (now (word .entry)) position n (now (out .entry)) p (now (out .exit)) r ⌝ }
 {
     let a = put_text(out, p, word);
@@ -132,10 +139,9 @@ fn put_report(out: &mut [u8], input: &[u8]) -> Place
     put_lines(out, p, input)
 }
 
-// The caller owes that the place is not refused, so the second arm is never taken.
-fn position(p: Place) -> usize
-    requires { ⌜ HasPosition p ⌝ }
-    ensures { λ r. ⌜ p ≡ Place.At r ⌝ }
+// Where a place is; 0 where it is refused, as no text that fits the room is.
+pub fn position(p: Place) -> usize
+    ensures { λ r. ⌜ r ≡ positionOf p ⌝ }
 {
     match p {
         Place::At(n) => n,

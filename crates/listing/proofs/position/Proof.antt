@@ -1,5 +1,6 @@
--- Of the two kinds of place, the one that has a position.
-use Rattle.listing.specs.RoomLaws.{no-position}
+-- The two kinds of place.
+use mathlib.Core.Path.{_≡_, sym, ap}
+use Rattle.listing.specs.Text.{positionOf}
 use borrow.Author.Needs.{needs}
 use Rattle.listing.proofs.position.Statement.{statement}
 use Rattle.listing.proofs.position.Tie as tie
@@ -11,10 +12,10 @@ enum-told : tie.Need-enum-told
 enum-told c = search needs
 
 returns : tie.Need-returns
-returns c = search needs
+returns c = sym (ap positionOf (c .before .p .given .1))
 
 returns-2 : tie.Need-returns-2
-returns-2 c = no-position (c .enum-told .given .1) (c .before .before .pre)
+returns-2 c = sym (ap positionOf (c .enum-told .given .1))
 
 pub position-spec : {M : Type 1} → statement M
 position-spec = tie.close (tie.spec enum-known-p enum-told returns returns-2)

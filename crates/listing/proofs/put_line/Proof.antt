@@ -1,5 +1,5 @@
--- Six fields, each put where the one before it ends.
-use Rattle.listing.specs.TextLaws.{line-put, all-length}
+-- The answer of the body is told.
+use Rattle.listing.specs.TextLaws.{line-put}
 use borrow.Author.Needs.{needs}
 use Rattle.listing.proofs.put_line.Statement.{statement}
 use Rattle.listing.proofs.put_line.Tie as tie
@@ -7,88 +7,14 @@ use Rattle.listing.proofs.put_line.Tie as tie
 answer-of-requires : tie.Need-answer-of-requires
 answer-of-requires c κs = search needs
 
-slice-aggregate-put-field : tie.Need-slice-aggregate-put-field
-slice-aggregate-put-field c = search needs
-
-put-field-requires : tie.Need-put-field-requires
-put-field-requires c κs = search needs
-
-slice-aggregate-put-field-2 : tie.Need-slice-aggregate-put-field-2
-slice-aggregate-put-field-2 c = search needs
-
-put-field-requires-2 : tie.Need-put-field-requires-2
-put-field-requires-2 c κs = search needs
-
-cast-put-field : tie.Need-cast-put-field
-cast-put-field c = search needs
-
-slice-aggregate-put-field-3 : tie.Need-slice-aggregate-put-field-3
-slice-aggregate-put-field-3 c = search needs
-
-put-field-requires-3 : tie.Need-put-field-requires-3
-put-field-requires-3 c κs = search needs
-
-cast-put-field-2 : tie.Need-cast-put-field-2
-cast-put-field-2 c = search needs
-
-slice-aggregate-put-field-4 : tie.Need-slice-aggregate-put-field-4
-slice-aggregate-put-field-4 c = search needs
-
-put-field-requires-4 : tie.Need-put-field-requires-4
-put-field-requires-4 c κs = search needs
-
-cast-put-field-3 : tie.Need-cast-put-field-3
-cast-put-field-3 c = search needs
-
-slice-aggregate-put-field-5 : tie.Need-slice-aggregate-put-field-5
-slice-aggregate-put-field-5 c = search needs
-
-put-field-requires-5 : tie.Need-put-field-requires-5
-put-field-requires-5 c κs = search needs
-
-put-tail-requires : tie.Need-put-tail-requires
-put-tail-requires c κs = search needs
+put-frame-requires : tie.Need-put-frame-requires
+put-frame-requires c κs = search needs
 
 same-length : tie.Need-same-length
-same-length c =
-    let t = c .before .before in
-    let e = t .before .before .before .before in
-    let d = e .before .before .before .before .before in
-    let b = d .before .before .before .before .before .before in
-    let a = b .before .before .before .before .before .before in
-    let f = a .before .before .before .before .before in
-    let n = f .before .before .before in
-    all-length (line-put (n .before .before .before .args .l) (n .answer-of .ensures) (f .put-field .ensures) (a .put-field2 .ensures) (b .put-field3 .ensures) (d .put-field4 .ensures) (e .put-field5 .ensures) (t .put-tail .ensures) .is)
+same-length c = search needs
 
 returns : tie.Need-returns
-returns c =
-    let t = c .before .before in
-    let e = t .before .before .before .before in
-    let d = e .before .before .before .before .before in
-    let b = d .before .before .before .before .before .before in
-    let a = b .before .before .before .before .before .before in
-    let f = a .before .before .before .before .before in
-    let n = f .before .before .before in
-    line-put (n .before .before .before .args .l) (n .answer-of .ensures) (f .put-field .ensures) (a .put-field2 .ensures) (b .put-field3 .ensures) (d .put-field4 .ensures) (e .put-field5 .ensures) (t .put-tail .ensures)
+returns c = line-put (c .before .before .before .before .answer-of .ensures) (c .before .before .put-frame .ensures)
 
 pub put-line-spec : {M : Type 1} → statement M
-put-line-spec =
-    tie.close
-    (tie.spec
-    answer-of-requires
-    slice-aggregate-put-field
-    put-field-requires
-    slice-aggregate-put-field-2
-    put-field-requires-2
-    cast-put-field
-    slice-aggregate-put-field-3
-    put-field-requires-3
-    cast-put-field-2
-    slice-aggregate-put-field-4
-    put-field-requires-4
-    cast-put-field-3
-    slice-aggregate-put-field-5
-    put-field-requires-5
-    put-tail-requires
-    same-length
-    returns)
+put-line-spec = tie.close (tie.spec answer-of-requires put-frame-requires same-length returns)

@@ -1,7 +1,7 @@
--- The room is long enough for the text of any input, so that the place after it has a position.
+-- The room is long enough for the text of any input.
 use native.Mathlib.Omega.{arith}
 use Rattle.numbers.specs.Numbers.{bytes-all}
-use Rattle.listing.specs.RoomLaws.{report-fits, has-position, reported}
+use Rattle.listing.specs.RoomLaws.{reported}
 use borrow.Author.Needs.{needs}
 use Rattle.listing.proofs.report.Statement.{statement}
 use Rattle.listing.proofs.report.Tie as tie
@@ -10,10 +10,7 @@ put-report-requires : tie.Need-put-report-requires
 put-report-requires c κs = search needs
 
 position-requires : tie.Need-position-requires
-position-requires c κs =
-    let k = c .before in
-    let b = bytes-all (k .before .before .args .input .now) (λ i. k .before .shared-slice-known .given i .fits) in
-    has-position (report-fits b (omega arith) (c .put-report .ensures) .1)
+position-requires c κs = tt
 
 returns : tie.Need-returns
 returns c =
