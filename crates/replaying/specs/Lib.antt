@@ -1,0 +1,4 @@
+pub mod Events
+pub mod Replays
+pub mod ReplayLaws
+pub mod Traces
