@@ -49,11 +49,11 @@ module _ {s o : List ℕ} {p₀ : Place} where
   upto-end {at} {n} {q} {r} {o1} {o2} {p} {t} h a e u f =
       let g = answered s at r h a ∙ ap (λ x. goesOn (viewStep x) (listed tableT tableR s)) e in u .on o2 t (rw g (f .is))
 
-  pub upto-stop : {at n q x : ℕ} {k : Refusal} {r : Step} {o1 o2 : List ℕ} {p t : Place} → at ≤ length s → Asked s at r → r ≡ S.Refused k q → x ≡ numberOf k → Upto s o p₀ at n o1 p
-      → LastPut stopWord q x o1 p o2 t → LinesPut s o p₀ o2 t
+  pub upto-stop : {at n q : ℕ} {k : Refusal} {r : Step} {o1 o2 : List ℕ} {p t : Place} → at ≤ length s → Asked s at r → r ≡ S.Refused k q → Upto s o p₀ at n o1 p
+      → LastPut stopWord q (numberOf k) o1 p o2 t → LinesPut s o p₀ o2 t
   unfolding viewStep linesFrom
-  upto-stop {at} {n} {q} {x} {k} {r} {o1} {o2} {p} {t} h a e z u f =
-      let g = answered s at r h a ∙ ap (λ x. goesOn (viewStep x) (listed tableT tableR s)) e in u .on o2 t (rw g (rw z at (f .is)))
+  upto-stop {at} {n} {q} {k} {r} {o1} {o2} {p} {t} h a e u f =
+      let g = answered s at r h a ∙ ap (λ x. goesOn (viewStep x) (listed tableT tableR s)) e in u .on o2 t (rw g (f .is))
 
 -- ---- the report
 

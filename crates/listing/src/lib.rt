@@ -3,6 +3,7 @@
 pub mod input;
 
 use numbers::Place;
+use numbers::Refusal;
 use replies::Rbody;
 use requests::Tbody;
 use stretch::Body;
@@ -11,8 +12,9 @@ use stretch::Step;
 use strings::Span;
 ghost use mathlib.Core.Path.{_≡_};
 ghost use Rattle.numbers.specs.Places.{Put};
+ghost use Rattle.numbers.specs.Refusals.{numberOf};
 ghost use Rattle.stretch.specs.Views.{viewBody};
-ghost use Rattle.listing.specs.Text.{answerNumber, DecimalPut, FieldPut, TailPut, FramePut, LinePut, LastPut, LinesPut, ReportPut, positionOf, Reported};
+ghost use Rattle.listing.specs.Text.{answerNumber, header, endWord, stopWord, tooLong, DecimalPut, FieldPut, TailPut, FramePut, LinePut, LastPut, LinesPut, ReportPut, positionOf, Reported};
 
 pub fn put_text(out: &mut [u8], p: Place, text: &[u8]) -> Place
     ensures { λ r. ⌜ Put (now (text .entry)) (now (out .entry)) p (now (out .exit)) r ⌝ }
@@ -89,12 +91,27 @@ fn put_line(out: &mut [u8], p: Place, l: Listed) -> Place
 }
 
 // The last line: a word and two figures.
-pub fn put_last(out: &mut [u8], p: Place, word: &[u8], position: usize, n: u64) -> Place
+fn put_last(out: &mut [u8], p: Place, word: &[u8], position: usize, n: u64) -> Place
     ensures { λ r. ⌜ LastPut (now (word .entry)) position n (now (out .entry)) p (now (out .exit)) r ⌝ }
 {
     let a = put_text(out, p, word);
     let b = put_field(out, a, position as u64, b" ");
     put_field(out, b, n, b"\n")
+}
+
+// The stretch was read to its end, after n frames.
+pub fn put_end(out: &mut [u8], p: Place, position: usize, n: u64) -> Place
+    ensures { λ r. ⌜ LastPut endWord position n (now (out .entry)) p (now (out .exit)) r ⌝ }
+{
+    put_last(out, p, b"end ", position, n)
+}
+
+// It cannot be read on.
+pub fn put_stop(out: &mut [u8], p: Place, position: usize, k: Refusal) -> Place
+    ensures { λ r. ⌜ LastPut stopWord position (numberOf k) (now (out .entry)) p (now (out .exit)) r ⌝ }
+{
+    let n = numbers::number(k);
+    put_last(out, p, b"stop ", position, n as u64)
 }
 
 // A line for each frame, and the last line.
@@ -113,19 +130,27 @@ fn put_lines(out: &mut [u8], from: Place, bytes: &[u8]) -> Place
                 n += 1;
             }
             Step::End(q) => {
-                return put_last(out, p, b"end ", q, n);
+                return put_end(out, p, q, n);
             }
             Step::Refused(k, q) => {
-                return put_last(out, p, b"stop ", q, wide(numbers::number(k)));
+                return put_stop(out, p, q, k);
             }
         }
     }
 }
 
-fn wide(x: u8) -> u64
-    ensures { λ r. ⌜ r ≡ x ⌝ }
+// All that is said of an input of more bytes than are taken.
+pub fn put_too_long(out: &mut [u8], p: Place) -> Place
+    ensures { λ r. ⌜ Put tooLong (now (out .entry)) p (now (out .exit)) r ⌝ }
 {
-    x as u64
+    put_text(out, p, b"input too long\n")
+}
+
+// The first line.
+pub fn put_header(out: &mut [u8], p: Place) -> Place
+    ensures { λ r. ⌜ Put header (now (out .entry)) p (now (out .exit)) r ⌝ }
+{
+    put_text(out, p, b"at size type tag answer tail\n")
 }
 
 // The whole text, at the front of an output.
@@ -133,9 +158,9 @@ fn put_report(out: &mut [u8], input: &[u8]) -> Place
     ensures { λ r. ⌜ ReportPut (now (input .entry)) (now (out .entry)) (now (out .exit)) r ⌝ }
 {
     if 65536 < input.len() {
-        return put_text(out, Place::At(0), b"input too long\n");
+        return put_too_long(out, Place::At(0));
     }
-    let p = put_text(out, Place::At(0), b"at size type tag answer tail\n");
+    let p = put_header(out, Place::At(0));
     put_lines(out, p, input)
 }
 

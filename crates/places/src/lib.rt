@@ -14,6 +14,7 @@ ghost use Rattle.numbers.specs.Places.{over, Put};
 ghost use Rattle.places.specs.Places.{unused, rowed, root, child, isUp, step, onward, walked, nameIn, pathIn, path};
 
 // The rows of the places; the first `used` of them are places. A root's older place is itself.
+#[repr(C)]
 pub struct Places {
     pub older: [u8; 256],
     pub starts: [usize; 256],

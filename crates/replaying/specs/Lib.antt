@@ -1,4 +1,2 @@
-pub mod Events
 pub mod Replays
 pub mod ReplayLaws
-pub mod Traces

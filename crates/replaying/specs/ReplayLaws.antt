@@ -1,4 +1,4 @@
--- The lines that are put one after another are those of the fold; the trailer is compared with the whole listing; the text fits the room.
+-- The lines that are put one after another are those of the fold; the text fits the room.
 use Prim.Native.Nat.{ℕ, suc, _+_, _-_, _≤_, _<_}
 use native.Mathlib.Omega.{arith}
 use mathlib.Core.Path.{_≡_, refl, sym, ap, _∙_}
@@ -6,13 +6,13 @@ use mathlib.Core.Bool.{Bool, true, false, cond}
 use mathlib.Core.List.{List, _∷_}
 use lib.ListN.{length, take, drop, length-append}
 use lib.Seq.{length-take-le}
-use lib.Dec.{ltb, eqb}
-use borrow.Author.Tests.{lt-ltb, le-ltb, eq-eqb, ne-eqb}
+use lib.Dec.{ltb}
+use borrow.Author.Tests.{lt-ltb, le-ltb}
 use Rattle.io.specs.Counts.{Counts}
 use Rattle.numbers.specs.Numbers.{Bytes, bytes-take}
 use Rattle.numbers.specs.ReadingLaws.{or-else}
 use Rattle.numbers.specs.Refusals.{numberOf}
-use Rattle.numbers.specs.Places.{numAt, Put, NumRead}
+use Rattle.numbers.specs.Places.{Put}
 use Rattle.numbers.specs.PlaceLaws.{one-answer}
 use Rattle.numbers.specs.declared.Refusal.{Refusal}
 use Rattle.numbers.specs.declared.Refusal.the-variants as R
@@ -21,7 +21,6 @@ use Rattle.numbers.specs.declared.Place.the-variants.{At}
 use Rattle.layouts.specs.Tables.{tableT, tableR}
 use Rattle.layouts.specs.Bodies.{Answer, accepted, refused}
 use Rattle.framing.specs.Stretch.{Listing, entry, ends, stops, listing}
-use Rattle.framing.specs.Joining.{Ends}
 use Rattle.framing.specs.ListingLaws.{goesOn, listed}
 use Rattle.stretch.specs.Functions.{answered}
 use Rattle.stretch.specs.Views.{viewBody, viewStep, Asked}
@@ -31,14 +30,15 @@ use Rattle.stretch.specs.declared.Step.the-variants as S
 use Rattle.listing.specs.Text.{decimal, PiecesPut, joined, answerNumber, header, endWord, stopWord, lastPieces, linesFrom, tooLong, FramePut, LastPut, positionOf, room}
 use Rattle.listing.specs.TextLaws.{all-none, all-put, all-then, all-fits}
 use Rattle.listing.specs.RoomLaws.{Narrow, narrow-most, listing-narrow}
+use Rattle.sealing.specs.Trailers.{stretchIn, sealed}
 use Rattle.session.specs.Rules.{fresh, stepped}
 use Rattle.session.specs.declared.Session.{Session}
 use Rattle.session.specs.declared.Event.{Event}
 use Rattle.session.specs.declared.Stepped.{Stepped}
 use Rattle.session.specs.declared.Answer.{Answer as Told}
 use Rattle.session.specs.declared.Answer.the-variants.{Accepted, Refused}
-use Rattle.replaying.specs.Events.{eventOf}
-use Rattle.replaying.specs.Replays.{answerOf, told, replayed, replay, tellsSo, readsSo, stretchIn, sealed, text, LinesPut, ReplayPut, Replayed}
+use Rattle.events.specs.Events.{eventOf}
+use Rattle.replaying.specs.Replays.{answerOf, told, replayed, replay, text, LinesPut, ReplayPut, Replayed}
 
 -- ---- an answer
 
@@ -80,67 +80,11 @@ module _ {bs o : List ℕ} {p₀ : Place} where
   upto-end {s} {at} {n} {q} {r} {o1} {o2} {p} {t} h a e u f =
       let g = answered bs at r h a ∙ ap (λ x. goesOn (viewStep x) (listed tableT tableR bs)) e in u .on o2 t (rw g (f .is))
 
-  pub upto-stop : {s : Session} {at n q x : ℕ} {k : Refusal} {r : Step} {o1 o2 : List ℕ} {p t : Place} → at ≤ length bs → Asked bs at r → r ≡ S.Refused k q → x ≡ numberOf k
-      → Upto bs o p₀ s at n o1 p → LastPut stopWord q x o1 p o2 t → LinesPut bs o p₀ o2 t
+  pub upto-stop : {s : Session} {at n q : ℕ} {k : Refusal} {r : Step} {o1 o2 : List ℕ} {p t : Place} → at ≤ length bs → Asked bs at r → r ≡ S.Refused k q
+      → Upto bs o p₀ s at n o1 p → LastPut stopWord q (numberOf k) o1 p o2 t → LinesPut bs o p₀ o2 t
   unfolding viewStep linesFrom replayed
-  upto-stop {s} {at} {n} {q} {x} {k} {r} {o1} {o2} {p} {t} h a e z u f =
-      let g = answered bs at r h a ∙ ap (λ x. goesOn (viewStep x) (listed tableT tableR bs)) e in u .on o2 t (rw g (rw z at (f .is)))
-
--- ---- the trailer
-
-module _ (bytes frames last : ℕ) where
-  pub tells-end : (n at : ℕ) {end : ℕ} → (end ≡ bytes → ⊥) → false ≡ tellsSo bytes frames last n at end
-  tells-end n at {end} h = rw (ne-eqb end bytes h)
-
-  pub tells-frames : (at : ℕ) {n end : ℕ} → end ≡ bytes → (n ≡ frames → ⊥) → false ≡ tellsSo bytes frames last n at end
-  tells-frames at {n} {end} e h = rw (eq-eqb end bytes e, ne-eqb n frames h)
-
-  pub tells-last : (at : ℕ) {n end : ℕ} → end ≡ bytes → n ≡ frames → eqb at last ≡ tellsSo bytes frames last n at end
-  tells-last at {n} {end} e h = rw (eq-eqb end bytes e, eq-eqb n frames h)
-
-  module _ (s : List ℕ) where
-    pub reads-start : readsSo bytes frames last 0 0 (listed tableT tableR s 0) ≡ readsSo bytes frames last 0 0 (listing tableT tableR s)
-    unfolding listing
-    reads-start = refl
-
-    module _ {at : ℕ} {r : Step} (h : at ≤ length s) (a : Asked s at r) (n b : ℕ) where
-      pub reads-on : (l : Listed) → r ≡ S.Frame l → readsSo bytes frames last (n + 1) (l .at) (listed tableT tableR s (l .next)) ≡ readsSo bytes frames last n b (listed tableT tableR s at)
-      unfolding viewStep readsSo
-      reads-on l e = sym (ap (readsSo bytes frames last n b) (answered s at r h a ∙ ap (λ x. goesOn (viewStep x) (listed tableT tableR s)) e))
-
-      pub reads-end : {q : ℕ} → r ≡ S.End q → tellsSo bytes frames last n b q ≡ readsSo bytes frames last n b (listed tableT tableR s at)
-      unfolding viewStep readsSo
-      reads-end e = sym (ap (readsSo bytes frames last n b) (answered s at r h a ∙ ap (λ x. goesOn (viewStep x) (listed tableT tableR s)) e))
-
-      pub reads-stop : {k : Refusal} {q : ℕ} → r ≡ S.Refused k q → false ≡ readsSo bytes frames last n b (listed tableT tableR s at)
-      unfolding viewStep readsSo
-      reads-stop e = sym (ap (readsSo bytes frames last n b) (answered s at r h a ∙ ap (λ x. goesOn (viewStep x) (listed tableT tableR s)) e))
-
-module _ (file : List ℕ) where
-  pub sealed-short : length file < 12 → false ≡ sealed file
-  unfolding sealed
-  sealed-short h = rw (lt-ltb (length file) 12 h)
-
-  pub sealed-reads : {a b c : ℕ} {p q r : Place} {t : Bool} → 12 ≤ length file → NumRead 4 file (At (length file - 12)) a p → NumRead 4 file (At (length file - 12 + 4)) b q
-      → NumRead 4 file (At (length file - 12 + 8)) c r → t ≡ readsSo a b c 0 0 (listing tableT tableR (stretchIn file)) → t ≡ sealed file
-  unfolding sealed
-  sealed-reads h x y z e = rw (le-ltb (length file) 12 h, ← (x .value), ← (y .value), ← (z .value)) e
-
--- a sealed file is followed to its end
-reads-ends : (bytes frames last n at : ℕ) (l : Listing) → readsSo bytes frames last n at l ≡ true → Ends l
-unfolding readsSo
-reads-ends bytes frames last n at (entry p size ty tag a tail l) e = reads-ends bytes frames last (n + 1) p l e
-reads-ends bytes frames last n at (ends p) e = tt
-reads-ends bytes frames last n at (stops k p) e = absurd (let z : _≡_ {A = ℕ} 0 1 = cc in omega arith)
-
-pub sealed-ends : (file : List ℕ) → sealed file ≡ true → Ends (listing tableT tableR (stretchIn file))
-unfolding sealed
-sealed-ends file e = go (ltb (length file) 12) e
-  where
-    go : (t : Bool) → cond t false (readsSo (numAt 4 file (At (length file - 12))) (numAt 4 file (At (length file - 12 + 4))) (numAt 4 file (At (length file - 12 + 8))) 0 0 (listing tableT tableR (stretchIn file))) ≡ true
-        → Ends (listing tableT tableR (stretchIn file))
-    go true f = absurd (let z : _≡_ {A = ℕ} 0 1 = cc in omega arith)
-    go false f = reads-ends (numAt 4 file (At (length file - 12))) (numAt 4 file (At (length file - 12 + 4))) (numAt 4 file (At (length file - 12 + 8))) 0 0 (listing tableT tableR (stretchIn file)) f
+  upto-stop {s} {at} {n} {q} {k} {r} {o1} {o2} {p} {t} h a e u f =
+      let g = answered bs at r h a ∙ ap (λ x. goesOn (viewStep x) (listed tableT tableR bs)) e in u .on o2 t (rw g (f .is))
 
 -- ---- the text
 
@@ -152,8 +96,8 @@ module _ {file o : List ℕ} where
     pub text-followed : {o1 o2 : List ℕ} {p q : Place} {n : ℕ} → b ≡ true → n ≡ length file - 12 → Put header o (At 0) o1 p → LinesPut (take n file) o1 p o2 q → ReplayPut file o o2 q
     text-followed t f a l = record { is = rw (le-ltb 65536 (length file) h, ← e, t) (all-put a (rw f at (l .is))) }
 
-    pub text-unsealed : {o1 : List ℕ} {p : Place} {n : ℕ} → b ≡ false → n ≡ numberOf R.Trailer → LastPut stopWord 0 n o (At 0) o1 p → ReplayPut file o o1 p
-    text-unsealed t f l = record { is = rw (le-ltb 65536 (length file) h, ← e, t) (rw f at (l .is)) }
+    pub text-unsealed : {o1 : List ℕ} {p : Place} → b ≡ false → LastPut stopWord 0 (numberOf R.Trailer) o (At 0) o1 p → ReplayPut file o o1 p
+    text-unsealed t l = record { is = rw (le-ltb 65536 (length file) h, ← e, t) (l .is) }
 
 -- ---- it fits the room
 

@@ -1,12 +1,12 @@
--- A recording followed (F15.1, F15.2, F15.8, F15.11): the fold of the session over the listing of its stretch, and the text.
-use Prim.Native.Nat.{ℕ, _+_, _-_}
+-- A recording followed (F15.8, F15.11): the fold of the session over the listing of its stretch, and the text.
+use Prim.Native.Nat.{ℕ}
 use mathlib.Core.Path.{_≡_}
-use mathlib.Core.Bool.{Bool, false, cond}
+use mathlib.Core.Bool.{cond}
 use mathlib.Core.List.{List, [], _∷_}
-use lib.ListN.{length, take}
-use lib.Dec.{ltb, eqb}
+use lib.ListN.{length}
+use lib.Dec.{ltb}
 use Rattle.numbers.specs.Refusals.{numberOf}
-use Rattle.numbers.specs.Places.{over, numAt}
+use Rattle.numbers.specs.Places.{over}
 use Rattle.numbers.specs.declared.Refusal.the-variants as R
 use Rattle.numbers.specs.declared.Place.{Place}
 use Rattle.numbers.specs.declared.Place.the-variants.{At}
@@ -14,11 +14,12 @@ use Rattle.layouts.specs.Tables.{tableT, tableR}
 use Rattle.layouts.specs.Bodies.{Answer, refused}
 use Rattle.framing.specs.Stretch.{Listing, entry, ends, stops, listing}
 use Rattle.listing.specs.Text.{PiecesPut, joined, header, stopWord, lastPieces, linesFrom, tooLong}
+use Rattle.sealing.specs.Trailers.{stretchIn, sealed}
 use Rattle.session.specs.Rules.{fresh, stepped}
 use Rattle.session.specs.declared.Session.{Session}
 use Rattle.session.specs.declared.Answer.{Answer as Told}
 use Rattle.session.specs.declared.Answer.the-variants.{Accepted, Refused}
-use Rattle.replaying.specs.Events.{eventOf}
+use Rattle.events.specs.Events.{eventOf}
 
 -- ---- the fold (F15.8)
 
@@ -40,26 +41,6 @@ replayed bs s (stops k p) = stops k p
 
 abbrev pub replay : List ℕ → Listing
 replay bs = replayed bs fresh (listing tableT tableR bs)
-
--- ---- the trailer (F15.2): bytes of frames, frames, the position of the last
-
-abbrev pub tellsSo : ℕ → ℕ → ℕ → ℕ → ℕ → ℕ → Bool
-tellsSo bytes frames last n at end = cond (eqb end bytes) (cond (eqb n frames) (eqb at last) false) false
-
--- n frames are passed, the last of them at `at`
-unfoldable pub readsSo : ℕ → ℕ → ℕ → ℕ → ℕ → Listing → Bool
-readsSo bytes frames last n at (entry p size ty tag a tail l) = readsSo bytes frames last (n + 1) p l
-readsSo bytes frames last n at (ends p) = tellsSo bytes frames last n at p
-readsSo bytes frames last n at (stops k p) = false
-
--- a file without its last twelve bytes
-abbrev pub stretchIn : List ℕ → List ℕ
-stretchIn file = take (length file - 12) file
-
-unfoldable pub sealed : List ℕ → Bool
-sealed file =
-    cond (ltb (length file) 12) false
-    (readsSo (numAt 4 file (At (length file - 12))) (numAt 4 file (At (length file - 12 + 4))) (numAt 4 file (At (length file - 12 + 8))) 0 0 (listing tableT tableR (stretchIn file)))
 
 -- ---- the text (F15.11)
 

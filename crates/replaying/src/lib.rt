@@ -1,19 +1,11 @@
 // A recording followed (F15): the frames of a file with a trailer, each an event to the session, and the text of what the session answers.
 
-pub mod events;
-
 use numbers::Place;
 use numbers::Refusal;
 use session::Answer;
 use stretch::Step;
 ghost use mathlib.Core.Path.{_≡_};
-ghost use Prim.Native.Nat.{_+_};
-ghost use Rattle.layouts.specs.Tables.{tableT, tableR};
-ghost use Rattle.framing.specs.Stretch.{listing};
-ghost use Rattle.replaying.specs.Replays.{answerOf, tellsSo, readsSo, sealed, LinesPut, ReplayPut, Replayed};
-
-// Three numbers of four bytes at the end of a file.
-const TRAILER: usize = 12;
+ghost use Rattle.replaying.specs.Replays.{answerOf, LinesPut, ReplayPut, Replayed};
 
 // 0, or the number of the refusal.
 pub fn answer_of(a: Answer) -> u8
@@ -46,76 +38,13 @@ fn put_lines(out: &mut [u8], from: Place, stretch: &[u8]) -> Place
                 n += 1;
             }
             Step::End(q) => {
-                return listing::put_last(out, p, b"end ", q, n);
+                return listing::put_end(out, p, q, n);
             }
             Step::Refused(k, q) => {
-                return listing::put_last(out, p, b"stop ", q, wide(numbers::number(k)));
+                return listing::put_stop(out, p, q, k);
             }
         }
     }
-}
-
-fn wide(x: u8) -> u64
-    ensures { λ r. ⌜ r ≡ x ⌝ }
-{
-    x as u64
-}
-
-// Whether an end, a number of frames and the last one's position are those that are told.
-fn tells_so(end: usize, n: usize, at: usize, bytes: usize, frames: usize, last: usize) -> bool
-    ensures { λ r. ⌜ r ≡ tellsSo bytes frames last n at end ⌝ }
-{
-    if end != bytes {
-        return false;
-    }
-    if n != frames {
-        return false;
-    }
-    at == last
-}
-
-// Whether a stretch reads to its end with these numbers: its bytes, its frames, and the position of the last frame, 0 if there is none.
-fn reads_so(stretch: &[u8], bytes: usize, frames: usize, last: usize) -> bool
-    ensures { λ r. ⌜ r ≡ readsSo bytes frames last 0 0 (listing tableT tableR (now (stretch .entry))) ⌝ }
-{
-    let mut at = 0;
-    let mut n = 0;
-    let mut before = 0;
-    loop {
-        let step = stretch::frame_at(stretch, at);
-        match step {
-            Step::Frame(l) => {
-                before = l.at;
-                at = l.next;
-                n += 1;
-            }
-            Step::End(q) => {
-                return tells_so(q, n, before, bytes, frames, last);
-            }
-            Step::Refused(_, _) => {
-                return false;
-            }
-        }
-    }
-}
-
-// Whether a file ends in the trailer of the stretch before it; else it is 19.
-pub fn sealed(file: &[u8]) -> bool
-    ensures { λ r. ⌜ r ≡ sealed (now (file .entry)) ⌝ }
-{
-    if file.len() < TRAILER {
-        return false;
-    }
-    let end = file.len() - TRAILER;
-    let bytes = numbers::read_u32(file, Place::At(end));
-    let frames = numbers::read_u32(file, Place::At(end + 4));
-    let last = numbers::read_u32(file, Place::At(end + 8));
-    reads_so(
-        &file[..end],
-        bytes.value as usize,
-        frames.value as usize,
-        last.value as usize,
-    )
 }
 
 // The text of a file, at the front of an output.
@@ -123,20 +52,14 @@ fn put_replay(out: &mut [u8], file: &[u8]) -> Place
     ensures { λ r. ⌜ ReplayPut (now (file .entry)) (now (out .entry)) (now (out .exit)) r ⌝ }
 {
     if 65536 < file.len() {
-        return listing::put_text(out, Place::At(0), b"input too long\n");
+        return listing::put_too_long(out, Place::At(0));
     }
-    if sealed(file) {
-        let end = numbers::saturating_sub(file.len(), TRAILER);
-        let p = listing::put_text(out, Place::At(0), b"at size type tag answer tail\n");
+    if sealing::sealed(file) {
+        let end = numbers::saturating_sub(file.len(), sealing::TRAILER);
+        let p = listing::put_header(out, Place::At(0));
         return put_lines(out, p, &file[..end]);
     }
-    listing::put_last(
-        out,
-        Place::At(0),
-        b"stop ",
-        0,
-        wide(numbers::number(Refusal::Trailer)),
-    )
+    listing::put_stop(out, Place::At(0), 0, Refusal::Trailer)
 }
 
 // What the program writes of a file, at the front of the room: how many bytes that is. A replay is no longer than the listing of its stretch may be.

@@ -4,7 +4,8 @@ use mathlib.Core.Path.{_≡_, refl, ap, _∙_}
 use mathlib.Core.Bool.{Bool, true, false}
 use mathlib.Core.List.{List, [], _∷_}
 use mathlib.Core.Logic.{inl, inr}
-use types.Run.{OneOf}
+use types.Run.{OneOf, miss}
+use denote.Enum.Declared.{tagOf}
 use lib.ListN.{getD, set, replicate}
 use lib.Dec.{eqb}
 use borrow.Author.Tests.{lt-ltb, le-ltb, eq-eqb, ne-eqb}
@@ -32,6 +33,8 @@ use Rattle.session.specs.declared.Way.the-variants as Y
 use Rattle.session.specs.declared.What.the-variants as W
 use Rattle.session.specs.declared.Event.{Event}
 use Rattle.session.specs.Rows.{rowOf}
+use Rattle.session.proofs.Effect as Ef
+use Rattle.session.specs.About.{firstFid, fidGiven, answeredFid, fidOf}
 use Rattle.session.specs.Rules.{free, none, blank, fresh, accepts, refuses, unless, unfit, asked, effectOf, closed, dropped, placeOf, reached, held, given, done, finished, replied, answered, stepped, FidPath}
 
 -- ---- a session before its first frame
@@ -173,11 +176,11 @@ module _ (bs : List ℕ) (s : Session) (r : Request) {from : ℕ} (e : from ≡ 
   unfolding reached
   reach-root h f = rw h f
 
-  pub reach-walk : {w : Way} {t : Reached} → w ≡ Y.Walk → t ≡ walked bs (r .count) (P.At (r .name .start)) (record { places = s .places; at = S.At from }) → t ≡ reached bs s w r
+  pub reach-walk : {w : Way} {t : Reached} → w ≡ Y.Walk → t ≡ walked bs (r .count) (P.At (r .start)) (record { places = s .places; at = S.At from }) → t ≡ reached bs s w r
   unfolding reached
   reach-walk h f = rw (h, ← e) f
 
-  pub reach-child : {w : Way} {t : Reached} → w ≡ Y.Child → t ≡ child (s .places) from (r .name .start) (r .name .len) → t ≡ reached bs s w r
+  pub reach-child : {w : Way} {t : Reached} → w ≡ Y.Child → t ≡ child (s .places) from (r .start) (r .len) → t ≡ reached bs s w r
   unfolding reached
   reach-child h f = rw (h, ← e) f
 
@@ -267,6 +270,59 @@ module _ (bs : List ℕ) (s : Session) (e : Event) {t : Stepped} where
   pub step-refused : {k : Refusal} → e .what ≡ W.Refused k → t ≡ refuses s k → t ≡ stepped bs s e
   unfolding stepped
   step-refused h f = rw h f
+
+-- ---- the fid that a frame is about
+
+module _ (r : Request) where
+  pub first-auth : r .ty ≡ 102 → r .to ≡ firstFid r
+  unfolding firstFid
+  first-auth e = rw (eq-eqb (r .ty) 102 e)
+
+  pub first-attach : (r .ty ≡ 102 → ⊥) → r .ty ≡ 104 → r .to ≡ firstFid r
+  unfolding firstFid
+  first-attach h e = rw (ne-eqb (r .ty) 102 h, eq-eqb (r .ty) 104 e)
+
+  pub first-known : (r .ty ≡ 102 → ⊥) → (r .ty ≡ 104 → ⊥) → r .known ≡ firstFid r
+  unfolding firstFid
+  first-known h g = rw (ne-eqb (r .ty) 102 h, ne-eqb (r .ty) 104 g)
+
+pub fid-gives : {e : Effect} {w : Way} (to : ℕ) → e ≡ E.Gives w → to ≡ fidGiven e to
+unfolding fidGiven
+fid-gives to h = rw h
+
+-- all but the last
+abbrev others : List ℕ
+others = 0 ∷ 1 ∷ 2 ∷ 3 ∷ []
+
+pub fid-else : (e : Effect) (to : ℕ) → OneOf others (tagOf Ef.the-type e) → none ≡ fidGiven e to
+unfolding fidGiven
+fid-else E.Nothing to h = refl
+fid-else E.Empties to h = refl
+fid-else E.Flushes to h = refl
+fid-else E.Drops to h = refl
+fid-else (E.Gives w) to h = absurd (miss others 4 tt h)
+
+module _ (s : Session) (tag ty n : ℕ) {i : ℕ} (e : i ≡ rowOf tag (s .tags)) where
+  pub fid-open : {f : Effect} {x : ℕ} (r : Request) → i < 64 → r ≡ getD (s .requests) i blank → f ≡ effectOf (r .ty) ty (eqb n (r .count)) → x ≡ fidGiven f (r .to) → x ≡ answeredFid s tag ty n
+  unfolding answeredFid
+  fid-open r h g k x = rw (← e, lt-ltb i 64 h, ← g, ← k) x
+
+  pub fid-closed : 64 ≤ i → none ≡ answeredFid s tag ty n
+  unfolding answeredFid
+  fid-closed h = rw (← e, le-ltb i 64 h)
+
+module _ (s : Session) (e : Event) where
+  pub fid-asks : {r : Request} {f : ℕ} → e .what ≡ W.Asks r → f ≡ firstFid r → f ≡ fidOf s e
+  unfolding fidOf
+  fid-asks h f = rw h f
+
+  pub fid-answers : {n f : ℕ} → e .what ≡ W.Answers n → f ≡ answeredFid s (e .tag) (e .ty) n → f ≡ fidOf s e
+  unfolding fidOf
+  fid-answers h f = rw h f
+
+  pub fid-refused : {k : Refusal} → e .what ≡ W.Refused k → none ≡ fidOf s e
+  unfolding fidOf
+  fid-refused h = rw h
 
 -- ---- a path
 

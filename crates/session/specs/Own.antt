@@ -71,8 +71,8 @@ given-own s fid p (S.At i) f =
 reached-full : (bs : List ℕ) (s : Session) (w : Way) (r : Request) → FitFor bs r w → OnlyFull (reached bs s w r .at)
 unfolding reached
 reached-full bs s Y.Root r f = added-only-full (s .places) (s .places .used) 0 0
-reached-full bs s Y.Walk r f = walked-only-full bs (r .count) (P.At (r .name .start)) (record { places = s .places; at = S.At (placeOf s (r .known)) }) (f .1) tt
-reached-full bs s Y.Child r f = added-only-full (s .places) (placeOf s (r .known)) (r .name .start) (r .name .len)
+reached-full bs s Y.Walk r f = walked-only-full bs (r .count) (P.At (r .start)) (record { places = s .places; at = S.At (placeOf s (r .known)) }) (f .1) tt
+reached-full bs s Y.Child r f = added-only-full (s .places) (placeOf s (r .known)) (r .start) (r .len)
 reached-full bs s Y.Copy r f = tt
 
 done-own : (bs : List ℕ) (s : Session) (e : Effect) (r : Request) → FitEffect bs r e → Own (done bs s e r .answer)

@@ -39,7 +39,7 @@ none = 4294967297
 
 -- what stands beside a tag's row before its first use
 abbrev pub blank : Request
-blank = record { ty = 0; new = 0; known = 0; to = 0; old = 0; count = 0; name = record { start = 0; len = 0 } }
+blank = record { ty = 0; new = 0; known = 0; to = 0; old = 0; count = 0; start = 0; len = 0 }
 
 -- no request, no fid, no place
 abbrev pub fresh : Session
@@ -105,8 +105,8 @@ placeOf s fid = cond (has fid (s .fids)) (getD (s .at) (rowOf fid (s .fids)) 0) 
 -- the place that is given: a new root; where a walk from the fid's place ends; a child of that place; that place itself
 unfoldable pub reached : List ℕ → Session → Way → Request → Reached
 reached bs s Y.Root r = root (s .places)
-reached bs s Y.Walk r = walked bs (r .count) (P.At (r .name .start)) (record { places = s .places; at = S.At (placeOf s (r .known)) })
-reached bs s Y.Child r = child (s .places) (placeOf s (r .known)) (r .name .start) (r .name .len)
+reached bs s Y.Walk r = walked bs (r .count) (P.At (r .start)) (record { places = s .places; at = S.At (placeOf s (r .known)) })
+reached bs s Y.Child r = child (s .places) (placeOf s (r .known)) (r .start) (r .len)
 reached bs s Y.Copy r = record { places = s .places; at = S.At (placeOf s (r .known)) }
 
 -- a fid at a row, with its place

@@ -42,8 +42,8 @@ use Rattle.session.specs.Keys.{has-row, has-key, has-not, Distinct, free
 -- stretch, and the names of a walk are read there
 pub record Fair (bs : List ℕ) (r : Request) : Type 0 where
   pub begins : (r .ty ≡ 110) ⊎ ((r .ty ≡ 14) ⊎ (r .ty ≡ 30)) → r .known < free
-  pub lies : r .ty ≡ 14 → r .name .start + r .name .len ≤ length bs
-  pub reads : r .ty ≡ 110 → NamesRead bs (r .count) (P.At (r .name .start))
+  pub lies : r .ty ≡ 14 → r .start + r .len ≤ length bs
+  pub reads : r .ty ≡ 110 → NamesRead bs (r .count) (P.At (r .start))
 
 abbrev pub FairEvent : List ℕ → What → Type 0
 FairEvent bs (W.Asks r) = Fair bs r
@@ -197,8 +197,8 @@ module _ {bs : List ℕ} {s : Session} (d : Sound bs s) where
 -- what a way asks of a request
 abbrev pub FitFor : List ℕ → Request → Way → Type 0
 FitFor bs r Y.Root = Unit {0}
-FitFor bs r Y.Walk = (r .known < free) × NamesRead bs (r .count) (P.At (r .name .start))
-FitFor bs r Y.Child = (r .known < free) × (r .name .start + r .name .len ≤ length bs)
+FitFor bs r Y.Walk = (r .known < free) × NamesRead bs (r .count) (P.At (r .start))
+FitFor bs r Y.Child = (r .known < free) × (r .start + r .len ≤ length bs)
 FitFor bs r Y.Copy = r .known < free
 
 abbrev pub FitEffect : List ℕ → Request → Effect → Type 0
@@ -227,10 +227,10 @@ module _ {bs : List ℕ} (b : Bytes bs) {s : Session} (d : Sound bs s) (r : Requ
   unfolding reached
   reached-grown Y.Root f k = (added-grown (d .places) (s .places .used) 0 0 (omega arith), added-named bs (d .places) (d .names) (s .places .used) 0 0 (omega arith))
   reached-grown Y.Walk f k =
-      (walked-grown bs (r .count) (P.At (r .name .start)) (stays (f .0) (k (f .0))), walked-named bs b (r .count) (P.At (r .name .start)) (stays (f .0) (k (f .0))) (d .names))
+      (walked-grown bs (r .count) (P.At (r .start)) (stays (f .0) (k (f .0))), walked-named bs b (r .count) (P.At (r .start)) (stays (f .0) (k (f .0))) (d .names))
   reached-grown Y.Child f k =
       let i = place-inside d (r .known) (k (f .0)) (f .0) in
-      (added-grown (d .places) (placeOf s (r .known)) (r .name .start) (r .name .len) (omega arith), added-named bs (d .places) (d .names) (placeOf s (r .known)) (r .name .start) (r .name .len) (f .1))
+      (added-grown (d .places) (placeOf s (r .known)) (r .start) (r .len) (omega arith), added-named bs (d .places) (d .names) (placeOf s (r .known)) (r .start) (r .len) (f .1))
   reached-grown Y.Copy f k = (stays f (k f), d .names)
 
   -- ---- a reply

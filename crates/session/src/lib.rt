@@ -12,6 +12,7 @@ use strings::Span;
 ghost use mathlib.Core.Path.{_≡_};
 ghost use Prim.Native.Nat.{_+_, _<_};
 ghost use Rattle.session.specs.Rows.{rowOf};
+ghost use Rattle.session.specs.About.{firstFid, fidGiven, answeredFid, fidOf};
 ghost use Rattle.session.specs.Rules.{fresh, accepts, refuses, unless, unfit, asked, effectOf, closed, dropped, placeOf, reached, held, given, done, finished, replied, answered, stepped, FidPath};
 
 // No tag and no fid is so large: a row that is free, and a fid that is not asked for.
@@ -23,7 +24,8 @@ pub const NONE: u64 = 4294967297;
 const RLERROR: u8 = 7;
 
 // What a request asks, and what its reply does: the fid that must be new, and the one that must be known, whose place a step begins at; the fid that
-// is given, moved or dropped; a flush's old tag; and a walk's names, or the name of a file that is made.
+// is given, moved or dropped; a flush's old tag; and where a walk's names stand, or the name of a file that is made.
+#[repr(C)]
 pub struct Request {
     pub ty: u8,
     pub new: u64,
@@ -31,10 +33,12 @@ pub struct Request {
     pub to: u64,
     pub old: u16,
     pub count: u16,
-    pub name: Span,
+    pub start: usize,
+    pub len: usize,
 }
 
 // The open requests by their tags, the fids with their places, and the places.
+#[repr(C)]
 pub struct Session {
     pub tags: [u64; 64],
     pub requests: [Request; 64],
@@ -88,7 +92,6 @@ pub enum Effect {
 pub fn fresh() -> Session
     ensures { λ r. ⌜ r ≡ fresh ⌝ }
 {
-    let name = Span { start: 0, len: 0 };
     let blank = Request {
         ty: 0,
         new: 0,
@@ -96,7 +99,8 @@ pub fn fresh() -> Session
         to: 0,
         old: 0,
         count: 0,
-        name,
+        start: 0,
+        len: 0,
     };
     let tags = [FREE; 64];
     let requests = [blank; 64];
@@ -249,11 +253,16 @@ fn reach(s: Session, way: Way, r: Request, stretch: &[u8]) -> Reached
 {
     let p = s.places;
     let from = place_of(s, r.known);
-    let name = r.name;
     match way {
         Way::Root => places::root(p),
-        Way::Walk => places::walk(p, from, stretch, name.start, r.count),
-        Way::Child => places::child(p, from, name),
+        Way::Walk => places::walk(p, from, stretch, r.start, r.count),
+        Way::Child => {
+            let name = Span {
+                start: r.start,
+                len: r.len,
+            };
+            places::child(p, from, name)
+        }
         Way::Copy => {
             let at = Spot::At(from);
             Reached { places: p, at }
@@ -377,7 +386,7 @@ fn reply(s: Session, stretch: &[u8], tag: u16, ty: u8, qids: u16) -> Stepped
 }
 
 // The session after a frame, and what is answered.
-fn step(s: Session, stretch: &[u8], e: Event) -> Stepped
+pub fn step(s: Session, stretch: &[u8], e: Event) -> Stepped
     ensures { λ t. ⌜ t ≡ stepped (now (stretch .entry)) s e ⌝ }
 {
     let what = e.what;
@@ -406,6 +415,53 @@ pub fn turn(s: Session, stretch: &[u8], e: Event) -> Stepped
     Stepped {
         session: t,
         answer: a,
+    }
+}
+
+// The fid that a request names first.
+fn first_fid(r: Request) -> u64
+    ensures { λ f. ⌜ f ≡ firstFid r ⌝ }
+{
+    if r.ty == 102 {
+        return r.to;
+    }
+    if r.ty == 104 {
+        return r.to;
+    }
+    r.known
+}
+
+// The fid that a reply gives or moves.
+fn fid_given(e: Effect, to: u64) -> u64
+    ensures { λ f. ⌜ f ≡ fidGiven e to ⌝ }
+{
+    match e {
+        Effect::Gives(_) => to,
+        _ => NONE,
+    }
+}
+
+// The fid of the reply to the request that is open under its tag.
+fn answered_fid(s: Session, tag: u16, ty: u8, qids: u16) -> u64
+    ensures { λ f. ⌜ f ≡ answeredFid s tag ty qids ⌝ }
+{
+    let i = find(&s.tags, tag as u64);
+    if i < 64 {
+        let r = s.requests[i];
+        return fid_given(effect_of(r.ty, ty, qids == r.count), r.to);
+    }
+    NONE
+}
+
+// The fid that a frame is about, if it is accepted: whose path a reader of the recording wants to see.
+pub fn fid_of(s: Session, e: Event) -> u64
+    ensures { λ f. ⌜ f ≡ fidOf s e ⌝ }
+{
+    let what = e.what;
+    match what {
+        What::Asks(r) => first_fid(r),
+        What::Answers(qids) => answered_fid(s, e.tag, e.ty, qids),
+        What::Refused(_) => NONE,
     }
 }
 

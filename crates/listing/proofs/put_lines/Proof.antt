@@ -10,10 +10,10 @@ use Rattle.listing.proofs.put_lines.Statement.{statement}
 use Rattle.listing.proofs.put_lines.Tie as tie
 
 abbrev Inv-loop : tie.InvT-loop
-Inv-loop out₀ bytes p₀ at₀ n₀ t12 t13 out p at n = (at ≤ length bytes) × (n ≤ at) × (length out ≡ length out₀) × Upto bytes out₀ p₀ at n out p
+Inv-loop out₀ bytes p₀ at₀ n₀ out p at n = (at ≤ length bytes) × (n ≤ at) × (length out ≡ length out₀) × Upto bytes out₀ p₀ at n out p
 
 abbrev μ-loop : tie.MeasureT-loop
-μ-loop out₀ bytes p₀ at₀ n₀ t12 t13 out p at n = length bytes - at
+μ-loop out₀ bytes p₀ at₀ n₀ out p at n = length bytes - at
 
 loop-holds : tie.Need-loop-holds Inv-loop μ-loop
 loop-holds c = (omega arith, omega arith, refl, upto-none)
@@ -59,49 +59,26 @@ loop-again c =
 enum-known-step-2 : tie.Need-enum-known-step-2 Inv-loop μ-loop
 enum-known-step-2 c = search needs
 
-slice-aggregate-put-last : tie.Need-slice-aggregate-put-last Inv-loop μ-loop
-slice-aggregate-put-last c = search needs
-
-put-last-requires : tie.Need-put-last-requires Inv-loop μ-loop
-put-last-requires c κs = tt
+put-end-requires : tie.Need-put-end-requires Inv-loop μ-loop
+put-end-requires c κs = tt
 
 same-length : tie.Need-same-length Inv-loop μ-loop
-same-length c =
-    let f = c .before .before .before .before .before .before .before .before in
-    all-length (c .before .before .put-last .ensures .is) ∙ f .before .loop .inv .2
+same-length c = all-length (c .before .before .put-end .ensures .is) ∙ c .before .before .before .before .before .before .before .before .loop .inv .2
 
 returns : tie.Need-returns Inv-loop μ-loop
-returns c =
-    let f = c .before .before .before .before .before .before .before .before in
-    let i = f .before .loop .inv in
-    upto-end (i .0) (f .frame-at .ensures) (c .before .before .before .before .before .before .step2 .given .1) (i .3) (c .before .before .put-last .ensures)
+returns c = let i = c .before .before .before .before .before .before .before .before .loop .inv in upto-end (i .0) (c .before .before .before .before .before .before .before .frame-at .ensures) (c .before .before .before .before .before .step2 .given .1) (i .3) (c .before .before .put-end .ensures)
 
 enum-known-step-3 : tie.Need-enum-known-step-3 Inv-loop μ-loop
 enum-known-step-3 c = search needs
 
-slice-aggregate-put-last-2 : tie.Need-slice-aggregate-put-last-2 Inv-loop μ-loop
-slice-aggregate-put-last-2 c = search needs
-
-number-requires : tie.Need-number-requires Inv-loop μ-loop
-number-requires c κs = tt
-
-wide-requires : tie.Need-wide-requires Inv-loop μ-loop
-wide-requires c κs = tt
-
-put-last-requires-2 : tie.Need-put-last-requires-2 Inv-loop μ-loop
-put-last-requires-2 c κs = tt
+put-stop-requires : tie.Need-put-stop-requires Inv-loop μ-loop
+put-stop-requires c κs = tt
 
 same-length-2 : tie.Need-same-length-2 Inv-loop μ-loop
-same-length-2 c =
-    let f = c .before .before .before .before .before .before .before .before .before .before in
-    all-length (c .before .before .put-last2 .ensures .is) ∙ f .before .loop .inv .2
+same-length-2 c = all-length (c .before .before .put-stop .ensures .is) ∙ c .before .before .before .before .before .before .before .before .loop .inv .2
 
 returns-2 : tie.Need-returns-2 Inv-loop μ-loop
-returns-2 c =
-    let w = c .before .before .before .before .before in
-    let f = w .before .before .before .before .before in
-    let i = f .before .loop .inv in
-    upto-stop (i .0) (f .frame-at .ensures) (w .before .before .before .step3 .given .1) (c .before .before .before .wide .ensures ∙ c .before .before .before .before .number .ensures) (i .3) (c .before .before .put-last2 .ensures)
+returns-2 c = let i = c .before .before .before .before .before .before .before .before .loop .inv in upto-stop (i .0) (c .before .before .before .before .before .before .before .frame-at .ensures) (c .before .before .before .before .before .step3 .given .1) (i .3) (c .before .before .put-stop .ensures)
 
 pub put-lines-spec : {M : Type 1} → statement M
 put-lines-spec =
@@ -117,14 +94,10 @@ put-lines-spec =
     loop-less
     loop-again
     enum-known-step-2
-    slice-aggregate-put-last
-    put-last-requires
+    put-end-requires
     same-length
     returns
     enum-known-step-3
-    slice-aggregate-put-last-2
-    number-requires
-    wide-requires
-    put-last-requires-2
+    put-stop-requires
     same-length-2
     returns-2)

@@ -11,10 +11,10 @@ use Rattle.replaying.proofs.put_lines.Statement.{statement}
 use Rattle.replaying.proofs.put_lines.Tie as tie
 
 abbrev Inv-loop : tie.InvT-loop
-Inv-loop out₀ stretch s₀ p₀ at₀ n₀ t16 t17 out s p at n = (at ≤ length stretch) × (n ≤ at) × (length out ≡ length out₀) × Upto stretch out₀ p₀ s at n out p
+Inv-loop out₀ stretch s₀ p₀ at₀ n₀ out s p at n = (at ≤ length stretch) × (n ≤ at) × (length out ≡ length out₀) × Upto stretch out₀ p₀ s at n out p
 
 abbrev μ-loop : tie.MeasureT-loop
-μ-loop out₀ stretch s₀ p₀ at₀ n₀ t16 t17 out s p at n = length stretch - at
+μ-loop out₀ stretch s₀ p₀ at₀ n₀ out s p at n = length stretch - at
 
 fresh-requires : tie.Need-fresh-requires Inv-loop μ-loop
 fresh-requires c κs = tt
@@ -52,38 +52,26 @@ loop-again c = let m = moved _ (c .before .before .before .before .before .befor
 enum-known-step-2 : tie.Need-enum-known-step-2 Inv-loop μ-loop
 enum-known-step-2 c = search needs
 
-slice-aggregate-put-last : tie.Need-slice-aggregate-put-last Inv-loop μ-loop
-slice-aggregate-put-last c = search needs
-
-put-last-requires : tie.Need-put-last-requires Inv-loop μ-loop
-put-last-requires c κs = tt
+put-end-requires : tie.Need-put-end-requires Inv-loop μ-loop
+put-end-requires c κs = tt
 
 same-length : tie.Need-same-length Inv-loop μ-loop
-same-length c = all-length (c .before .before .put-last .ensures .is) ∙ c .before .before .before .before .before .before .before .before .before .loop .inv .2
+same-length c = all-length (c .before .before .put-end .ensures .is) ∙ c .before .before .before .before .before .before .before .before .loop .inv .2
 
 returns : tie.Need-returns Inv-loop μ-loop
-returns c = let i = c .before .before .before .before .before .before .before .before .before .loop .inv in upto-end (i .0) (c .before .before .before .before .before .before .before .before .frame-at .ensures) (c .before .before .before .before .before .before .step2 .given .1) (i .3) (c .before .before .put-last .ensures)
+returns c = let i = c .before .before .before .before .before .before .before .before .loop .inv in upto-end (i .0) (c .before .before .before .before .before .before .before .frame-at .ensures) (c .before .before .before .before .before .step2 .given .1) (i .3) (c .before .before .put-end .ensures)
 
 enum-known-step-3 : tie.Need-enum-known-step-3 Inv-loop μ-loop
 enum-known-step-3 c = search needs
 
-slice-aggregate-put-last-2 : tie.Need-slice-aggregate-put-last-2 Inv-loop μ-loop
-slice-aggregate-put-last-2 c = search needs
-
-number-requires : tie.Need-number-requires Inv-loop μ-loop
-number-requires c κs = tt
-
-wide-requires : tie.Need-wide-requires Inv-loop μ-loop
-wide-requires c κs = tt
-
-put-last-requires-2 : tie.Need-put-last-requires-2 Inv-loop μ-loop
-put-last-requires-2 c κs = tt
+put-stop-requires : tie.Need-put-stop-requires Inv-loop μ-loop
+put-stop-requires c κs = tt
 
 same-length-2 : tie.Need-same-length-2 Inv-loop μ-loop
-same-length-2 c = all-length (c .before .before .put-last2 .ensures .is) ∙ c .before .before .before .before .before .before .before .before .before .before .before .loop .inv .2
+same-length-2 c = all-length (c .before .before .put-stop .ensures .is) ∙ c .before .before .before .before .before .before .before .before .loop .inv .2
 
 returns-2 : tie.Need-returns-2 Inv-loop μ-loop
-returns-2 c = let i = c .before .before .before .before .before .before .before .before .before .before .before .loop .inv in upto-stop (i .0) (c .before .before .before .before .before .before .before .before .before .before .frame-at .ensures) (c .before .before .before .before .before .before .before .before .step3 .given .1) (c .before .before .before .wide .ensures ∙ c .before .before .before .before .number .ensures) (i .3) (c .before .before .put-last2 .ensures)
+returns-2 c = let i = c .before .before .before .before .before .before .before .before .loop .inv in upto-stop (i .0) (c .before .before .before .before .before .before .before .frame-at .ensures) (c .before .before .before .before .before .step3 .given .1) (i .3) (c .before .before .put-stop .ensures)
 
 pub put-lines-spec : {M : Type 1} → statement M
 put-lines-spec =
@@ -103,14 +91,10 @@ put-lines-spec =
     loop-less
     loop-again
     enum-known-step-2
-    slice-aggregate-put-last
-    put-last-requires
+    put-end-requires
     same-length
     returns
     enum-known-step-3
-    slice-aggregate-put-last-2
-    number-requires
-    wide-requires
-    put-last-requires-2
+    put-stop-requires
     same-length-2
     returns-2)

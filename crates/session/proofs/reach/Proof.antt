@@ -29,16 +29,16 @@ enum-told-4 : tie.Need-enum-told-4
 enum-told-4 c = search needs
 
 returns : tie.Need-returns
-returns c = let a = c .before .before .before .before .before .before .before .args in reach-root (a .stretch .now) (a .s) (a .r) (c .before .before .before .before .place-of .ensures) (c .before .enum-told .given .1) (c .root .ensures)
+returns c = let a = c .before .before .before .before .before .before .args in reach-root (a .stretch .now) (a .s) (a .r) (c .before .before .before .place-of .ensures) (c .before .enum-told .given .1) (c .root .ensures)
 
 returns-2 : tie.Need-returns-2
-returns-2 c = let a = c .before .before .before .before .before .before .before .args in reach-walk (a .stretch .now) (a .s) (a .r) (c .before .before .before .before .place-of .ensures) (c .before .enum-told2 .given .1) (c .walk .ensures)
+returns-2 c = let a = c .before .before .before .before .before .before .args in reach-walk (a .stretch .now) (a .s) (a .r) (c .before .before .before .place-of .ensures) (c .before .enum-told2 .given .1) (c .walk .ensures)
 
 returns-3 : tie.Need-returns-3
-returns-3 c = let a = c .before .before .before .before .before .before .before .args in reach-child (a .stretch .now) (a .s) (a .r) (c .before .before .before .before .place-of .ensures) (c .before .enum-told3 .given .1) (c .child .ensures)
+returns-3 c = let a = c .before .before .before .before .before .before .args in reach-child (a .stretch .now) (a .s) (a .r) (c .before .before .before .place-of .ensures) (c .before .enum-told3 .given .1) (c .child .ensures)
 
 returns-4 : tie.Need-returns-4
-returns-4 c = let a = c .before .before .before .before .before .before .args in reach-copy (a .stretch .now) (a .s) (a .r) (c .before .before .before .place-of .ensures) (c .enum-told4 .given .1)
+returns-4 c = let a = c .before .before .before .before .before .args in reach-copy (a .stretch .now) (a .s) (a .r) (c .before .before .place-of .ensures) (c .enum-told4 .given .1)
 
 pub reach-spec : {M : Type 1} → statement M
 reach-spec =
