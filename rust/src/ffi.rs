@@ -333,6 +333,41 @@ fn crossing(tag: Tag) -> boundary::Tag {
     boundary::Tag(tag.0)
 }
 
+pub fn session() -> Session {
+    // SAFETY: it takes nothing.
+    unsafe { sheafsledge_session() }
+}
+
+/// The session follows the frame at a position.
+pub fn follow(session: &mut Session, stretch: &[u8], position: usize) -> boundary::Told {
+    let (from, count) = (stretch.as_ptr(), stretch.len());
+    // SAFETY: as for `read_t`; the session crosses by value, and any record and position are answered.
+    let followed = unsafe { sheafsledge_follow(*session, from, count, position) };
+    *session = followed.session;
+    followed.told
+}
+
+pub fn path(out: &mut [u8], session: &Session, fid: u32, stretch: &[u8]) -> Result<usize, Refusal> {
+    let (to, room, from, count) = (out.as_mut_ptr(), out.len(), stretch.as_ptr(), stretch.len());
+    // SAFETY: as for `write_t`; the session crosses by value, and any record is answered.
+    unsafe { sheafsledge_path(to, room, *session, fid, from, count) }.told()
+}
+
+pub fn sealed(file: &[u8]) -> bool {
+    // SAFETY: as for `read_t`.
+    unsafe { sheafsledge_sealed(file.as_ptr(), file.len()) }
+}
+
+pub fn trailer(out: &mut [u8], stretch: &[u8]) -> Result<usize, Stop> {
+    let (to, room, from, count) = (out.as_mut_ptr(), out.len(), stretch.as_ptr(), stretch.len());
+    // SAFETY: as for `write_t`.
+    let put = unsafe { sheafsledge_trailer(to, room, from, count) };
+    put.told().map_err(|refusal| Stop {
+        at: put.place,
+        refusal,
+    })
+}
+
 /// What an outcome is in Rust: the place, or the refusal.
 pub trait Told {
     fn told(self) -> Result<usize, Refusal>;

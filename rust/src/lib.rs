@@ -10,7 +10,7 @@
 //! hold several: [`Listed::fields`] says where each field of theirs stands. The entries of a
 //! directory are given by [`Rreaddir::entries`], and [`Rreaddir::pack`] packs them. [`plan_writes`]
 //! cuts a large write into Twrites no longer than the msize, and [`pcap`] goes from capture files to
-//! stretches and back. The example `server` shows a directory with these, and is meant to be started
+//! stretches and back. [`session`] follows a guest's frames and says which file a fid names. The example `server` shows a directory with these, and is meant to be started
 //! from.
 //!
 //! ```
@@ -64,6 +64,7 @@ mod plans;
 mod records;
 pub mod plain;
 mod refusal;
+pub mod session;
 #[cfg(feature = "std")]
 pub mod stream;
 mod stretch;
@@ -82,6 +83,7 @@ pub use places::{FieldAt, Value};
 pub use plans::{accepts_plan, plan_writes, twrites, Twrites};
 pub use records::*;
 pub use refusal::{Refusal, Sentence};
+pub use session::Session;
 pub use stretch::{answers, stretch, Mark, Stop};
 pub use tables::{write_rwalk, write_twalk, WalkHead};
 pub use text::Text;

@@ -159,6 +159,13 @@ pub fn stretch(bytes: &[u8]) -> crate::Stretch<'_> {
     Stretch::of(bytes)
 }
 
+/// The frame at a position; none where there is none.
+pub(crate) fn at(bytes: &[u8], position: usize) -> Option<crate::Listed<'_>> {
+    let mut frames = Stretch::of(bytes);
+    frames.position = Some(position);
+    frames.next()?.ok()
+}
+
 /// The frames of a stretch, see [`stretch()`](crate::stretch()).
 #[derive(Clone, Copy, Debug)]
 pub struct Stretch<'a, B> {

@@ -1,6 +1,6 @@
 //! The proved library as C sees it: the functions of the crates `exports`, `request_exports`,
-//! `reply_exports`, `stretch_exports`, `planning_exports`, `block_exports`, `capture_exports` and
-//! `plain_exports`, and the archive that holds them, which the build script has linked. The crate
+//! `reply_exports`, `stretch_exports`, `planning_exports`, `block_exports`, `capture_exports`,
+//! `plain_exports` and `session_exports`, and the archive that holds them, which the build script has linked. The crate
 //! `sheafsledge` is what a server calls; it adds slices, records and refusals to these.
 //!
 //! Nothing joins the two texts but the names of the functions, so a difference would be read as
@@ -100,6 +100,92 @@ pub struct Tag(
     /// The number on the wire.
     pub u16,
 );
+
+/// What a session keeps of a request: the fid that must be new, the one that must be known, the one
+/// that the reply gives, moves or drops; a flush's old tag; and where a walk's names stand, or the
+/// name of a file that is made.
+#[repr(C)]
+#[derive(Clone, Copy, Debug, PartialEq, Eq)]
+pub struct Request {
+    /// The request's type.
+    pub ty: u8,
+    /// The fid that must be new.
+    pub new: u64,
+    /// The fid that must be known.
+    pub known: u64,
+    /// The fid that the reply gives, moves or drops.
+    pub to: u64,
+    /// A flush's old tag.
+    pub old: u16,
+    /// How many names a walk has.
+    pub count: u16,
+    /// Where its names start in the stretch.
+    pub start: usize,
+    /// How many bytes they are.
+    pub len: usize,
+}
+
+/// The places of a session; the first `used` rows are places.
+#[repr(C)]
+#[derive(Clone, Copy, Debug, PartialEq, Eq)]
+pub struct Places {
+    /// The place that each was reached from; a root has itself.
+    pub older: [u8; 256],
+    /// Where its name starts in the stretch.
+    pub starts: [usize; 256],
+    /// How many bytes the name has.
+    pub lens: [usize; 256],
+    /// How many places there are.
+    pub used: usize,
+}
+
+/// The record of a guest's session: the open requests by their tags, the fids with their places, and
+/// the places. The library makes the first one and each that follows.
+#[repr(C)]
+#[derive(Clone, Copy, Debug, PartialEq, Eq)]
+pub struct Session {
+    /// The tags of the open requests; 4,294,967,296 in a row that is free.
+    pub tags: [u64; 64],
+    /// The open requests.
+    pub requests: [Request; 64],
+    /// The fids; 4,294,967,296 in a row that is free.
+    pub fids: [u64; 64],
+    /// The place of each fid.
+    pub at: [u8; 64],
+    /// The places.
+    pub places: Places,
+}
+
+/// What the library tells of a frame that a session has followed: an [`Outcome`], the tail, and the
+/// fid that the frame is about, 4,294,967,297 if there is none.
+#[repr(C)]
+#[derive(Clone, Copy, Debug, PartialEq, Eq)]
+pub struct Told {
+    /// 0, or the number of the refusal.
+    pub refusal: u8,
+    /// The frame's type.
+    pub ty: u8,
+    /// The frame's tag.
+    pub tag: u16,
+    /// Whether there is a frame.
+    pub held: bool,
+    /// Where the next frame starts; where there is none, the position.
+    pub place: usize,
+    /// How many bytes stand after the last field; 0 where it is refused.
+    pub tail: usize,
+    /// The fid that the frame is about.
+    pub fid: u64,
+}
+
+/// A session after a frame, and what is told of the frame.
+#[repr(C)]
+#[derive(Clone, Copy, Debug, PartialEq, Eq)]
+pub struct Followed {
+    /// The session; where the frame is refused, the one before it.
+    pub session: Session,
+    /// What is told of the frame.
+    pub told: Told,
+}
 
 extern "C" {
     /// Reads the request at the front of the bytes.
@@ -361,6 +447,35 @@ extern "C" {
         reply_ty: u8,
         reply_tag: Tag,
     ) -> bool;
+    /// A session before its first frame.
+    pub fn sheafsledge_session() -> Session;
+    /// Follows the frame at a position of a stretch.
+    pub fn sheafsledge_follow(
+        s: Session,
+        stretch: *const u8,
+        count: usize,
+        position: usize,
+    ) -> Followed;
+    /// Writes the path of a fid over the front of the output, and answers the place after it; refused,
+    /// the output is as it was.
+    pub fn sheafsledge_path(
+        out: *mut u8,
+        room: usize,
+        s: Session,
+        fid: u32,
+        stretch: *const u8,
+        count: usize,
+    ) -> Outcome;
+    /// Whether a file ends in the trailer of the stretch before it.
+    pub fn sheafsledge_sealed(file: *const u8, count: usize) -> bool;
+    /// Writes the trailer of a stretch over the front of the output, and answers the place after it;
+    /// refused, the output is as it was.
+    pub fn sheafsledge_trailer(
+        out: *mut u8,
+        room: usize,
+        stretch: *const u8,
+        count: usize,
+    ) -> Outcome;
     /// The frame at a position of a stretch of any dialect, by its size.
     pub fn sheafsledge_frame_at(bytes: *const u8, count: usize, position: usize) -> Outcome;
     /// Answers 4, the number of the boundary.
@@ -394,6 +509,11 @@ macro_rules! laid_out {
 laid_out!(Outcome: 16, 8; refusal 0, ty 1, tag 2, held 4, place 8);
 laid_out!(Packed: 24, 8; refusal 0, entries 8, place 16);
 laid_out!(Qid: 16, 8; ty 0, version 4, path 8);
+laid_out!(Request: 56, 8; ty 0, new 8, known 16, to 24, old 32, count 34, start 40, len 48);
+laid_out!(Places: 4360, 8; older 0, starts 256, lens 2304, used 4352);
+laid_out!(Session: 9032, 8; tags 0, requests 512, fids 4096, at 4608, places 4672);
+laid_out!(Told: 32, 8; refusal 0, ty 1, tag 2, held 4, place 8, tail 16, fid 24);
+laid_out!(Followed: 9064, 8; session 0, told 9032);
 
 /// Holds a type without named fields to its size and alignment, in bytes.
 macro_rules! sized {
