@@ -5,6 +5,7 @@ mod beside;
 mod by_hand;
 mod draw;
 mod frames;
+mod ours;
 mod program;
 mod reading;
 mod recording;
@@ -21,6 +22,9 @@ use p9::draw::Draws;
 
 use recording::{numbers, text, with_trailer};
 use tally::Tally;
+
+/// Of one in so many the paths of all fids are compared after each frame, which takes long.
+const PATHS_OF: usize = 8;
 
 const RECORDING: &[u8] = include_bytes!("../../../../examples/diod-session.bin");
 
@@ -74,7 +78,7 @@ fn compared(what: &str, program: &str, files: Vec<Vec<u8>>) -> usize {
 /// 1 if the program says anything else of the file, with a line for it.
 fn one(what: &str, program: &str, file: &[u8], text: &str) -> usize {
     let difference = match program::replay(program, file) {
-        Ok(said) => program::difference(&said, text),
+        Ok(said) => program::difference(&said, text).or_else(|| ours_differs(file, text)),
         Err(error) => Some(error),
     };
     if let Some(difference) = &difference {
@@ -83,17 +87,40 @@ fn one(what: &str, program: &str, file: &[u8], text: &str) -> usize {
     usize::from(difference.is_some())
 }
 
+/// Whether an answer or a path of the crate's session differs, with a line for it.
+fn paths_differ(turn: usize, stretch: &[u8]) -> bool {
+    let difference = beside::beside(stretch, &mut ours::Ours::new());
+    if let Some(difference) = &difference {
+        println!("drawn, number {turn}, the crate's paths: {difference}");
+    }
+    difference.is_some()
+}
+
+/// The crate's text of a file, which may be longer there.
+fn ours_differs(file: &[u8], text: &str) -> Option<String> {
+    let told = file.len() <= recording::LONGEST;
+    let difference = told.then(|| program::difference(ours::text(file).as_bytes(), text));
+    difference
+        .flatten()
+        .map(|difference| format!("the crate: {difference}"))
+}
+
 /// The drawn ones, with the tally. What a run has to meet and did not is wrong too.
 fn traces(program: &str, count: usize, seed: u64) -> usize {
     let (draws, tally) = (&mut Draws::new(seed), &mut Tally::default());
     let (mut frames, mut differ) = (0, 0);
     for turn in 0..count {
-        let file = sealed(&draw::stretch(turn, draws));
+        let stretch = draw::stretch(turn, draws);
+        let file = sealed(&stretch);
         tally.start();
         let text = text(&file, tally);
         // Beside the header and the last line.
         frames += text.lines().count() - 2;
         differ += one(&format!("drawn, number {turn}"), program, &file, &text);
+        differ += usize::from(!ours::seals(&file));
+        if turn % PATHS_OF == 0 {
+            differ += usize::from(paths_differ(turn, &stretch));
+        }
     }
     println!("drawn: {count} files, {frames} frames; {differ} differ");
     tally.print();
