@@ -7,6 +7,7 @@ mod dialects;
 mod frames;
 mod in_rust;
 mod served;
+mod sessions;
 mod stretch;
 mod texts;
 
@@ -32,6 +33,7 @@ fn main() -> ExitCode {
         && replies.all(|(name, frame)| rows::<CrossedR, Reply, Rframe>(name, frame))
         && dialects::rows()
         && stretch::row_of_a_million()
+        && sessions::row_of_a_session()
         && blocks::rows()
         && captures::rows_of_a_million()
         && texts::rows()
