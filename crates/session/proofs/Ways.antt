@@ -1,7 +1,8 @@
 -- For each way through the code: what the definition says there.
 use Prim.Native.Nat.{ℕ, _<_, _≤_}
-use mathlib.Core.Path.{_≡_, refl, ap, _∙_}
-use mathlib.Core.Bool.{Bool, true, false}
+use native.Mathlib.Omega.{arith}
+use mathlib.Core.Path.{_≡_, refl, sym, ap, _∙_}
+use mathlib.Core.Bool.{Bool, true, false, cond}
 use mathlib.Core.List.{List, [], _∷_}
 use mathlib.Core.Logic.{inl, inr}
 use types.Run.{OneOf, miss}
@@ -35,7 +36,7 @@ use Rattle.session.specs.declared.Event.{Event}
 use Rattle.session.specs.Rows.{rowOf}
 use Rattle.session.proofs.Effect as Ef
 use Rattle.session.specs.About.{firstFid, fidGiven, answeredFid, fidOf}
-use Rattle.session.specs.Rules.{free, none, blank, fresh, accepts, refuses, unless, unfit, asked, effectOf, closed, dropped, placeOf, reached, held, given, done, finished, replied, answered, stepped, FidPath}
+use Rattle.session.specs.Rules.{free, none, blank, fresh, accepts, refuses, unless, unfit, asked, effectOf, nothingElse, onlyCloses, closed, dropped, placeOf, reached, held, given, done, finished, replied, answered, stepped, FidPath}
 
 -- ---- a session before its first frame
 
@@ -239,6 +240,42 @@ module _ (s : Session) (tag : ℕ) (d : Stepped) {t : Stepped} where
   unfolding finished
   finish-refused h f = rw h f
 
+-- where a reply does nothing but close its tag
+closes-is : (asked tag ty : ℕ) (whole : Bool) → onlyCloses asked tag ty whole ≡ cond (pairs tableT rlerror asked tag ty tag) (nothingElse (effectOf asked ty whole)) false
+unfolding onlyCloses
+closes-is asked tag ty whole = refl
+
+no : false ≡ true → ⊥
+no e = let z : _≡_ {A = ℕ} 0 1 = cc in omega arith
+
+closes-when : (b : Bool) (e : Effect) → cond b (nothingElse e) false ≡ true → (b ≡ true) × (e ≡ E.Nothing)
+closes-when true E.Nothing h = (refl, refl)
+closes-when true E.Empties h = absurd (no h)
+closes-when true E.Flushes h = absurd (no h)
+closes-when true E.Drops h = absurd (no h)
+closes-when true (E.Gives w) h = absurd (no h)
+closes-when false e h = absurd (no h)
+
+module _ (asked tag ty : ℕ) (whole : Bool) {b : Bool} (e : b ≡ pairs tableT rlerror asked tag ty tag) where
+  pub closes-so : {f : Effect} → b ≡ true → f ≡ effectOf asked ty whole → f ≡ E.Nothing → true ≡ onlyCloses asked tag ty whole
+  unfolding onlyCloses
+  closes-so h g k = rw (← e, h, ← g, k)
+
+  pub closes-more : (f : Effect) → b ≡ true → f ≡ effectOf asked ty whole → OneOf (1 ∷ 2 ∷ 3 ∷ 4 ∷ []) (tagOf Ef.the-type f) → false ≡ onlyCloses asked tag ty whole
+  unfolding onlyCloses
+  closes-more f h g k = rw (← e, h, ← g) (go f k)
+    where
+      go : (f : Effect) → OneOf (1 ∷ 2 ∷ 3 ∷ 4 ∷ []) (tagOf Ef.the-type f) → false ≡ nothingElse f
+      go E.Nothing k = absurd (miss (1 ∷ 2 ∷ 3 ∷ 4 ∷ []) 0 tt k)
+      go E.Empties k = refl
+      go E.Flushes k = refl
+      go E.Drops k = refl
+      go (E.Gives w) k = refl
+
+  pub closes-not : b ≡ false → false ≡ onlyCloses asked tag ty whole
+  unfolding onlyCloses
+  closes-not h = rw (← e, h)
+
 module _ (bs : List ℕ) (s : Session) (tag ty n : ℕ) where
   module _ (r : Request) {b : Bool} (e : b ≡ pairs tableT rlerror (r .ty) tag ty tag) where
     pub reply-done : {f : Effect} {d t : Stepped} → b ≡ true → f ≡ effectOf (r .ty) ty (eqb n (r .count)) → d ≡ done bs s f r → t ≡ finished s tag d → t ≡ replied bs s tag ty n r
@@ -250,6 +287,14 @@ module _ (bs : List ℕ) (s : Session) (tag ty n : ℕ) where
     reply-unlike h f = rw (← e, h) f
 
   module _ {i : ℕ} (e : i ≡ rowOf tag (s .tags)) where
+    pub reply-closes : {b : Bool} {t : Stepped} (r : Request) → i < 64 → r ≡ getD (s .requests) i blank → b ≡ onlyCloses (r .ty) tag ty (eqb n (r .count)) → b ≡ true
+        → t ≡ accepts (record { tags = set (s .tags) i free; requests = s .requests; fids = s .fids; at = s .at; places = s .places }) → t ≡ answered bs s tag ty n
+    unfolding answered replied done finished
+    reply-closes {t = t} r h q g k f =
+        let y = closes-when (pairs tableT rlerror (r .ty) tag ty tag) (effectOf (r .ty) ty (eqb n (r .count))) (sym (closes-is (r .ty) tag ty (eqb n (r .count))) ∙ sym g ∙ k) in
+        let z : t ≡ replied bs s tag ty n r = rw (y .0, y .1) (f ∙ ap accepts (tag-closed s tag e h)) in
+        rw (← e, lt-ltb i 64 h, ← q) z
+
     pub reply-open : {t : Stepped} → i < 64 → t ≡ replied bs s tag ty n (getD (s .requests) i blank) → t ≡ answered bs s tag ty n
     unfolding answered
     reply-open h f = rw (← e, lt-ltb i 64 h) f

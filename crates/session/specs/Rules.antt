@@ -145,6 +145,17 @@ unfoldable pub replied : List ℕ → Session → ℕ → ℕ → ℕ → Reques
 replied bs s tag ty n r =
     cond (pairs tableT rlerror (r .ty) tag ty tag) (finished s tag (done bs s (effectOf (r .ty) ty (eqb n (r .count))) r)) (refuses s R.NoRequest)
 
+-- it answers, and does nothing but close the tag
+abbrev pub nothingElse : Effect → Bool
+nothingElse E.Nothing = true
+nothingElse E.Empties = false
+nothingElse E.Flushes = false
+nothingElse E.Drops = false
+nothingElse (E.Gives w) = false
+
+unfoldable pub onlyCloses : ℕ → ℕ → ℕ → Bool → Bool
+onlyCloses asked tag ty whole = cond (pairs tableT rlerror asked tag ty tag) (nothingElse (effectOf asked ty whole)) false
+
 -- the request that is open under a tag
 abbrev pub requestOf : Session → ℕ → Request
 requestOf s tag = getD (s .requests) (rowOf tag (s .tags)) blank

@@ -11,9 +11,11 @@ use places::Spot;
 use strings::Span;
 ghost use mathlib.Core.Path.{_≡_};
 ghost use Prim.Native.Nat.{_+_, _<_};
+ghost use Rattle.layouts.specs.Tables.{tableT};
+ghost use Rattle.pairs.specs.Pairs.{rlerror, pairs};
 ghost use Rattle.session.specs.Rows.{rowOf};
 ghost use Rattle.session.specs.About.{firstFid, fidGiven, answeredFid, fidOf};
-ghost use Rattle.session.specs.Rules.{fresh, accepts, refuses, unless, unfit, asked, effectOf, closed, dropped, placeOf, reached, held, given, done, finished, replied, answered, stepped, FidPath};
+ghost use Rattle.session.specs.Rules.{fresh, accepts, refuses, unless, unfit, asked, effectOf, onlyCloses, closed, dropped, placeOf, reached, held, given, done, finished, replied, answered, stepped, FidPath};
 
 // No tag and no fid is so large: a row that is free, and a fid that is not asked for.
 pub const FREE: u64 = 4294967296;
@@ -357,16 +359,36 @@ fn finish(s: Session, tag: u16, d: Stepped) -> Stepped
     }
 }
 
+fn answers(asked: u8, tag: u16, ty: u8) -> bool
+    ensures { λ b. ⌜ b ≡ pairs tableT rlerror asked tag ty tag ⌝ }
+{
+    let request = Mark {
+        ty: asked,
+        tag: Tag(tag),
+    };
+    let reply = Mark { ty, tag: Tag(tag) };
+    pairs::answers(request, reply)
+}
+
+// Whether a reply does nothing but close its tag, as most do. `reply_to` would say the same of them, with more copies of the record.
+fn only_closes(asked: u8, tag: u16, ty: u8, whole: bool) -> bool
+    ensures { λ b. ⌜ b ≡ onlyCloses asked tag ty whole ⌝ }
+{
+    if answers(asked, tag, ty) {
+        let e = effect_of(asked, ty, whole);
+        let Effect::Nothing = e else {
+            return false;
+        };
+        return true;
+    }
+    false
+}
+
 // A reply to the request that is open under its tag: 21, 22, 23, 24.
 fn reply_to(s: Session, stretch: &[u8], tag: u16, ty: u8, qids: u16, r: Request) -> Stepped
     ensures { λ t. ⌜ t ≡ replied (now (stretch .entry)) s tag ty qids r ⌝ }
 {
-    let asked = Mark {
-        ty: r.ty,
-        tag: Tag(tag),
-    };
-    let given = Mark { ty, tag: Tag(tag) };
-    if pairs::answers(asked, given) {
+    if answers(r.ty, tag, ty) {
         let e = effect_of(r.ty, ty, qids == r.count);
         return finish(s, tag, done(s, e, r, stretch));
     }
@@ -380,6 +402,11 @@ fn reply(s: Session, stretch: &[u8], tag: u16, ty: u8, qids: u16) -> Stepped
     let i = find(&s.tags, tag as u64);
     if i < 64 {
         let r = s.requests[i];
+        if only_closes(r.ty, tag, ty, qids == r.count) {
+            let mut t = s;
+            t.tags[i] = FREE;
+            return accepts(t);
+        }
         return reply_to(s, stretch, tag, ty, qids, r);
     }
     refuses(s, Refusal::NoRequest)
