@@ -4,13 +4,13 @@ _sheafsledge() {
     local word=${COMP_WORDS[COMP_CWORD]} before=${COMP_WORDS[COMP_CWORD - 1]} offers='' i
     COMPREPLY=()
     if [ "$COMP_CWORD" -eq 1 ]; then
-        mapfile -t COMPREPLY < <(compgen -W 'list pairs where fields join plan entries pcap --help -h --version -V' -- "$word")
+        mapfile -t COMPREPLY < <(compgen -W 'list pairs where fields seal paths join plan entries pcap --help -h --version -V' -- "$word")
         return
     fi
     case ${COMP_WORDS[1]} in
     list | where) offers='--names --json --dialect --output -o --help -h' ;;
     pairs) offers='--dialect --output -o --help -h' ;;
-    plan) offers='--output -o --help -h' ;;
+    seal | paths | plan) offers='--output -o --help -h' ;;
     fields) offers='--json --dialect --output -o --help -h' ;;
     join) offers='--last-may-stop --output -o --help -h' ;;
     entries) offers='--block --output -o --help -h' ;;

@@ -30,8 +30,8 @@ impl Input {
         let about = file.metadata()?;
         if about.is_dir() {
             // The system has the words for it.
-            file.read(&mut [0])?;
-            return Err(ErrorKind::IsADirectory.into());
+            let error = file.read(&mut [0]).err();
+            return Err(error.unwrap_or(ErrorKind::IsADirectory.into()));
         }
         let regular = about.is_file();
         let start = match regular {
@@ -97,6 +97,13 @@ impl Source for Input {
         self.read_over(u64::MAX)?;
         Ok(self.read)
     }
+}
+
+/// All of a file, for who cannot go through it piece by piece.
+pub fn all_of(word: &OsStr, watched: bool) -> io::Result<Vec<u8>> {
+    let mut bytes = Vec::new();
+    Input::open(word, watched)?.read_to_end(&mut bytes)?;
+    Ok(bytes)
 }
 
 pub fn is_standard(word: &OsStr) -> bool {

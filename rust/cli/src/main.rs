@@ -14,9 +14,12 @@ mod join;
 mod list;
 mod output;
 mod pairs;
+mod paths;
 mod pcap;
 mod plan;
+mod quotes;
 mod recording;
+mod seal;
 mod status;
 mod terminal;
 mod r#where;
@@ -35,6 +38,8 @@ const COMMANDS: &[Command] = &[
     pairs::COMMAND,
     r#where::COMMAND,
     fields::COMMAND,
+    seal::COMMAND,
+    paths::COMMAND,
     join::COMMAND,
     plan::COMMAND,
     entries::COMMAND,

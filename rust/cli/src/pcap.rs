@@ -1,17 +1,16 @@
 //! `sheafsledge pcap`: a capture file made a recording, and a recording made a capture file.
 
 use std::ffi::OsStr;
-use std::io::{self, ErrorKind, Read};
+use std::io::{self, ErrorKind};
 
 use sheafsledge::pcap::{export, import, HEADER, RECORD};
-use sheafsledge::Stop;
 
 use crate::command::Command;
 use crate::help;
-use crate::input::{is_standard, named, Input};
+use crate::input::{all_of, is_standard, named};
 use crate::list::OUTPUT;
 use crate::output::{finish_all, Output};
-use crate::status::{say, Failure, Status};
+use crate::status::{refused, Failure, Status};
 use crate::words::{Opt, Words};
 
 const TIMES: Opt = Opt {
@@ -76,7 +75,7 @@ fn imported(words: &Words, file: &OsStr, out: &OsStr, times: &OsStr) -> Result<S
     let mut room = vec![0; bytes.len()];
     let mut rows = vec![[0; 2]; bytes.len() / (RECORD + 7)];
     match import(&mut room, &mut rows, &bytes) {
-        Err(stop) => Ok(refused(file, stop)),
+        Err(stop) => Ok(refused(&named(file), stop, "")),
         Ok(import) => {
             let (mut stretch, mut table) = (Output::open(Some(out))?, Output::open(Some(times))?);
             stretch.text().extend_from_slice(import.stretch);
@@ -107,7 +106,7 @@ fn exported(
     };
     let mut room = vec![0; HEADER + stretch.len() + RECORD * most];
     match export(&mut room, &stretch, &rows) {
-        Err(stop) => Ok(refused(file, stop)),
+        Err(stop) => Ok(refused(&named(file), stop, "")),
         Ok(len) => {
             let mut output = Output::open(Some(out))?;
             output.text().extend_from_slice(&room[..len]);
@@ -119,11 +118,7 @@ fn exported(
 
 /// All of a file.
 fn read(word: &OsStr) -> Result<Vec<u8>, Failure> {
-    let failed = |error| Failure::file(&named(word), error);
-    let mut bytes = Vec::new();
-    let mut input = Input::open(word, false).map_err(failed)?;
-    input.read_to_end(&mut bytes).map_err(failed)?;
-    Ok(bytes)
+    all_of(word, false).map_err(|error| Failure::file(&named(word), error))
 }
 
 /// The rows of a file of times. A part of a row would be dropped unseen.
@@ -138,13 +133,4 @@ fn table(word: &OsStr) -> Result<Vec<[u32; 2]>, Failure> {
     Ok(rows
         .map(|row| [number(&row[..4]), number(&row[4..])])
         .collect())
-}
-
-fn refused(file: &OsStr, stop: Stop) -> Status {
-    let (name, at, refusal) = (named(file), stop.at, stop.refusal);
-    let (number, sentence) = (refusal.number(), refusal.sentence());
-    say(&format!(
-        "{name}: refused with {number} at byte {at}: {sentence}"
-    ));
-    Status::Unsound
 }

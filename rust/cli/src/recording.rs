@@ -41,6 +41,16 @@ pub trait Source: Read {
     fn end(&mut self) -> io::Result<u64>;
 }
 
+impl<S: Source> Source for &mut S {
+    fn pass(&mut self, count: u64) -> io::Result<bool> {
+        (**self).pass(count)
+    }
+
+    fn end(&mut self) -> io::Result<u64> {
+        (**self).end()
+    }
+}
+
 /// A frame's place and what is answered for it.
 #[derive(Clone, Copy, Debug, PartialEq, Eq)]
 pub struct Row {
@@ -176,7 +186,7 @@ impl<S: Source, D: Dialect> Recording<S, D> {
             if let Some(refusal) = stop.filter(|refusal| *refusal != Refusal::StretchCut) {
                 return Ok(Some(self.stopped(refusal)));
             }
-            self.to_the_front();
+            self.move_up();
             let size = self.declared();
             let goes_on = match size > self.piece {
                 true => self.long_frame(size)?,
@@ -218,7 +228,7 @@ impl<S: Source, D: Dialect> Recording<S, D> {
         None
     }
 
-    fn to_the_front(&mut self) {
+    fn move_up(&mut self) {
         let len = self.left.len();
         self.buffer.copy_within(self.left.clone(), 0);
         self.left = 0..len;

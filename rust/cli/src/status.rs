@@ -3,6 +3,8 @@
 use std::io::{self, ErrorKind, Write};
 use std::process::ExitCode;
 
+use sheafsledge::Stop;
+
 #[derive(Clone, Copy, Debug, PartialEq, Eq)]
 pub enum Status {
     Sound = 0,
@@ -67,6 +69,16 @@ impl Failure {
             Self::Closed => Status::Closed,
         }
     }
+}
+
+/// Says why a file of that name is refused and where, and what else there is to say.
+pub fn refused(name: &str, stop: Stop, more: &str) -> Status {
+    let Stop { at, refusal } = stop;
+    let (number, sentence) = (refusal.number(), refusal.sentence());
+    say(&format!(
+        "{name}: refused with {number} at byte {at}: {sentence}{more}"
+    ));
+    Status::Unsound
 }
 
 /// A line on standard error. If that can't be written either, nobody is left to be told.

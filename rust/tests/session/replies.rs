@@ -87,7 +87,11 @@ fn what_was_asked_is_asked_again() {
         (rauth(2), 22),
     ];
     traced("Rauth: the afid is in use by now", frames, &[]);
+}
 
+/// By each reply that gives, moves or drops a fid, and by no other.
+#[test]
+fn the_fid_may_be_gone_by_then() {
     for (why, asked, reply) in [
         ("a walk by no names", walk(1, 0, 5, &[]), rwalk(1, 0)),
         ("newfid = fid", walk(1, 0, 0, &["a"]), rwalk(1, 1)),

@@ -1,9 +1,8 @@
 //! Files that are a block each.
 
-use std::ffi::OsStr;
-use std::io::{self, Read, Write};
+use std::io::{self, Write};
 
-use crate::input::{named, Input};
+use crate::input::{all_of, named};
 use crate::list::{named_files, numbered, OUTPUT};
 use crate::output::Output;
 use crate::status::{say, Failure, Status};
@@ -20,7 +19,7 @@ pub fn listed(words: &Words) -> Result<Status, Failure> {
     let paint = Paint::on(output.is_terminal());
     let (mut counted, mut bytes, mut begun, mut failed) = (Counted::default(), 0, false, false);
     for file in files {
-        let read = match read(file, watched) {
+        let read = match all_of(file, watched) {
             Ok(read) => read,
             Err(error) => {
                 output.flush().map_err(|error| output.failure(error))?;
@@ -57,10 +56,4 @@ pub fn listed(words: &Words) -> Result<Status, Failure> {
         (false, 0) => Status::Sound,
         (false, _) => Status::Unsound,
     })
-}
-
-fn read(file: &OsStr, watched: bool) -> io::Result<Vec<u8>> {
-    let mut read = Vec::new();
-    Input::open(file, watched)?.read_to_end(&mut read)?;
-    Ok(read)
 }

@@ -5,6 +5,7 @@ use sheafsledge::{Body, Dirent, Dirents, Listed, Rmessage};
 use crate::dialect::L;
 use crate::digits::push;
 use crate::list::{self, Form, Summary};
+use crate::quotes::quoted;
 use crate::recording::{Ended, Row};
 use crate::terminal::{Paint, Shade};
 
@@ -126,23 +127,6 @@ fn line(at: u64, entry: &Dirent, text: &mut Vec<u8>) {
         push(text, n);
         text.push(b' ');
     }
-    quoted(name, text);
+    quoted(name.as_bytes(), text);
     text.push(b'\n');
-}
-
-/// A name in quotes, and nothing in it that a terminal would obey.
-fn quoted(name: &str, text: &mut Vec<u8>) {
-    const DIGITS: &[u8; 16] = b"0123456789abcdef";
-    text.push(b'"');
-    for byte in name.bytes() {
-        match byte {
-            b'"' | b'\\' => text.extend_from_slice(&[b'\\', byte]),
-            0..=31 | 127 => {
-                let [high, low] = [byte >> 4, byte & 15].map(|digit| DIGITS[digit as usize]);
-                text.extend_from_slice(&[b'\\', b'x', high, low]);
-            }
-            _ => text.push(byte),
-        }
-    }
-    text.push(b'"');
 }

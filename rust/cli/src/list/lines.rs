@@ -49,22 +49,40 @@ impl<D: Dialect, const NAMED: bool> Lines<D, NAMED> {
 
     /// The same with names, or with colour.
     fn adorned(&mut self, row: &Row, text: &mut Vec<u8>) {
-        let shade = match row.refusal {
-            Some(_) => Some(Shade::Refused),
-            None => (row.tail > 0).then_some(Shade::Tail),
-        };
+        self.longer(row, shade(row), text, |text| {
+            if NAMED {
+                name_it::<D>(row, text);
+            }
+        });
+    }
+
+    /// The same in a colour, and with more columns.
+    pub fn longer(
+        &mut self,
+        row: &Row,
+        shade: Option<Shade>,
+        text: &mut Vec<u8>,
+        more: impl FnOnce(&mut Vec<u8>),
+    ) {
         let (begin, end) = match shade {
             Some(shade) => (self.paint.begin(shade), self.paint.end()),
             None => ("", ""),
         };
         text.extend_from_slice(begin.as_bytes());
         self.line(row, text);
+        // Its end comes after the columns.
         text.pop();
-        if NAMED {
-            name_it::<D>(row, text);
-        }
+        more(text);
         text.extend_from_slice(end.as_bytes());
         text.push(b'\n');
+    }
+}
+
+/// What of a frame is worth a look.
+pub fn shade(row: &Row) -> Option<Shade> {
+    match row.refusal {
+        Some(_) => Some(Shade::Refused),
+        None => (row.tail > 0).then_some(Shade::Tail),
     }
 }
 

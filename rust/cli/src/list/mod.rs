@@ -7,6 +7,7 @@ mod summary;
 
 use std::ffi::{OsStr, OsString};
 use std::io::{self, Write};
+use std::mem::replace;
 
 use crate::command::Command;
 use crate::dialect::{self, Dialect, Plain, DIALECT, L};
@@ -20,7 +21,7 @@ use crate::words::{Opt, Words};
 
 pub use form::{BodyOf, Form};
 pub use json::Json;
-pub use lines::{name_it, Lines};
+pub use lines::{name_it, shade, Lines};
 pub use summary::{entries, numbered, Summary};
 
 pub const NAMES: Opt = Opt {
@@ -92,6 +93,12 @@ pub fn named_files(words: &Words) -> Result<&[OsString], Failure> {
     Ok(files)
 }
 
+/// Where a file has to be written.
+pub fn named_output(words: &Words) -> Result<&OsStr, Failure> {
+    let output = words.value(OUTPUT.long);
+    output.ok_or_else(|| words.wrong("name the FILE to write, with '-o'".into()))
+}
+
 /// The files that are named, by a command whose lines are a frame's each.
 pub fn listed(
     words: &Words,
@@ -113,12 +120,12 @@ pub fn listed(
 }
 
 pub struct Listing {
-    output: Output,
-    watched: bool,
+    pub output: Output,
+    pub watched: bool,
     several: bool,
     /// Whether anything is listed.
     begun: bool,
-    summary: Summary,
+    pub summary: Summary,
     /// Whether a file could not be read.
     failed: bool,
 }
@@ -126,13 +133,23 @@ pub struct Listing {
 impl Listing {
     /// Each file in its form, and the summary.
     pub fn of<F: Form>(
-        mut self,
+        self,
         files: &[impl AsRef<OsStr>],
         form: impl Fn(&OsStr) -> F,
     ) -> Result<Status, Failure> {
+        self.each(files, |listing, file| listing.file(file, form(file)))
+    }
+
+    /// Each file as `one` lists it, and the summary. An inner error is of the file that is read: the
+    /// others can still be.
+    pub fn each(
+        mut self,
+        files: &[impl AsRef<OsStr>],
+        one: impl Fn(&mut Self, &OsStr) -> Result<io::Result<()>, Failure>,
+    ) -> Result<Status, Failure> {
         for file in files {
             let file = file.as_ref();
-            if let Err(error) = self.file(file, form(file))? {
+            if let Err(error) = one(&mut self, file)? {
                 self.output
                     .flush()
                     .map_err(|error| self.output.failure(error))?;
@@ -143,7 +160,6 @@ impl Listing {
         self.end()
     }
 
-    /// The inner error is of the file that is read: the others can still be.
     fn file<F: Form>(&mut self, file: &OsStr, mut form: F) -> Result<io::Result<()>, Failure> {
         let input = match Input::open(file, self.watched) {
             Ok(input) => input,
@@ -158,8 +174,8 @@ impl Listing {
             };
             // Not before something of it could be read.
             if !begun {
-                form.begin(self.heading(file).as_deref(), self.output.text());
-                (begun, self.begun) = (true, true);
+                form.begin(self.begin(file).as_deref(), self.output.text());
+                begun = true;
             }
             self.frames(&recording, &mut form)
                 .map_err(|error| self.output.failure(error))?;
@@ -196,9 +212,13 @@ impl Listing {
         Ok(())
     }
 
-    /// What stands above a listing where there are several, as `head` has it.
-    fn heading(&self, file: &OsStr) -> Option<String> {
-        let gap = if self.begun { "\n" } else { "" };
+    /// A listing more. What stands above it where there are several, as `head` has it.
+    pub fn begin(&mut self, file: &OsStr) -> Option<String> {
+        let gap = if replace(&mut self.begun, true) {
+            "\n"
+        } else {
+            ""
+        };
         let heading = || format!("{gap}==> {} <==\n", named(file));
         self.several.then(heading)
     }

@@ -6,7 +6,7 @@ use sheafsledge::{Mark, Tag};
 
 use crate::dialect::Dialect;
 use crate::digits::push;
-use crate::list::{Form, Lines, Summary};
+use crate::list::{shade, Form, Lines, Summary};
 use crate::recording::{Ended, Row};
 use crate::terminal::{Paint, Shade};
 
@@ -21,7 +21,6 @@ enum Other {
 }
 
 pub struct Paired<D> {
-    paint: Paint,
     lines: Lines<D, false>,
     /// The rows from the first request on that is not answered yet: a line says what comes later.
     held: VecDeque<(Row, Other)>,
@@ -37,7 +36,6 @@ pub struct Paired<D> {
 impl<D: Dialect> Paired<D> {
     pub fn new(paint: Paint) -> Self {
         Self {
-            paint,
             lines: Lines::new(paint),
             held: VecDeque::new(),
             written: 0,
@@ -95,26 +93,18 @@ impl<D: Dialect> Paired<D> {
     }
 
     fn line(&mut self, row: &Row, other: Other, text: &mut Vec<u8>) {
-        let shade = match (other, row.refusal) {
-            (Other::Stray | Other::Open, _) | (_, Some(_)) => Some(Shade::Refused),
-            _ => (row.tail > 0).then_some(Shade::Tail),
+        let shade = match other {
+            Other::Stray | Other::Open => Some(Shade::Refused),
+            _ => shade(row),
         };
-        let (begin, end) = match shade {
-            Some(shade) => (self.paint.begin(shade), self.paint.end()),
-            None => ("", ""),
-        };
-        text.extend_from_slice(begin.as_bytes());
-        self.lines.line(row, text);
-        // Its end comes after the column.
-        text.pop();
-        text.push(b' ');
-        match other {
-            Other::At(at) => push(text, at),
-            Other::Stray => text.extend_from_slice(b"stray"),
-            Other::Open | Other::Unknown => text.extend_from_slice(b"open"),
-        }
-        text.extend_from_slice(end.as_bytes());
-        text.push(b'\n');
+        self.lines.longer(row, shade, text, |text| {
+            text.push(b' ');
+            match other {
+                Other::At(at) => push(text, at),
+                Other::Stray => text.extend_from_slice(b"stray"),
+                Other::Open | Other::Unknown => text.extend_from_slice(b"open"),
+            }
+        });
     }
 }
 

@@ -94,6 +94,26 @@ fn parts_that_are_no_fields_stand_out() {
     }
 }
 
+/// The trailers are of 18 bytes and 2 frames, the last at 11.
+#[test]
+fn what_a_session_refuses_stands_out() {
+    let folder = Folder::new();
+    let trailer = b"\x12\0\0\0\x02\0\0\0\x0b\0\0\0";
+    let file = folder.file("a", &[TAIL, UNKNOWN, trailer].concat());
+    let Some(painted) = shown(&format!("paths {file}"), &[]) else {
+        return;
+    };
+    let lines =
+        "\n\x1b[33m0 11 108 1 0 2 - -\x1b[0m\n\x1b[31m11 7 106 5 3 - - -\x1b[0m\nend 18 2\n";
+    assert!(painted.contains(lines), "{painted:?}");
+    let bare = folder.file("bare", TAIL);
+    let painted = shown(&format!("paths {bare}"), &[]).expect("as before");
+    assert!(
+        painted.starts_with("\x1b[31mstop 0 19\x1b[0m\nsheafsledge: "),
+        "{painted:?}"
+    );
+}
+
 /// A pipe that is slow, so that the line comes however fast the machine is.
 #[test]
 fn a_long_wait_has_a_line_that_is_cleared() {
