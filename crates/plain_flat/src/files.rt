@@ -3,8 +3,6 @@
 
 use crate::WIDTH_R;
 use crate::WIDTH_T;
-use common::files::Rread;
-use common::files::Rwrite;
 use common::files::Tread;
 use common::files::Tremove;
 use common::files::Twrite;
@@ -18,9 +16,9 @@ use plain::files::Tcreate;
 use plain::files::Topen;
 use strings::Span;
 ghost use mathlib.Core.Path.{_≡_};
-ghost use Rattle.layouts.specs.Tables.{layoutTread, layoutRread, layoutTwrite, layoutRwrite, layoutTremove};
+ghost use Rattle.layouts.specs.Tables.{layoutTread, layoutTwrite, layoutTremove};
 ghost use Rattle.layouts.specs.Plain.{layoutTopen, layoutRopen, layoutTcreate, layoutRcreate};
-ghost use Rattle.common.specs.Records.{tread, rread, twrite, rwrite, tremove};
+ghost use Rattle.common.specs.Records.{tread, twrite, tremove};
 ghost use Rattle.plain.specs.Records.{topen, ropen, tcreate, rcreate};
 ghost use Rattle.flat.specs.Flat.{flatValues, stored, fieldValues};
 
@@ -42,24 +40,6 @@ pub fn tread_of(v: [u64; WIDTH_T]) -> Tread
         offset: v[1],
         count: (v[2] % U32) as u32,
     }
-}
-
-pub fn flat_rread(m: Rread, values: &mut [u64; WIDTH_R])
-    ensures { λ _. ⌜ now (values .exit) ≡ stored (now (values .entry)) 0 (flatValues (rread m)) ⌝ }
-{
-    let data = m.data;
-    values[0] = data.start as u64;
-    values[1] = data.len as u64;
-}
-
-pub fn rread_of(v: [u64; WIDTH_R]) -> Rread
-    ensures { λ r. ⌜ rread r ≡ fieldValues layoutRread v ⌝ }
-{
-    let data = Span {
-        start: v[0] as usize,
-        len: v[1] as usize,
-    };
-    Rread { data }
 }
 
 pub fn flat_twrite(m: Twrite, values: &mut [u64; WIDTH_T])
@@ -85,20 +65,6 @@ pub fn twrite_of(v: [u64; WIDTH_T]) -> Twrite
         fid,
         offset: v[1],
         data,
-    }
-}
-
-pub fn flat_rwrite(m: Rwrite, values: &mut [u64; WIDTH_R])
-    ensures { λ _. ⌜ now (values .exit) ≡ stored (now (values .entry)) 0 (flatValues (rwrite m)) ⌝ }
-{
-    values[0] = m.count as u64;
-}
-
-pub fn rwrite_of(v: [u64; WIDTH_R]) -> Rwrite
-    ensures { λ r. ⌜ rwrite r ≡ fieldValues layoutRwrite v ⌝ }
-{
-    Rwrite {
-        count: (v[0] % U32) as u32,
     }
 }
 

@@ -3,26 +3,21 @@
 
 use crate::WIDTH_R;
 use crate::WIDTH_T;
-use common::sessions::Rattach;
-use common::sessions::Rauth;
-use common::sessions::Rversion;
 use common::sessions::Tclunk;
 use common::sessions::Tflush;
 use common::sessions::Tversion;
-use flat::U8;
 use flat::U16;
 use flat::U32;
 use layouts::ids::Fid;
 use layouts::ids::Tag;
-use layouts::qids::Qid;
 use plain::sessions::Rerror;
 use plain::sessions::Tattach;
 use plain::sessions::Tauth;
 use strings::Span;
 ghost use mathlib.Core.Path.{_≡_};
-ghost use Rattle.layouts.specs.Tables.{layoutTversion, layoutRversion, layoutRauth, layoutRattach, layoutTflush, layoutTclunk};
+ghost use Rattle.layouts.specs.Tables.{layoutTversion, layoutTflush, layoutTclunk};
 ghost use Rattle.layouts.specs.Plain.{layoutTauth, layoutTattach, layoutRerror};
-ghost use Rattle.common.specs.Records.{tversion, rversion, rauth, rattach, tflush, tclunk};
+ghost use Rattle.common.specs.Records.{tversion, tflush, tclunk};
 ghost use Rattle.plain.specs.Records.{tauth, tattach, rerror};
 ghost use Rattle.flat.specs.Flat.{flatValues, stored, fieldValues};
 
@@ -46,68 +41,6 @@ pub fn tversion_of(v: [u64; WIDTH_T]) -> Tversion
         msize: (v[0] % U32) as u32,
         version,
     }
-}
-
-pub fn flat_rversion(m: Rversion, values: &mut [u64; WIDTH_R])
-    ensures { λ _. ⌜ now (values .exit) ≡ stored (now (values .entry)) 0 (flatValues (rversion m)) ⌝ }
-{
-    let version = m.version;
-    values[0] = m.msize as u64;
-    values[1] = version.start as u64;
-    values[2] = version.len as u64;
-}
-
-pub fn rversion_of(v: [u64; WIDTH_R]) -> Rversion
-    ensures { λ r. ⌜ rversion r ≡ fieldValues layoutRversion v ⌝ }
-{
-    let version = Span {
-        start: v[1] as usize,
-        len: v[2] as usize,
-    };
-    Rversion {
-        msize: (v[0] % U32) as u32,
-        version,
-    }
-}
-
-pub fn flat_rauth(m: Rauth, values: &mut [u64; WIDTH_R])
-    ensures { λ _. ⌜ now (values .exit) ≡ stored (now (values .entry)) 0 (flatValues (rauth m)) ⌝ }
-{
-    let aqid = m.aqid;
-    values[0] = aqid.ty as u64;
-    values[1] = aqid.version as u64;
-    values[2] = aqid.path;
-}
-
-pub fn rauth_of(v: [u64; WIDTH_R]) -> Rauth
-    ensures { λ r. ⌜ rauth r ≡ fieldValues layoutRauth v ⌝ }
-{
-    let aqid = Qid {
-        ty: (v[0] % U8) as u8,
-        version: (v[1] % U32) as u32,
-        path: v[2],
-    };
-    Rauth { aqid }
-}
-
-pub fn flat_rattach(m: Rattach, values: &mut [u64; WIDTH_R])
-    ensures { λ _. ⌜ now (values .exit) ≡ stored (now (values .entry)) 0 (flatValues (rattach m)) ⌝ }
-{
-    let qid = m.qid;
-    values[0] = qid.ty as u64;
-    values[1] = qid.version as u64;
-    values[2] = qid.path;
-}
-
-pub fn rattach_of(v: [u64; WIDTH_R]) -> Rattach
-    ensures { λ r. ⌜ rattach r ≡ fieldValues layoutRattach v ⌝ }
-{
-    let qid = Qid {
-        ty: (v[0] % U8) as u8,
-        version: (v[1] % U32) as u32,
-        path: v[2],
-    };
-    Rattach { qid }
 }
 
 pub fn flat_tflush(m: Tflush, values: &mut [u64; WIDTH_T])

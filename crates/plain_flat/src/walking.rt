@@ -1,9 +1,7 @@
 // Written by tools/messages from its table of messages.
 // The records of walking, laid flat and put together, in the room that 9P2000's have.
 
-use crate::WIDTH_R;
 use crate::WIDTH_T;
-use common::walking::Rwalk;
 use common::walking::Twalk;
 use fields::Part;
 use flat::U16;
@@ -11,8 +9,8 @@ use flat::U32;
 use layouts::ids::Fid;
 use strings::Span;
 ghost use mathlib.Core.Path.{_≡_};
-ghost use Rattle.layouts.specs.Tables.{layoutTwalk, layoutRwalk};
-ghost use Rattle.common.specs.Records.{twalk, rwalk};
+ghost use Rattle.layouts.specs.Tables.{layoutTwalk};
+ghost use Rattle.common.specs.Records.{twalk};
 ghost use Rattle.flat.specs.Flat.{flatValues, stored, fieldValues};
 
 pub fn flat_twalk(m: Twalk, values: &mut [u64; WIDTH_T])
@@ -47,28 +45,4 @@ pub fn twalk_of(v: [u64; WIDTH_T]) -> Twalk
         newfid,
         wnames,
     }
-}
-
-pub fn flat_rwalk(m: Rwalk, values: &mut [u64; WIDTH_R])
-    ensures { λ _. ⌜ now (values .exit) ≡ stored (now (values .entry)) 0 (flatValues (rwalk m)) ⌝ }
-{
-    let wqids = m.wqids;
-    let elements = wqids.elements;
-    values[0] = wqids.count as u64;
-    values[1] = elements.start as u64;
-    values[2] = elements.len as u64;
-}
-
-pub fn rwalk_of(v: [u64; WIDTH_R]) -> Rwalk
-    ensures { λ r. ⌜ rwalk r ≡ fieldValues layoutRwalk v ⌝ }
-{
-    let elements = Span {
-        start: v[1] as usize,
-        len: v[2] as usize,
-    };
-    let wqids = Part {
-        count: (v[0] % U16) as u16,
-        elements,
-    };
-    Rwalk { wqids }
 }

@@ -17,7 +17,7 @@ pub(crate) fn read_rread(s: &[u8], p: Place, values: &mut [u64; WIDTH_R]) -> Pla
         return next;
     };
     let m = r.value;
-    plain_flat::files::flat_rread(m, values);
+    flat::files::flat_rread(m, values);
     next
 }
 
@@ -30,7 +30,7 @@ pub(crate) fn read_rwrite(s: &[u8], p: Place, values: &mut [u64; WIDTH_R]) -> Pl
     };
     let r = common::files::read_rwrite(s, p);
     let m = r.value;
-    plain_flat::files::flat_rwrite(m, values);
+    flat::files::flat_rwrite(m, values);
     next
 }
 

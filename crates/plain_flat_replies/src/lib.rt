@@ -45,16 +45,16 @@ pub fn write_flat(out: &mut [u8], p: Place, lent: &[u8], ty: u8, values: &[u64; 
 {
     let v = *values;
     match ty {
-        101 => common::sessions::write_rversion(out, p, lent, plain_flat::sessions::rversion_of(v)),
-        103 => common::sessions::write_rauth(out, p, lent, plain_flat::sessions::rauth_of(v)),
-        105 => common::sessions::write_rattach(out, p, lent, plain_flat::sessions::rattach_of(v)),
+        101 => common::sessions::write_rversion(out, p, lent, flat::sessions::rversion_of(v)),
+        103 => common::sessions::write_rauth(out, p, lent, flat::sessions::rauth_of(v)),
+        105 => common::sessions::write_rattach(out, p, lent, flat::sessions::rattach_of(v)),
         107 => plain::sessions::write_rerror(out, p, lent, plain_flat::sessions::rerror_of(v)),
         109 => laying::begun(p, p, out.len()),
-        111 => common::walking::write_rwalk(out, p, lent, plain_flat::walking::rwalk_of(v)),
+        111 => common::walking::write_rwalk(out, p, lent, flat::walking::rwalk_of(v)),
         113 => plain::files::write_ropen(out, p, lent, plain_flat::files::ropen_of(v)),
         115 => plain::files::write_rcreate(out, p, lent, plain_flat::files::rcreate_of(v)),
-        117 => common::files::write_rread(out, p, lent, plain_flat::files::rread_of(v)),
-        119 => common::files::write_rwrite(out, p, lent, plain_flat::files::rwrite_of(v)),
+        117 => common::files::write_rread(out, p, lent, flat::files::rread_of(v)),
+        119 => common::files::write_rwrite(out, p, lent, flat::files::rwrite_of(v)),
         121 => laying::begun(p, p, out.len()),
         123 => laying::begun(p, p, out.len()),
         125 => plain::attributes::write_rstat(out, p, lent, plain_flat::attributes::rstat_of(v)),

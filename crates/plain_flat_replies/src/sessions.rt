@@ -17,7 +17,7 @@ pub(crate) fn read_rversion(s: &[u8], p: Place, values: &mut [u64; WIDTH_R]) -> 
         return next;
     };
     let m = r.value;
-    plain_flat::sessions::flat_rversion(m, values);
+    flat::sessions::flat_rversion(m, values);
     next
 }
 
@@ -30,7 +30,7 @@ pub(crate) fn read_rauth(s: &[u8], p: Place, values: &mut [u64; WIDTH_R]) -> Pla
     };
     let r = common::sessions::read_rauth(s, p);
     let m = r.value;
-    plain_flat::sessions::flat_rauth(m, values);
+    flat::sessions::flat_rauth(m, values);
     next
 }
 
@@ -43,7 +43,7 @@ pub(crate) fn read_rattach(s: &[u8], p: Place, values: &mut [u64; WIDTH_R]) -> P
     };
     let r = common::sessions::read_rattach(s, p);
     let m = r.value;
-    plain_flat::sessions::flat_rattach(m, values);
+    flat::sessions::flat_rattach(m, values);
     next
 }
 

@@ -16,6 +16,6 @@ pub(crate) fn read_rwalk(s: &[u8], p: Place, values: &mut [u64; WIDTH_R]) -> Pla
         return next;
     };
     let m = r.value;
-    plain_flat::walking::flat_rwalk(m, values);
+    flat::walking::flat_rwalk(m, values);
     next
 }

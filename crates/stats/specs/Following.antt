@@ -62,7 +62,7 @@ length-follow fs xs {r = r} e = let x = follow-suffix fs xs e in let l = ap leng
 
 -- ---- one after another
 
-follow-append : (fs gs : List Shape) (xs : List ℕ) → follow (fs ++ gs) xs ≡ after (follow fs xs) (λ n r. follow gs r)
+pub follow-append : (fs gs : List Shape) (xs : List ℕ) → follow (fs ++ gs) xs ≡ after (follow fs xs) (λ n r. follow gs r)
 unfolding follow
 follow-append [] gs xs = refl
 follow-append (fixed w ∷ fs) gs xs = go (readNum w xs) (λ r. follow-append fs gs r)

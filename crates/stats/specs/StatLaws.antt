@@ -3,7 +3,7 @@ use Prim.Native.Nat.{ℕ, _+_, _-_, _≤_, _<_}
 use native.Mathlib.Omega.{arith}
 use mathlib.Core.Path.{_≡_, refl, sym, ap, ap₂, _∙_}
 use mathlib.Core.Bool.{Bool, true, false, cond}
-use mathlib.Core.List.{List, [], _∷_, _++_, map}
+use mathlib.Core.List.{List, [], _∷_, _++_, map, map-append}
 use lib.ListN.{length, take, drop, length-drop}
 use lib.Seq.{drop-drop, length-take-le}
 use lib.Dec.{leb, eqb}
@@ -27,8 +27,8 @@ use Rattle.laying.specs.Laying.{withSizes, sized, FieldMeasured, Measured, Cell
 use Rattle.laying.specs.BoxLaws.{valueOf, box-measured, cells-done, put-amount, put-words, put-cells-length}
 use Rattle.layouts.specs.Plain.{statShape}
 use Rattle.laying.specs.LayingLaws.{drop-take}
-use Rattle.stats.specs.Stats.{slots, statOf, Followed, Blank, Sized}
-use Rattle.stats.specs.declared.Stat.{Stat}
+use Rattle.stats.specs.Unix as U
+use Rattle.stats.specs.Stats.{Followed, Blank, Sized}
 use Rattle.stats.specs.Following.{length-follow, then-follow, merged}
 
 -- ---- whether the bytes from `start` on agree
@@ -193,59 +193,52 @@ module _ (fs : List Shape) {s : List ℕ} {p : Place} {n start : ℕ} (H : Held 
               );
         }
 
--- ---- a stat of 9P2000
+-- ---- a stat of 9P2000, and the longer one of 9P2000.u
 
 -- its numbers together, then its four strings
 pub stat-followed : {s : List ℕ} {p p1 p2 p3 p4 p5 : Place} → Followed (fixed 39 ∷ []) s p p1 → Followed (worded ∷ []) s p1 p2 → Followed (worded ∷ []) s p2 p3 → Followed (worded ∷ []) s p3 p4
     → Followed (worded ∷ []) s p4 p5 → Followed statShape s p p5
 stat-followed {s} {p} a b c d e = merged s p 2 (4 ∷ 1 ∷ 4 ∷ 8 ∷ 4 ∷ 4 ∷ 4 ∷ 8 ∷ []) (worded ∷ worded ∷ worded ∷ worded ∷ []) (then-follow a (then-follow b (then-follow c (then-follow d e))))
 
-pub blank-read : {v : Stat} {q k : Place} {s : List ℕ} {p : Place} → Blank v q k → FieldRead (boxed statShape) s p (block (map noSlot statShape)) k → FieldRead (boxed statShape) s p (statOf v) q
+-- then a string and its numbers together
+pub unix-followed : {s : List ℕ} {p p5 p6 p7 : Place} → Followed statShape s p p5 → Followed (worded ∷ []) s p5 p6 → Followed (fixed 12 ∷ []) s p6 p7 → Followed U.statShape s p p7
+unix-followed {s} {p6 = p6} a b c = then-follow a (then-follow b (merged s p6 4 (4 ∷ 4 ∷ []) [] c))
+
+pub blank-read : {fs : List Shape} {vs : List Slot} {q k : Place} {s : List ℕ} {p : Place} → Blank fs vs q k → FieldRead (boxed fs) s p (block (map noSlot fs)) k → FieldRead (boxed fs) s p (block vs) q
 blank-read b f = record { value = ap block (b .value) ∙ f .value; next = b .next ∙ f .next }
 
-pub stat-measured : {v : Stat} {lent : List ℕ} {p a e q : Place} {n : ℕ} → Advanced 4 p a → Measured (map plainOf statShape) lent (map valueOf (slots v)) a e → Sized v n → Countable (2 + n) e q
-    → FieldMeasured (boxed statShape) lent (statOf v) p q
+pub blank-more : {fs : List Shape} (gs : List Shape) {vs : List Slot} {q k : Place} → Blank fs vs q k → Blank (fs ++ gs) (vs ++ map noSlot gs) k k
+blank-more {fs} gs b = record { value = ap (λ (z : List Slot). z ++ map noSlot gs) (b .value) ∙ sym (map-append noSlot fs gs); next = refl }
+
+pub stat-measured : {fs : List Shape} {vs : List Slot} {lent : List ℕ} {p a e q : Place} {n : ℕ} → Advanced 4 p a → Measured (map plainOf fs) lent (map valueOf vs) a e → Sized fs vs n → Countable (2 + n) e q
+    → FieldMeasured (boxed fs) lent (block vs) p q
 stat-measured x y z c = box-measured x y (rw (z .is) at c)
 
--- over plain variables: said of the code itself, each field would carry the types of all that follow
-fields-put : {lent : List ℕ} {n x1 x2 x3 x4 x5 x6 x7 x8 x9 s1 l1 s2 l2 s3 l3 s4 l4 : ℕ} {o0 o1 o2 o3 o4 o5 o6 o7 o8 o9 o10 o11 o12 o13 o14 o15 o16 o17 o18 o19 : List ℕ} {p0 p1 p2 p3 p4 p5 p6 p7 p8 p9 p10 p11 p12 p13 p14 p15 p16 p17 p18 p19 : Place}
+pub stat-put : {fs : List Shape} {vs : List Slot} {lent : List ℕ} {n : ℕ} {o0 o1 o2 o3 : List ℕ} {p0 p1 p2 p3 : Place} → Sized fs vs n
     → Put (toLE 2 (2 + n)) o0 p0 o1 p1
     → Put (toLE 2 n) o1 p1 o2 p2
-    → Put (toLE 2 x1) o2 p2 o3 p3
-    → Put (toLE 4 x2) o3 p3 o4 p4
-    → Put (toLE 1 x3) o4 p4 o5 p5
-    → Put (toLE 4 x4) o5 p5 o6 p6
-    → Put (toLE 8 x5) o6 p6 o7 p7
-    → Put (toLE 4 x6) o7 p7 o8 p8
-    → Put (toLE 4 x7) o8 p8 o9 p9
-    → Put (toLE 4 x8) o9 p9 o10 p10
-    → Put (toLE 8 x9) o10 p10 o11 p11
-    → Put (toLE 2 l1) o11 p11 o12 p12 → SpanPut lent s1 l1 o12 p12 o13 p13
-    → Put (toLE 2 l2) o13 p13 o14 p14 → SpanPut lent s2 l2 o14 p14 o15 p15
-    → Put (toLE 2 l3) o15 p15 o16 p16 → SpanPut lent s3 l3 o16 p16 o17 p17
-    → Put (toLE 2 l4) o17 p17 o18 p18 → SpanPut lent s4 l4 o18 p18 o19 p19
-    → CellsPut (withSizes statShape) lent (slot (2 + n) ∷ slot n ∷ slot x1 ∷ slot x2 ∷ slot x3 ∷ slot x4 ∷ slot x5 ∷ slot x6 ∷ slot x7 ∷ slot x8 ∷ slot x9 ∷ text s1 l1 ∷ text s2 l2 ∷ text s3 l3 ∷ text s4 l4 ∷ []) o0 p0 o19 p19
-fields-put a1 a2 a3 a4 a5 a6 a7 a8 a9 a10 a11 a12 a13 a14 a15 a16 a17 a18 a19 =
-    put-amount a1 (put-amount a2 (put-amount a3 (put-amount a4 (put-amount a5 (put-amount a6 (put-amount a7 (put-amount a8 (put-amount a9 (put-amount a10 (put-amount a11 (put-words a12 a13 (put-words a14 a15 (put-words a16 a17 (put-words a18 a19 cells-done))))))))))))))
+    → CellsPut fs lent vs o2 p2 o3 p3
+    → CellsPut (withSizes fs) lent (sized fs vs) o0 p0 o3 p3
+stat-put e a1 a2 a3 = rw (← (e .is)) (put-amount a1 (put-amount a2 a3))
 
-pub stat-put : {v : Stat} {lent : List ℕ} {n : ℕ} {o0 o1 o2 o3 o4 o5 o6 o7 o8 o9 o10 o11 o12 o13 o14 o15 o16 o17 o18 o19 : List ℕ} {p0 p1 p2 p3 p4 p5 p6 p7 p8 p9 p10 p11 p12 p13 p14 p15 p16 p17 p18 p19 : Place} → Sized v n
-    → Put (toLE 2 (2 + n)) o0 p0 o1 p1
-    → Put (toLE 2 n) o1 p1 o2 p2
-    → Put (toLE 2 (v .ty)) o2 p2 o3 p3
-    → Put (toLE 4 (v .dev)) o3 p3 o4 p4
-    → Put (toLE 1 (v .qid .ty)) o4 p4 o5 p5
-    → Put (toLE 4 (v .qid .version)) o5 p5 o6 p6
-    → Put (toLE 8 (v .qid .path)) o6 p6 o7 p7
-    → Put (toLE 4 (v .mode)) o7 p7 o8 p8
-    → Put (toLE 4 (v .atime)) o8 p8 o9 p9
-    → Put (toLE 4 (v .mtime)) o9 p9 o10 p10
-    → Put (toLE 8 (v .length)) o10 p10 o11 p11
-    → Put (toLE 2 (v .name .len)) o11 p11 o12 p12 → SpanPut lent (v .name .start) (v .name .len) o12 p12 o13 p13
-    → Put (toLE 2 (v .uid .len)) o13 p13 o14 p14 → SpanPut lent (v .uid .start) (v .uid .len) o14 p14 o15 p15
-    → Put (toLE 2 (v .gid .len)) o15 p15 o16 p16 → SpanPut lent (v .gid .start) (v .gid .len) o16 p16 o17 p17
-    → Put (toLE 2 (v .muid .len)) o17 p17 o18 p18 → SpanPut lent (v .muid .start) (v .muid .len) o18 p18 o19 p19
-    → CellsPut (withSizes statShape) lent (sized statShape (slots v)) o0 p0 o19 p19
-stat-put e a1 a2 a3 a4 a5 a6 a7 a8 a9 a10 a11 a12 a13 a14 a15 a16 a17 a18 a19 = rw (← (e .is)) (fields-put a1 a2 a3 a4 a5 a6 a7 a8 a9 a10 a11 a12 a13 a14 a15 a16 a17 a18 a19)
+-- over plain variables: said of the code itself, each field would carry the types of all that follow
+pub fields-put : {lent : List ℕ} {x1 x2 x3 x4 x5 x6 x7 x8 x9 s1 l1 s2 l2 s3 l3 s4 l4 : ℕ} {o0 o1 o2 o3 o4 o5 o6 o7 o8 o9 o10 o11 o12 o13 o14 o15 o16 o17 : List ℕ} {p0 p1 p2 p3 p4 p5 p6 p7 p8 p9 p10 p11 p12 p13 p14 p15 p16 p17 : Place}
+    → Put (toLE 2 x1) o0 p0 o1 p1
+    → Put (toLE 4 x2) o1 p1 o2 p2
+    → Put (toLE 1 x3) o2 p2 o3 p3
+    → Put (toLE 4 x4) o3 p3 o4 p4
+    → Put (toLE 8 x5) o4 p4 o5 p5
+    → Put (toLE 4 x6) o5 p5 o6 p6
+    → Put (toLE 4 x7) o6 p6 o7 p7
+    → Put (toLE 4 x8) o7 p7 o8 p8
+    → Put (toLE 8 x9) o8 p8 o9 p9
+    → Put (toLE 2 l1) o9 p9 o10 p10 → SpanPut lent s1 l1 o10 p10 o11 p11
+    → Put (toLE 2 l2) o11 p11 o12 p12 → SpanPut lent s2 l2 o12 p12 o13 p13
+    → Put (toLE 2 l3) o13 p13 o14 p14 → SpanPut lent s3 l3 o14 p14 o15 p15
+    → Put (toLE 2 l4) o15 p15 o16 p16 → SpanPut lent s4 l4 o16 p16 o17 p17
+    → CellsPut statShape lent (slot x1 ∷ slot x2 ∷ slot x3 ∷ slot x4 ∷ slot x5 ∷ slot x6 ∷ slot x7 ∷ slot x8 ∷ slot x9 ∷ text s1 l1 ∷ text s2 l2 ∷ text s3 l3 ∷ text s4 l4 ∷ []) o0 p0 o17 p17
+fields-put a1 a2 a3 a4 a5 a6 a7 a8 a9 a10 a11 a12 a13 a14 a15 a16 a17 =
+    put-amount a1 (put-amount a2 (put-amount a3 (put-amount a4 (put-amount a5 (put-amount a6 (put-amount a7 (put-amount a8 (put-amount a9 (put-words a10 a11 (put-words a12 a13 (put-words a14 a15 (put-words a16 a17 cells-done))))))))))))
 
 pub cells-length : {fs : List Shape} {lent : List ℕ} {vs : List Slot} {o o' : List ℕ} {p q : Place} → CellsPut fs lent vs o p o' q → length o' ≡ length o
 cells-length {fs} {lent} {vs} {o} {p = p} c = ap length (c .bytes) ∙ put-cells-length fs lent vs o p

@@ -1,7 +1,8 @@
--- What a stat's record holds of it (F14.2), and what its functions answer.
+-- What the records of both stats hold of them (F14.2, F16.2), and what their functions answer.
 use Prim.Native.Nat.{ℕ}
 use mathlib.Core.Path.{_≡_, ap}
-use mathlib.Core.List.{List, [], _∷_, map}
+use mathlib.Core.Bool.{Bool, true, false}
+use mathlib.Core.List.{List, [], _∷_, _++_, map}
 use lib.ListN.{length, getD}
 use Rattle.numbers.specs.Places.{readAt, restAt}
 use Rattle.numbers.specs.declared.Place.{Place}
@@ -11,7 +12,9 @@ use Rattle.fields.specs.Values.{Slot, slot, text, slotNum, slotStart, slotLen, 
 use Rattle.fields.specs.Fields.{noSlot}
 use Rattle.laying.specs.Laying.{cellsSize}
 use Rattle.layouts.specs.Plain.{statShape}
+use Rattle.stats.specs.Unix as U
 use Rattle.stats.specs.declared.Stat.{Stat}
+use Rattle.stats.specs.declared.unix.UnixStat.{UnixStat}
 
 abbrev textOf : Span → Slot
 textOf v = text (v .start) (v .len)
@@ -51,14 +54,45 @@ madeStat l = record {
 pub one-stat : (v v' : Stat) → slots v ≡ slots v' → v ≡ v'
 one-stat v v' e = ap madeStat e
 
+-- ---- the same of 9P2000.u's
+
+-- the four fields that it has more
+abbrev pub moreSlots : UnixStat → List Slot
+moreSlots v = textOf (v .extension) ∷ slot (v .«n_uid») ∷ slot (v .«n_gid») ∷ slot (v .«n_muid») ∷ []
+
+abbrev pub unixSlots : UnixStat → List Slot
+unixSlots v = slots (v .plain) ++ moreSlots v
+
+abbrev pub unixOf : UnixStat → Value
+unixOf v = block (unixSlots v)
+
+abbrev pub madeUnix : List Slot → UnixStat
+madeUnix l = record {
+  plain = madeStat l;
+  extension = spanIn (nth 13 l);
+  «n_uid» = slotNum (nth 14 l);
+  «n_gid» = slotNum (nth 15 l);
+  «n_muid» = slotNum (nth 16 l);
+}
+
+pub one-unix : (v v' : UnixStat) → unixSlots v ≡ unixSlots v' → v ≡ v'
+one-unix v v' e = ap madeUnix e
+
+-- ---- what the functions answer
+
+-- the shape of either
+abbrev pub shapeOf : Bool → List Shape
+shapeOf false = statShape
+shapeOf true = U.statShape
+
 -- the place after the fields of a box at p of s, their text not looked at
 pub record Followed (fs : List Shape) (s : List ℕ) (p q : Place) : Type 0 where
   pub is : q ≡ restAt (length s) (readAt (follow fs) s p)
 
 -- a stat that was refused, and the place that says why
-pub record Blank (v : Stat) (q k : Place) : Type 0 where
-  pub value : slots v ≡ map noSlot statShape
+pub record Blank (fs : List Shape) (vs : List Slot) (q k : Place) : Type 0 where
+  pub value : vs ≡ map noSlot fs
   pub next : q ≡ k
 
-pub record Sized (v : Stat) (n : ℕ) : Type 0 where
-  pub is : n ≡ cellsSize statShape (slots v)
+pub record Sized (fs : List Shape) (vs : List Slot) (n : ℕ) : Type 0 where
+  pub is : n ≡ cellsSize fs vs

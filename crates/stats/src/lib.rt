@@ -1,4 +1,7 @@
-// A stat of 9P2000: what a file is. It stands after its own count, and begins with its size.
+// A stat: what a file is. It stands after its own count, and begins with its size. That of 9P2000 is here; that of 9P2000.u, which has four
+// fields more, is in `unix`, and both are opened by the same code.
+
+pub mod unix;
 
 use layouts::qids;
 use layouts::qids::Qid;
@@ -7,14 +10,15 @@ use numbers::Refusal;
 use strings::Span;
 ghost use Prim.Native.Nat.{_≤_, _<_};
 ghost use mathlib.Core.Path.{_≡_};
-ghost use mathlib.Core.List.{[], _∷_};
+ghost use mathlib.Core.List.{[], _∷_, map};
 ghost use lib.ListN.{length, drop};
 ghost use Rattle.fields.specs.Layouts.{fixed, worded, boxed, agrees};
-ghost use Rattle.fields.specs.Fields.{FieldRead};
-ghost use Rattle.fields.specs.BoxLaws.{Opened};
-ghost use Rattle.laying.specs.Laying.{FieldMeasured, CellsPut, Countable, withSizes, sized};
+ghost use Rattle.fields.specs.Fields.{FieldRead, Fields};
+ghost use Rattle.fields.specs.BoxLaws.{plainOf, Opened};
+ghost use Rattle.laying.specs.Laying.{FieldMeasured, Measured, CellsPut, Countable, withSizes, sized};
+ghost use Rattle.laying.specs.BoxLaws.{valueOf};
 ghost use Rattle.layouts.specs.Plain.{statShape};
-ghost use Rattle.stats.specs.Stats.{slots, statOf, Followed, Blank, Sized};
+ghost use Rattle.stats.specs.Stats.{slots, statOf, shapeOf, Followed, Blank, Sized};
 
 pub struct Stat {
     pub ty: u16,
@@ -37,9 +41,9 @@ pub struct ReadStat {
 }
 
 // Where the fields of a stat begin, if its counts agree, and where they end.
-struct Open {
-    at: Place,
-    end: usize,
+pub(crate) struct Open {
+    pub(crate) at: Place,
+    pub(crate) end: usize,
 }
 
 // The place after `n` bytes.
@@ -72,10 +76,26 @@ fn pass(s: &[u8], p: Place) -> Place
     Place::Refused(Refusal::Short, 0)
 }
 
+// The place after the fields of a stat, or of one with the four fields of 9P2000.u.
+fn follow(s: &[u8], p: Place, longer: bool) -> Place
+    ensures { λ r. ⌜ Followed (shapeOf longer) (now (s .entry)) p r ⌝ }
+{
+    let p1 = skip(s, p, 39);
+    let p2 = pass(s, p1);
+    let p3 = pass(s, p2);
+    let p4 = pass(s, p3);
+    let p5 = pass(s, p4);
+    if longer {
+        let p6 = pass(s, p5);
+        return skip(s, p6, 12);
+    }
+    p5
+}
+
 // Whether the bytes from `start` on are a size and the fields of a stat, which end where the bytes do.
-fn agree(s: &[u8], start: usize) -> bool
+fn agree(s: &[u8], start: usize, longer: bool) -> bool
     requires { ⌜ start ≤ length (now s) ⌝ }
-    ensures { λ r. ⌜ r ≡ agrees statShape (drop start (now (s .entry))) ⌝ }
+    ensures { λ r. ⌜ r ≡ agrees (shapeOf longer) (drop start (now (s .entry))) ⌝ }
 {
     let size = numbers::read_u16(s, Place::At(start));
     let p = size.next;
@@ -83,12 +103,8 @@ fn agree(s: &[u8], start: usize) -> bool
         return false;
     };
     if size.value as usize == s.len() - first {
-        let p1 = skip(s, Place::At(first), 39);
-        let p2 = pass(s, p1);
-        let p3 = pass(s, p2);
-        let p4 = pass(s, p3);
-        let p5 = pass(s, p4);
-        let Place::At(end) = p5 else {
+        let q = follow(s, Place::At(first), longer);
+        let Place::At(end) = q else {
             return false;
         };
         return end == s.len();
@@ -97,8 +113,8 @@ fn agree(s: &[u8], start: usize) -> bool
 }
 
 // The n bytes that a stat's count names must be held: 1; then they must agree: 18.
-fn open_stat(s: &[u8], p: Place) -> Open
-    ensures { λ r. ⌜ Opened statShape (now (s .entry)) p (r .at) (r .end) ⌝ }
+pub(crate) fn open_stat(s: &[u8], p: Place, longer: bool) -> Open
+    ensures { λ r. ⌜ Opened (shapeOf longer) (now (s .entry)) p (r .at) (r .end) ⌝ }
 {
     let count = numbers::read_u16(s, p);
     let q = count.next;
@@ -111,7 +127,7 @@ fn open_stat(s: &[u8], p: Place) -> Open
     let n = count.value as usize;
     if numbers::within(start, n, s.len()) {
         let end = start + n;
-        if agree(&s[..end], start) {
+        if agree(&s[..end], start, longer) {
             return Open {
                 at: Place::At(start + 2),
                 end,
@@ -128,8 +144,8 @@ fn open_stat(s: &[u8], p: Place) -> Open
     }
 }
 
-fn no_stat(next: Place) -> ReadStat
-    ensures { λ r. ⌜ Blank (r .value) (r .next) next ⌝ }
+pub(crate) fn no_stat(next: Place) -> ReadStat
+    ensures { λ r. ⌜ Blank statShape (slots (r .value)) (r .next) next ⌝ }
 {
     let none = Span { start: 0, len: 0 };
     let qid = Qid {
@@ -153,13 +169,10 @@ fn no_stat(next: Place) -> ReadStat
     ReadStat { value, next }
 }
 
-// A stat at a place: 1, then 18, then 5 and 6 of its strings.
-pub fn read_stat(s: &[u8], p: Place) -> ReadStat
-    ensures { λ r. ⌜ FieldRead (boxed statShape) (now (s .entry)) p (statOf (r .value)) (r .next) ⌝ }
+// The fields of a stat that has been opened, one after another.
+pub(crate) fn read_fields(t: &[u8], p0: Place) -> ReadStat
+    ensures { λ r. ⌜ Fields (map plainOf statShape) (now (t .entry)) p0 (map valueOf (slots (r .value))) (r .next) ⌝ }
 {
-    let o = open_stat(s, p);
-    let p0 = o.at;
-    let t = &s[..o.end];
     let r1 = numbers::read_u16(t, p0);
     let p1 = r1.next;
     let r2 = numbers::read_u32(t, p1);
@@ -187,9 +200,6 @@ pub fn read_stat(s: &[u8], p: Place) -> ReadStat
     let r11 = strings::read_str(t, p10);
     let next = r11.next;
     let muid = r11.value;
-    let Place::At(_) = next else {
-        return no_stat(next);
-    };
     let value = Stat {
         ty: r1.value,
         dev: r2.value,
@@ -206,9 +216,23 @@ pub fn read_stat(s: &[u8], p: Place) -> ReadStat
     ReadStat { value, next }
 }
 
+// A stat at a place: 1, then 18, then 5 and 6 of its strings.
+pub fn read_stat(s: &[u8], p: Place) -> ReadStat
+    ensures { λ r. ⌜ FieldRead (boxed statShape) (now (s .entry)) p (statOf (r .value)) (r .next) ⌝ }
+{
+    let o = open_stat(s, p, false);
+    let p0 = o.at;
+    let r = read_fields(&s[..o.end], p0);
+    let next = r.next;
+    let Place::At(_) = next else {
+        return no_stat(next);
+    };
+    r
+}
+
 // How long a stat's fields are; a string that may not be written counts for as much as refuses the stat, so that no sum wraps.
-fn size_of(v: Stat) -> usize
-    ensures { λ r. ⌜ Sized v r ⌝ }
+pub(crate) fn size_of(v: Stat) -> usize
+    ensures { λ r. ⌜ Sized statShape (slots v) r ⌝ }
 {
     let name = v.name;
     let uid = v.uid;
@@ -222,7 +246,7 @@ fn size_of(v: Stat) -> usize
 }
 
 // A place, unless a count above 65,535 would have to stand before what was measured up to it: 18.
-fn counted(p: Place, n: usize) -> Place
+pub(crate) fn counted(p: Place, n: usize) -> Place
     ensures { λ r. ⌜ Countable n p r ⌝ }
 {
     let Place::At(_) = p else {
@@ -234,21 +258,56 @@ fn counted(p: Place, n: usize) -> Place
     p
 }
 
+// The fields of a stat at a place, checked.
+pub(crate) fn measure_fields(lent: &[u8], v: Stat, p: Place) -> Place
+    ensures { λ r. ⌜ Measured (map plainOf statShape) (now (lent .entry)) (map valueOf (slots v)) p r ⌝ }
+{
+    let p1 = laying::advanced(p, 39);
+    let name = v.name;
+    let p2 = laying::measure_str(lent, name, p1);
+    let uid = v.uid;
+    let p3 = laying::measure_str(lent, uid, p2);
+    let gid = v.gid;
+    let p4 = laying::measure_str(lent, gid, p3);
+    let muid = v.muid;
+    laying::measure_str(lent, muid, p4)
+}
+
 // A stat at a place, checked: its strings' 9, 7, 5, 6, then 18; then the place after it.
 pub fn measure_stat(lent: &[u8], v: Stat, p: Place) -> Place
     ensures { λ r. ⌜ FieldMeasured (boxed statShape) (now (lent .entry)) (statOf v) p r ⌝ }
 {
     let p1 = laying::advanced(p, 4);
-    let p2 = laying::advanced(p1, 39);
+    let p2 = measure_fields(lent, v, p1);
+    counted(p2, 2 + size_of(v))
+}
+
+// The fields of a stat, put at a place.
+pub(crate) fn put_fields(out: &mut [u8], p: Place, lent: &[u8], v: Stat) -> Place
+    ensures { λ r. ⌜ CellsPut statShape (now (lent .entry)) (slots v) (now (out .entry)) p (now (out .exit)) r ⌝ }
+{
+    let q1 = numbers::put_u16(out, p, v.ty);
+    let q2 = numbers::put_u32(out, q1, v.dev);
+    let qid = v.qid;
+    let q3 = numbers::put_u8(out, q2, qid.ty);
+    let q4 = numbers::put_u32(out, q3, qid.version);
+    let q5 = numbers::put_u64(out, q4, qid.path);
+    let q6 = numbers::put_u32(out, q5, v.mode);
+    let q7 = numbers::put_u32(out, q6, v.atime);
+    let q8 = numbers::put_u32(out, q7, v.mtime);
+    let q9 = numbers::put_u64(out, q8, v.length);
     let name = v.name;
-    let p3 = laying::measure_str(lent, name, p2);
+    let q10 = numbers::put_num(out, q9, name.len as u64, 2);
+    let q11 = strings::put_bytes(out, q10, lent, name);
     let uid = v.uid;
-    let p4 = laying::measure_str(lent, uid, p3);
+    let q12 = numbers::put_num(out, q11, uid.len as u64, 2);
+    let q13 = strings::put_bytes(out, q12, lent, uid);
     let gid = v.gid;
-    let p5 = laying::measure_str(lent, gid, p4);
+    let q14 = numbers::put_num(out, q13, gid.len as u64, 2);
+    let q15 = strings::put_bytes(out, q14, lent, gid);
     let muid = v.muid;
-    let p6 = laying::measure_str(lent, muid, p5);
-    counted(p6, 2 + size_of(v))
+    let q16 = numbers::put_num(out, q15, muid.len as u64, 2);
+    strings::put_bytes(out, q16, lent, muid)
 }
 
 // The bytes of a stat at a place: its count, its size, its fields. It is for `measure_stat` to say that they may be put.
@@ -258,26 +317,5 @@ pub fn put_stat(out: &mut [u8], p: Place, lent: &[u8], v: Stat) -> Place
     let size = size_of(v);
     let q1 = numbers::put_num(out, p, (2 + size) as u64, 2);
     let q2 = numbers::put_num(out, q1, size as u64, 2);
-    let q3 = numbers::put_u16(out, q2, v.ty);
-    let q4 = numbers::put_u32(out, q3, v.dev);
-    let qid = v.qid;
-    let q5 = numbers::put_u8(out, q4, qid.ty);
-    let q6 = numbers::put_u32(out, q5, qid.version);
-    let q7 = numbers::put_u64(out, q6, qid.path);
-    let q8 = numbers::put_u32(out, q7, v.mode);
-    let q9 = numbers::put_u32(out, q8, v.atime);
-    let q10 = numbers::put_u32(out, q9, v.mtime);
-    let q11 = numbers::put_u64(out, q10, v.length);
-    let name = v.name;
-    let q12 = numbers::put_num(out, q11, name.len as u64, 2);
-    let q13 = strings::put_bytes(out, q12, lent, name);
-    let uid = v.uid;
-    let q14 = numbers::put_num(out, q13, uid.len as u64, 2);
-    let q15 = strings::put_bytes(out, q14, lent, uid);
-    let gid = v.gid;
-    let q16 = numbers::put_num(out, q15, gid.len as u64, 2);
-    let q17 = strings::put_bytes(out, q16, lent, gid);
-    let muid = v.muid;
-    let q18 = numbers::put_num(out, q17, muid.len as u64, 2);
-    strings::put_bytes(out, q18, lent, muid)
+    put_fields(out, q2, lent, v)
 }

@@ -1,6 +1,7 @@
 //! The proved library as C sees it: the functions of the crates `exports`, `request_exports`,
 //! `reply_exports`, `stretch_exports`, `planning_exports`, `block_exports`, `capture_exports`,
-//! `plain_exports` and `session_exports`, and the archive that holds them, which the build script has linked. The crate
+//! `plain_exports`, `unix_exports` and `session_exports`, and the archive that holds them, which the
+//! build script has linked. The crate
 //! `sheafsledge` is what a server calls; it adds slices, records and refusals to these.
 //!
 //! Nothing joins the two texts but the names of the functions, so a difference would be read as
@@ -22,10 +23,10 @@ pub use boundary::BOUNDARY;
 pub const T_VALUES: usize = 10;
 /// How many values hold any reply.
 pub const R_VALUES: usize = 22;
-/// How many values hold any request of 9P2000.
-pub const PLAIN_T_VALUES: usize = 18;
-/// How many values hold any reply of 9P2000.
-pub const PLAIN_R_VALUES: usize = 17;
+/// How many values hold any request of 9P2000, and any of 9P2000.u.
+pub const PLAIN_T_VALUES: usize = 23;
+/// How many values hold any reply of either.
+pub const PLAIN_R_VALUES: usize = 22;
 /// How many values a directory entry has.
 pub const ENTRY_VALUES: usize = 7;
 /// How many values a qid has.
@@ -476,6 +477,64 @@ extern "C" {
         stretch: *const u8,
         count: usize,
     ) -> Outcome;
+    /// Reads the request of 9P2000.u at the front of the bytes.
+    pub fn sheafsledge_unix_read_tframe(
+        bytes: *const u8,
+        count: usize,
+        values: *mut [u64; PLAIN_T_VALUES],
+    ) -> Outcome;
+    /// Reads the reply of 9P2000.u at the front of the bytes.
+    pub fn sheafsledge_unix_read_rframe(
+        bytes: *const u8,
+        count: usize,
+        values: *mut [u64; PLAIN_R_VALUES],
+    ) -> Outcome;
+    /// Writes a request of 9P2000.u from values whose spans point into the lent bytes.
+    pub fn sheafsledge_unix_write_tframe(
+        out: *mut u8,
+        room: usize,
+        lent: *const u8,
+        count: usize,
+        refusal: u8,
+        ty: u8,
+        tag: Tag,
+        values: *const [u64; PLAIN_T_VALUES],
+    ) -> Outcome;
+    /// Writes a reply of 9P2000.u from values whose spans point into the lent bytes.
+    pub fn sheafsledge_unix_write_rframe(
+        out: *mut u8,
+        room: usize,
+        lent: *const u8,
+        count: usize,
+        refusal: u8,
+        ty: u8,
+        tag: Tag,
+        values: *const [u64; PLAIN_R_VALUES],
+    ) -> Outcome;
+    /// Reads the body of a request of 9P2000.u that stands from a place to the end of the bytes, its
+    /// header passed over.
+    pub fn sheafsledge_unix_read_tbody(
+        bytes: *const u8,
+        count: usize,
+        at: usize,
+        ty: u8,
+        values: *mut [u64; PLAIN_T_VALUES],
+    ) -> Outcome;
+    /// The same of a reply.
+    pub fn sheafsledge_unix_read_rbody(
+        bytes: *const u8,
+        count: usize,
+        at: usize,
+        ty: u8,
+        values: *mut [u64; PLAIN_R_VALUES],
+    ) -> Outcome;
+    /// Whether a reply of 9P2000.u answers a request of it, by types and tags.
+    pub fn sheafsledge_unix_answers(
+        request_ty: u8,
+        request_tag: Tag,
+        reply_ty: u8,
+        reply_tag: Tag,
+    ) -> bool;
     /// The frame at a position of a stretch of any dialect, by its size.
     pub fn sheafsledge_frame_at(bytes: *const u8, count: usize, position: usize) -> Outcome;
     /// Answers 4, the number of the boundary.
@@ -528,8 +587,8 @@ macro_rules! sized {
 // The arrays that are lent. The library is compiled for 64 bits.
 sized!([u64; T_VALUES]: 80, 8);
 sized!([u64; R_VALUES]: 176, 8);
-sized!([u64; PLAIN_T_VALUES]: 144, 8);
-sized!([u64; PLAIN_R_VALUES]: 136, 8);
+sized!([u64; PLAIN_T_VALUES]: 184, 8);
+sized!([u64; PLAIN_R_VALUES]: 176, 8);
 sized!([u64; ENTRY_VALUES]: 56, 8);
 sized!([u64; QID_VALUES]: 24, 8);
 sized!([u64; SPAN_VALUES]: 16, 8);

@@ -46,8 +46,11 @@ pub fn write(table: &Table, files: &mut Files) {
         format!("crates/{stretch}/specs/Fitting.antt"),
         fitting(table),
     );
-    let known = table.dialect.named("known");
-    files.put(format!("crates/pairs/src/{known}.rt"), known_request(table));
+    // One that stands over another knows the same types.
+    if table.dialect.over.is_none() {
+        let known = table.dialect.named("known");
+        files.put(format!("crates/pairs/src/{known}.rt"), known_request(table));
+    }
 }
 
 /// A case of the enum, with what it holds.
@@ -94,7 +97,7 @@ fn enums(table: &Table, direction: Direction, rows: &[&Message], cases: &[&Messa
 
 {uses}ghost use mathlib.Core.Path.{{_≡_}};
 ghost use Rattle.laying.specs.Laying.{{Written}};
-ghost use Rattle.layouts.specs.{tables}.{{table{d}}};
+ghost use Rattle.{tables}.{{table{d}}};
 ghost use Rattle.layouts.specs.Bodies.{{readBody, finishAt}};
 ghost use Rattle.{krate}.specs.Views.{{type{d}, layout{d}, values{d}, view{d}}};
 
@@ -216,10 +219,12 @@ fn values_uses(table: &Table, cases: &[&Message]) -> String {
             .filter(|m| m.dialect == from && !m.is_empty())
             .map(|m| m.small())
             .collect();
-        text += &format!(
-            "use Rattle.{from}.specs.Records.{{{}}}\n",
-            values.join(", ")
-        );
+        if !values.is_empty() {
+            text += &format!(
+                "use Rattle.{from}.specs.Records.{{{}}}\n",
+                values.join(", ")
+            );
+        }
     }
     text
 }
@@ -288,6 +293,7 @@ fn rebuilt(f: &Field, i: usize) -> String {
             span(i)
         ),
         Kind::Stat => format!("madeStat (slotsOf (nth {i} vs))"),
+        Kind::UnixStat => format!("madeUnix (slotsOf (nth {i} vs))"),
         _ => format!("record {{ 0 = {} }}", number(i)),
     };
     format!("{} = {value}", quoted(&f.name))
@@ -325,8 +331,10 @@ use Rattle.fields.specs.Values.{Value, val, numOf, startOf, lenOf, countOf}
     .to_string();
     let records: Vec<_> = cases.iter().filter(|m| !m.is_empty()).collect();
     text += &values_uses(table, cases);
-    if records.iter().any(|m| m.fields.iter().any(|f| f.kind == Kind::Stat)) {
-        text += "use Rattle.fields.specs.Values.{slotsOf}\nuse Rattle.stats.specs.Stats.{madeStat}\n";
+    for (kind, made) in [(Kind::Stat, "madeStat"), (Kind::UnixStat, "madeUnix")] {
+        if records.iter().any(|m| m.fields.iter().any(|f| f.kind == kind)) {
+            text += &format!("use Rattle.fields.specs.Values.{{slotsOf}}\nuse Rattle.stats.specs.Stats.{{{made}}}\n");
+        }
     }
     for m in &records {
         let record = m.record();
@@ -436,13 +444,14 @@ fn field_fits(f: &Field, at: &str, limit: &str) -> Vec<String> {
             .collect(),
         Kind::Str | Kind::Names | Kind::Qids => vec!["tt".to_string()],
         Kind::Data => vec![limit.to_string()],
-        Kind::Stat => vec![stat_fits(at)],
+        Kind::Stat => vec![tupled(&stat_fits(at))],
+        Kind::UnixStat => vec![tupled(&unix_fits(at))],
         _ => vec![format!("{at} .0 .fits")],
     }
 }
 
 /// The same of a stat's: seven fields of numbers, of which the third is a qid, and four strings.
-fn stat_fits(at: &str) -> String {
+fn stat_fits(at: &str) -> Vec<String> {
     let mut parts = vec![];
     for i in 0..7 {
         let at = format!("{at}{} .0", " .1".repeat(i));
@@ -452,7 +461,15 @@ fn stat_fits(at: &str) -> String {
         }
     }
     parts.extend(["tt"; 4].map(String::from));
-    tupled(&parts)
+    parts
+}
+
+/// The same of 9P2000.u's, which has that of 9P2000 for its first field, then a string and three numbers.
+fn unix_fits(at: &str) -> Vec<String> {
+    let mut parts = stat_fits(&format!("{at} .0"));
+    parts.push("tt".to_string());
+    parts.extend((2..5).map(|i| format!("{at}{} .0 .fits", " .1".repeat(i))));
+    parts
 }
 
 fn tupled(parts: &[String]) -> String {
@@ -512,7 +529,7 @@ fn known_request(table: &Table) -> String {
         "// Whether a type is a request's: one of the {}.
 
 ghost use mathlib.Core.Path.{{_≡_}};
-ghost use Rattle.layouts.specs.{tables}.{{tableT}};
+ghost use Rattle.{tables}.{{tableT}};
 ghost use Rattle.pairs.specs.Pairs.{{knows}};
 
 pub(crate) fn known_request(ty: u8) -> bool
@@ -547,7 +564,7 @@ fn read_proof(table: &Table, direction: Direction, rows: &[&Message]) -> String 
 use Prim.Native.Nat.{{ℕ}}
 use mathlib.Core.Path.{{_∙_}}
 use Rattle.fields.specs.FieldLaws.{{done}}
-use Rattle.layouts.specs.{tables}.{{table{d}}}
+use Rattle.{tables}.{{table{d}}}
 use Rattle.layouts.specs.BodyLaws.{{known-body, unknown-body}}
 use Rattle.{krate}.specs.Views.{{values{d}, view{d}}}
 {}",

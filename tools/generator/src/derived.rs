@@ -1,7 +1,7 @@
 //! The crates that are the same for every dialect but for its words: frames, stretches and what Rust calls. They are written by hand for
 //! 9P2000.L, and for another dialect from that text.
 
-use crate::table::{Dialect, Table};
+use crate::table::{Dialect, Table, L};
 use crate::Files;
 use std::fs;
 use std::path::Path;
@@ -23,7 +23,7 @@ pub fn write(root: &Path, table: &Table, files: &mut Files) -> Result<(), String
         let text = fs::read_to_string(root.join("crates").join(from))
             .map_err(|why| format!("crates/{from}: {why}"))?;
         files.derive(
-            format!("crates/{}", table.dialect.named(to)),
+            format!("crates/{}", table.dialect.named(&to.replace('@', table.dialect.prefix))),
             &format!("crates/{from}"),
             said(&table.dialect, &text),
         );
@@ -81,10 +81,10 @@ fn tables(dialect: &Dialect, line: &str) -> String {
         .split(", ")
         .partition(|name| name.starts_with("table"));
     let mut text = String::new();
-    for (module, names) in [("Tables", shared), (dialect.tables, own)] {
+    for (module, names) in [(L.tables, shared), (dialect.tables, own)] {
         if !names.is_empty() {
             text += &format!(
-                "{before}use Rattle.layouts.specs.{module}.{{{}}}{end}",
+                "{before}use Rattle.{module}.{{{}}}{end}",
                 names.join(", ")
             );
         }

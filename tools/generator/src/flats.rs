@@ -7,15 +7,24 @@ use crate::Files;
 
 pub fn write(table: &Table, files: &mut Files) {
     let flat = table.dialect.named("flat");
-    for family in table.families(|_| true) {
+    for family in table.families(|m| !m.is_empty() && table.dialect.flat_of(m) == flat) {
         files.put(
             format!("crates/{flat}/src/{family}.rt"),
             family_source(table, &family),
         );
     }
+    for m in &table.messages {
+        if let Some(at) = lengthened(m) {
+            let place = format!("crates/{flat}/proofs/{}", m.family);
+            let small = m.small();
+            files.put(format!("{place}/flat_{small}/Proof.antt"), longer_flat_proof(&flat, m, at));
+            files.put(format!("{place}/{small}_of/Proof.antt"), longer_of_proof(&flat, m, at));
+        }
+    }
     for direction in [Direction::T, Direction::R] {
         let krate = &table.dialect.named(&format!("flat_{}", direction.enums()));
-        let rows = table.by_number(direction);
+        let mut rows = table.by_number(direction);
+        rows.retain(|m| !table.dialect.is_below(m));
         files.put(
             format!("crates/{krate}/src/lib.rt"),
             bodies(table, direction, &rows),
@@ -69,8 +78,12 @@ fn constants(
             text += &format!("use {of}::U{bits};\n");
         }
     }
+    let room = match dialect.over {
+        None => "crate".to_string(),
+        Some(_) => dialect.room(),
+    };
     for direction in directions {
-        text += &format!("use crate::{};\n", direction.width());
+        text += &format!("use {room}::{};\n", direction.width());
     }
     text
 }
@@ -80,6 +93,7 @@ fn family_source(table: &Table, family: &str) -> String {
         .messages
         .iter()
         .filter(|m| m.family == family && !m.is_empty())
+        .filter(|m| table.dialect.flat_of(m) == table.dialect.named("flat"))
         .collect();
     let mut text = format!(
         "// {}\n\n",
@@ -91,11 +105,16 @@ fn family_source(table: &Table, family: &str) -> String {
     text += &constants(&table.dialect, &rows, directions);
     let mut lines = type_uses(&rows);
     // A part holds a span.
-    if lines.contains("use fields::Part;") || lines.contains("use stats::Stat;") {
+    let has = |is: fn(Kind) -> bool| rows.iter().any(|m| m.fields.iter().any(|f| is(f.kind)));
+    if has(|kind| matches!(kind, Kind::Names | Kind::Qids) || kind.is_stat()) {
         lines.insert("use strings::Span;".to_string());
     }
-    if lines.contains("use stats::Stat;") {
+    if has(|kind| kind == Kind::Stat) {
         lines.insert("use layouts::qids::Qid;".to_string());
+    }
+    // What is before the longer stat is taken by 9P2000's own functions.
+    if has(|kind| kind == Kind::UnixStat) {
+        lines.retain(|line| !line.contains("::ids::"));
     }
     lines.extend(
         rows.iter()
@@ -135,6 +154,7 @@ fn widths(f: &Field) -> Vec<u8> {
         Kind::Qid => vec![1, 4],
         Kind::Names | Kind::Qids => vec![2],
         Kind::Stat => vec![1, 2, 4],
+        Kind::UnixStat => vec![4],
         kind => kind.width().filter(|w| *w < 8).into_iter().collect(),
     }
 }
@@ -145,6 +165,7 @@ fn count(f: &Field) -> usize {
         Kind::Str | Kind::Data => 2,
         Kind::Qid | Kind::Names | Kind::Qids => 3,
         Kind::Stat => 17,
+        Kind::UnixStat => 22,
         _ => 1,
     }
 }
@@ -171,11 +192,15 @@ fn values(f: &Field) -> Vec<String> {
             ]
         }
         Kind::Stat => stat_values(name),
+        Kind::UnixStat => more_values(name),
         _ => vec![format!("{name}.0 as u64")],
     }
 }
 
 const STRINGS: [&str; 4] = ["name", "uid", "gid", "muid"];
+
+/// The numbers that 9P2000.u's has after its extension.
+const IDS: [&str; 3] = ["n_uid", "n_gid", "n_muid"];
 
 /// A stat's values: what is a struct in it has been copied out of it.
 fn stat_values(stat: &str) -> Vec<String> {
@@ -189,6 +214,13 @@ fn stat_values(stat: &str) -> Vec<String> {
         all.push(format!("{name}.len as u64"));
     }
     all
+}
+
+/// What a stat of 9P2000.u has after that of 9P2000.
+fn more_values(stat: &str) -> Vec<String> {
+    let extension = ["extension.start as u64", "extension.len as u64"].map(String::from);
+    let ids = IDS.map(|id| format!("{stat}.{id} as u64"));
+    extension.into_iter().chain(ids).collect()
 }
 
 fn flattened(m: &Message) -> String {
@@ -206,12 +238,64 @@ fn flattened(m: &Message) -> String {
                 text += &format!("    let {name} = {}.{name};\n", f.name);
             }
         }
+        if f.kind == Kind::UnixStat {
+            for name in ["plain", "extension"] {
+                text += &format!("    let {name} = {}.{name};\n", f.name);
+            }
+        }
     }
-    let all = m.fields.iter().flat_map(values);
-    for (i, value) in all.enumerate() {
+    let mut all: Vec<(usize, String)> = m.fields.iter().flat_map(values).enumerate().collect();
+    if let Some(at) = lengthened(m) {
+        text += &shortened(m);
+        let more = all.split_off(at - 17);
+        all = more.into_iter().map(|(i, value)| (i + 17, value)).collect();
+    }
+    for (i, value) in all {
         text += &format!("    values[{i}] = {value};\n");
     }
     text + "}\n"
+}
+
+/// Where what 9P2000.u has more in a record begins among its values, where that is after a stat of 9P2000.
+fn lengthened(m: &Message) -> Option<usize> {
+    let last = m.fields.last().filter(|f| f.kind == Kind::UnixStat)?;
+    let all: usize = m.fields.iter().map(count).sum();
+    Some(all - count(last) + 17)
+}
+
+/// The record of 9P2000 that one of 9P2000.u begins with, laid flat by its function.
+fn shortened(m: &Message) -> String {
+    let (family, record, small) = (&m.family, m.record(), m.small());
+    let fields = m.fields.iter().map(|f| match f.kind {
+        Kind::UnixStat => format!("{}: plain", f.name),
+        _ => f.name.clone(),
+    });
+    let fields: Vec<String> = fields.collect();
+    format!(
+        "    let shorter = plain::{family}::{record} {{ {} }};\n    plain_flat::{family}::flat_{small}(shorter, values);\n",
+        fields.join(", ")
+    )
+}
+
+/// The record of 9P2000.u made of that one, and of the values after its.
+fn put_longer(m: &Message, at: usize) -> String {
+    let (record, small) = (m.record(), m.small());
+    let mut text = format!("    let shorter = plain_flat::{}::{small}_of(v);\n", m.family);
+    for f in &m.fields {
+        text += &match f.kind {
+            Kind::UnixStat => format!("    let plain = shorter.{};\n", f.name),
+            _ => format!("    let {0} = shorter.{0};\n", f.name),
+        };
+    }
+    text += &format!(
+        "    let extension = Span {{ start: v[{at}] as usize, len: v[{}] as usize }};\n",
+        at + 1
+    );
+    let ids = IDS.iter().zip(at + 2..);
+    let ids: String = ids.map(|(id, i)| format!(", {id}: {}", narrowed(i, 4))).collect();
+    text += &format!("    let stat = UnixStat {{ plain, extension{ids} }};\n");
+    let fields: Vec<&str> = m.fields.iter().map(|f| f.name.as_str()).collect();
+    text + &format!("    {record} {{ {} }}\n}}\n", fields.join(", "))
 }
 
 /// A value narrowed to a number of so many bytes.
@@ -225,6 +309,9 @@ fn narrowed(i: usize, width: u8) -> String {
 fn put_together(m: &Message) -> String {
     let (record, small, layout, width) = (m.record(), m.small(), m.layout(), m.direction.width());
     let mut text = format!("pub fn {small}_of(v: [u64; {width}]) -> {record}\n    ensures {{ λ r. ⌜ {small} r ≡ fieldValues {layout} v ⌝ }}\n{{\n");
+    if let Some(at) = lengthened(m) {
+        return text + &put_longer(m, at);
+    }
     let mut i = 0;
     let mut fields = vec![];
     for f in &m.fields {
@@ -303,6 +390,7 @@ fn put_stat(name: &str, i: usize) -> String {
 fn held<'a>(table: &'a Table, direction: Direction, family: &str) -> Vec<&'a Message> {
     let rows = table.messages.iter();
     rows.filter(|m| m.direction == direction && m.family == family && !m.is_empty())
+        .filter(|m| !table.dialect.is_below(m))
         .collect()
 }
 
@@ -316,7 +404,7 @@ fn fixed(m: &Message) -> Option<usize> {
 }
 
 fn readers(table: &Table, direction: Direction, family: &str, rows: &[&Message]) -> String {
-    let flat = table.dialect.named("flat");
+    let flat = table.dialect.room();
     let many = match direction {
         Direction::T => "Requests",
         Direction::R => "Replies",
@@ -333,7 +421,7 @@ ghost use mathlib.Core.Option.{{some}};
         layouts(rows, "ghost ", ";")
     );
     for m in rows {
-        text += &reader(m, &flat);
+        text += &reader(m, &table.dialect.flat_of(m));
     }
     text
 }
@@ -416,29 +504,34 @@ returns-2 c =
 // ---- bodies
 
 fn bodies(table: &Table, direction: Direction, rows: &[&Message]) -> String {
-    bodies_head(table, direction, rows.len())
+    bodies_head(table, direction)
         + &read_flat(table, direction, rows)
         + &write_flat(table, direction, rows)
 }
 
-fn bodies_head(table: &Table, direction: Direction, count: usize) -> String {
+fn bodies_head(table: &Table, direction: Direction) -> String {
     let (d, many, width) = (direction.letter(), direction.enums(), direction.width());
-    let (flat, tables) = (table.dialect.named("flat"), table.dialect.tables);
-    let mut families = table.families(|m| m.direction == direction && !m.is_empty());
+    let count = table.by_number(direction).len();
+    let (flat, tables) = (table.dialect.room(), table.dialect.tables);
+    let is_read = |m: &Message| m.direction == direction && !m.is_empty();
+    let mut families = table.families(|m| is_read(m) && !table.dialect.is_below(m));
     families.sort();
     let families: String = families
         .iter()
         .map(|family| format!("mod {family};\n"))
         .collect();
+    let refusal = match table.dialect.over {
+        None => "use numbers::Refusal;\n",
+        Some(_) => "",
+    };
     format!(
         "// The {count} {many}, read flat and written from flat values, by their type number.
 
 {families}
 use {flat}::{width};
 use numbers::Place;
-use numbers::Refusal;
-ghost use Rattle.layouts.specs.Tables.{{lookup}};
-ghost use Rattle.layouts.specs.{tables}.{{table{d}}};
+{refusal}ghost use Rattle.layouts.specs.Tables.{{lookup}};
+ghost use Rattle.{tables}.{{table{d}}};
 ghost use Rattle.flat.specs.Flat.{{FlatRead, FlatWritten}};
 "
     )
@@ -452,6 +545,7 @@ fn read_flat(table: &Table, direction: Direction, rows: &[&Message]) -> String {
         table.dialect.named(direction.enums()),
     );
     let arms: String = rows.iter().map(|m| read_arm(m)).collect();
+    let rest = rest(table, direction, "read_flat(s, ty, p, values)");
     format!(
         "
 // A body read flat at a place: its values go to the front of what the caller lends for them, and the place after its fields is answered;
@@ -461,17 +555,28 @@ pub fn read_flat(s: &[u8], ty: u8, p: Place, values: &mut [u64; {width}]) -> Pla
     ensures {{ λ r. ⌜ FlatRead (lookup table{d} ty) (now (s .entry)) p (now (values .entry)) (now (values .exit)) r ⌝ }}
 {{
     match ty {{
-{arms}        _ => Place::Refused(Refusal::UnknownType, 0),
+{arms}        _ => {rest},
     }}
 }}
 "
     )
 }
 
+/// What answers for the types without a row of their own.
+fn rest(table: &Table, direction: Direction, call: &str) -> String {
+    match table.dialect.over {
+        None => "Place::Refused(Refusal::UnknownType, 0)".to_string(),
+        Some(d) => format!("{}::{call}", d.named(&format!("flat_{}", direction.enums()))),
+    }
+}
+
 fn write_flat(table: &Table, direction: Direction, rows: &[&Message]) -> String {
     let (d, width) = (direction.letter(), direction.width());
-    let flat = table.dialect.named("flat");
-    let arms: String = rows.iter().map(|m| write_arm(m, &flat)).collect();
+    let arms: String = rows
+        .iter()
+        .map(|m| write_arm(m, &table.dialect.flat_of(m)))
+        .collect();
+    let rest = rest(table, direction, "write_flat(out, p, lent, ty, values)");
     format!(
         "
 // A body written at a place from the values of its record, which lie flat: its fields' refusals in order, then 10, then 11; 3 where the
@@ -481,7 +586,7 @@ pub fn write_flat(out: &mut [u8], p: Place, lent: &[u8], ty: u8, values: &[u64; 
 {{
     let v = *values;
     match ty {{
-{arms}        _ => Place::Refused(Refusal::UnknownType, 0),
+{arms}        _ => {rest},
     }}
 }}
 "
@@ -515,7 +620,10 @@ fn read_proof(table: &Table, direction: Direction, krate: &str, rows: &[&Message
         true => "flat-empty, ",
         false => "",
     };
-    text += &format!("use mathlib.Core.Path.{{refl}}\nuse Rattle.layouts.specs.{tables}.{{table{d}}}\nuse Rattle.flat.specs.FlatLaws.{{{empty}flat-unknown}}\n");
+    text += &match table.dialect.over {
+        None => format!("use mathlib.Core.Path.{{refl}}\nuse Rattle.{tables}.{{table{d}}}\nuse Rattle.flat.specs.FlatLaws.{{{empty}flat-unknown}}\n"),
+        Some(_) => below_uses(table, direction),
+    };
     text += &uses(krate, "read_flat");
     let mut asked = vec![];
     let mut answers = vec![];
@@ -532,7 +640,14 @@ fn read_proof(table: &Table, direction: Direction, krate: &str, rows: &[&Message
         answers.push(need);
     }
     let need = numbered("returns", rows.len() + 1);
-    text += &format!("\n{need} : tie.Need-{need}\n{need} c = flat-unknown table{d} _ (c .match .rest) refl\n\n");
+    text += &format!("\n{need} : tie.Need-{need}\n{need} c = ");
+    text += &match table.dialect.over {
+        None => format!("flat-unknown table{d} _ (c .match .rest) refl\n\n"),
+        Some(_) => {
+            asked.push(NOTHING.to_string());
+            format!("rw (same-{} _ (c .before .before .match .rest)) (c .read-flat .ensures)\n\n", direction.enums())
+        }
+    };
     answers.push(need);
     asked.extend(answers);
     text + &closed("read-flat", &asked)
@@ -545,7 +660,10 @@ fn write_proof(table: &Table, direction: Direction, krate: &str, rows: &[&Messag
     if has_empty {
         text += "use Rattle.laying.specs.WritingLaws.{written-nothing}\n";
     }
-    text += &format!("use Rattle.layouts.specs.{tables}.{{table{d}}}\nuse Rattle.flat.specs.FlatLaws.{{written-known, written-unknown}}\n");
+    text += &match table.dialect.over {
+        None => format!("use Rattle.{tables}.{{table{d}}}\nuse Rattle.flat.specs.FlatLaws.{{written-known, written-unknown}}\n"),
+        Some(_) => below_uses(table, direction) + "use Rattle.flat.specs.FlatLaws.{written-known}\n",
+    };
     text += &uses(krate, "write_flat");
     let mut calls = Occurrences::default();
     let mut lengths = 0;
@@ -575,8 +693,62 @@ fn write_proof(table: &Table, direction: Direction, krate: &str, rows: &[&Messag
         answers.push(need);
     }
     let need = numbered("returns", rows.len() + 1);
-    text += &format!("\n{need} : tie.Need-{need}\n{need} c = written-unknown table{d} _ (c .match .rest) refl\n\n");
+    if table.dialect.over.is_some() {
+        let length = numbered("same-length", lengths + 1);
+        text += &format!("\n{length} : tie.Need-{length}\n{length} c = search needs\n");
+        asked.push(NOTHING.to_string());
+        answers.push(length);
+    }
+    text += &format!("\n{need} : tie.Need-{need}\n{need} c = ");
+    text += &match table.dialect.over {
+        None => format!("written-unknown table{d} _ (c .match .rest) refl\n\n"),
+        Some(_) => format!("let w = c .before .before in rw (same-{} _ (w .before .before .match .rest)) (w .write-flat .ensures)\n\n", direction.enums()),
+    };
     answers.push(need);
     asked.extend(answers);
     text + &closed("write-flat", &asked)
+}
+
+/// The law by which a type without a row of its own has that of the dialect below.
+fn below_uses(table: &Table, direction: Direction) -> String {
+    let (flat, many) = (table.dialect.named("flat"), direction.enums());
+    format!("use Rattle.{flat}.specs.Same.{{same-{many}}}\n")
+}
+
+/// What the needs of these functions that are no more than numbers in range are answered with.
+const SEARCHED: &str = "(λ c. search needs)";
+
+/// `.before` for each field that is copied out of the record beside its stat.
+fn before(m: &Message) -> String {
+    " .before".repeat(m.fields.len() - 1)
+}
+
+fn longer_flat_proof(krate: &str, m: &Message, at: usize) -> String {
+    let small = m.small();
+    let mut text = "-- As 9P2000's, and the values of its own after them.\nuse borrow.Author.Needs.{needs}\n".to_string();
+    text += &format!("use Rattle.{krate}.specs.Same.{{longer-stored}}\n");
+    text += &uses(krate, &format!("{}.flat_{small}", m.family));
+    text += &format!(
+        "\nreturns : tie.Need-returns\nreturns c =\n    let f = c .before .before .before in\n    longer-stored {at} (f{} .before .before .before .before .before .args .m .stat) (f .flat-{small} .ensures)\n\n",
+        before(m)
+    );
+    let mut asked = vec![NOTHING.to_string()];
+    asked.extend(vec![SEARCHED.to_string(); 8]);
+    asked.push("returns".to_string());
+    text + &closed_short(&format!("flat-{small}"), &asked)
+}
+
+fn longer_of_proof(krate: &str, m: &Message, at: usize) -> String {
+    let small = m.small();
+    let mut text = "-- As 9P2000's, and the fields of its own after them.\nuse borrow.Author.Needs.{needs}\n".to_string();
+    text += &format!("use Rattle.{krate}.specs.Same.{{longer-of}}\n");
+    text += &uses(krate, &format!("{}.{small}_of", m.family));
+    text += &format!(
+        "\nreturns : tie.Need-returns\nreturns c =\n    let f = c .before{} in\n    longer-of {at} (f .before .args .t1) (f .{small}-of .ensures)\n\n",
+        before(m)
+    );
+    let mut asked = vec![NOTHING.to_string()];
+    asked.extend(vec![SEARCHED.to_string(); 8]);
+    asked.push("returns".to_string());
+    text + &closed_short(&format!("{small}-of"), &asked)
 }

@@ -40,22 +40,25 @@ fn read(path: &Path) -> Result<String, String> {
     fs::read_to_string(path).map_err(|why| format!("{}: {why}", path.display()))
 }
 
-fn table(root: &Path, dialect: Dialect, name: &str, other: Option<&Table>) -> Result<Table, String> {
+fn table(root: &Path, dialect: Dialect, name: &str, others: &[&Table]) -> Result<Table, String> {
     let text = read(&root.join("tools/generator").join(name))?;
-    Table::parsed(dialect, &text, other).map_err(|why| format!("{name}, {why}"))
+    Table::parsed(dialect, &text, others).map_err(|why| format!("{name}, {why}"))
 }
 
 fn written(root: &Path, out: &Path) -> Result<(), String> {
-    let l = table(root, table::L, "messages.txt", None)?;
-    let plain = table(root, table::PLAIN, "plain.txt", Some(&l))?;
+    let l = table(root, table::L, "messages.txt", &[])?;
+    let plain = table(root, table::PLAIN, "plain.txt", &[&l])?;
+    let unix = table(root, table::UNIX, "unix.txt", &[&l, &plain])?;
     let mut files = Files::default();
-    for table in [&l, &plain] {
+    for table in [&l, &plain, &unix] {
         records::write(table, &mut files);
         bodies::write(table, &mut files);
         flats::write(table, &mut files);
     }
-    rust::write(&l, &plain, &mut files);
-    derived::write(root, &plain, &mut files)?;
+    rust::write(&l, &[&plain, &unix], &mut files);
+    for table in [&plain, &unix] {
+        derived::write(root, table, &mut files)?;
+    }
     for (path, text) in files.0 {
         let path = out.join(path);
         let folder = path.parent().unwrap_or(out);

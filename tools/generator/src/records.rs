@@ -1,7 +1,7 @@
 //! The records: their sources, what their values are, and the proofs of their readers and writers.
 
 use crate::names::{closed_short, quoted, uses, Occurrences, NOTHING};
-use crate::table::{Field, Kind, Message, Table};
+use crate::table::{Field, Kind, Message, Table, DIALECTS};
 use crate::Files;
 use std::collections::BTreeSet;
 
@@ -56,6 +56,7 @@ pub fn type_uses(rows: &[&Message]) -> BTreeSet<String> {
         ("use strings::Span;", Kind::Str),
         ("use strings::Span;", Kind::Data),
         ("use stats::Stat;", Kind::Stat),
+        ("use stats::unix::UnixStat;", Kind::UnixStat),
     ];
     kinds
         .iter()
@@ -67,12 +68,12 @@ pub fn type_uses(rows: &[&Message]) -> BTreeSet<String> {
 /// The `use` lines of the messages' layouts, by the modules that have them, each with these words before it and after it.
 pub fn layouts(rows: &[&Message], before: &str, after: &str) -> String {
     let mut text = String::new();
-    for tables in ["Tables", "Plain"] {
+    for tables in DIALECTS.map(|d| d.tables) {
         let of = rows.iter().filter(|m| m.tables() == tables);
         let names: Vec<String> = of.map(|m| m.layout()).collect();
         if !names.is_empty() {
             text += &format!(
-                "{before}use Rattle.layouts.specs.{tables}.{{{}}}{after}\n",
+                "{before}use Rattle.{tables}.{{{}}}{after}\n",
                 names.join(", ")
             );
         }
@@ -125,7 +126,7 @@ fn called(kind: Kind) -> String {
         Kind::Data => "data".to_string(),
         Kind::Names => "names".to_string(),
         Kind::Qids => "qids".to_string(),
-        Kind::Stat => "stat".to_string(),
+        Kind::Stat | Kind::UnixStat => "stat".to_string(),
         _ => format!("u{}", kind.width().unwrap_or(0) * 8),
     }
 }
@@ -137,6 +138,7 @@ fn readers(kind: Kind) -> &'static str {
         Kind::Str => "strings",
         Kind::Data | Kind::Names | Kind::Qids => "fields",
         Kind::Stat => "stats",
+        Kind::UnixStat => "stats::unix",
         _ => "numbers",
     }
 }
@@ -206,7 +208,7 @@ fn widths(kind: Kind) -> Option<Vec<u8>> {
 
 /// A field of a count and bytes.
 fn is_counted(kind: Kind) -> bool {
-    widths(kind).is_none() && kind != Kind::Stat
+    widths(kind).is_none() && !kind.is_stat()
 }
 
 fn is_part(kind: Kind) -> bool {
@@ -239,7 +241,7 @@ fn steps(m: &Message) -> Vec<Step<'_>> {
                     Step::Copy(name.clone()),
                     Step::Put(width, format!("{name}.0")),
                 ]),
-                None if kind == Kind::Stat => all.push(Step::Stat(f)),
+                None if kind.is_stat() => all.push(Step::Stat(f)),
                 None => {
                     all.push(Step::Count(f));
                     if is_part(kind) {
@@ -317,11 +319,11 @@ fn written_call(step: &Step, at: &str) -> String {
             let sum: usize = run.iter().map(|w| usize::from(*w)).sum();
             format!("laying::{call}({at}, {sum})")
         }
-        Step::Measure(f) if f.kind == Kind::Stat => {
-            format!("stats::{call}(lent, {}, {at})", f.name)
+        Step::Measure(f) if f.kind.is_stat() => {
+            format!("{}::{call}(lent, {}, {at})", readers(f.kind), f.name)
         }
         Step::Measure(f) => format!("laying::{call}(lent, {}, {at})", f.name),
-        Step::Stat(f) => format!("stats::{call}(out, {at}, lent, {})", f.name),
+        Step::Stat(f) => format!("{}::{call}(out, {at}, lent, {})", readers(f.kind), f.name),
         Step::Put(_, value) => format!("numbers::{call}(out, {at}, {value})"),
         Step::Count(f) if is_part(f.kind) => {
             format!("numbers::{call}(out, {at}, {}.count)", f.name)
@@ -347,6 +349,7 @@ fn value(f: &Field) -> String {
         Kind::Str | Kind::Data => format!("spanOf (m .{name})"),
         Kind::Names | Kind::Qids => format!("partOf (m .{name})"),
         Kind::Stat => format!("statOf (m .{name})"),
+        Kind::UnixStat => format!("unixOf (m .{name})"),
         _ => format!("val (m .{name} .0)"),
     }
 }
@@ -368,8 +371,10 @@ fn definitions(table: &Table, krate: &str, families: &[String]) -> String {
         "use Rattle.layouts.specs.Records.{{{}}}\n",
         shown.join(", ")
     );
-    if any(&all, |k| k == Kind::Stat) {
-        text += "use Rattle.stats.specs.Stats.{statOf}\n";
+    for (kind, values) in [(Kind::Stat, "statOf"), (Kind::UnixStat, "unixOf")] {
+        if any(&all, |k| k == kind) {
+            text += &format!("use Rattle.stats.specs.Stats.{{{values}}}\n");
+        }
     }
     for m in &all {
         let record = m.record();
@@ -626,13 +631,13 @@ fn write_uses(m: &Message, all: &[Step], many: bool) -> String {
         text += &format!("use Rattle.fields.specs.Layouts.{{{}}}\n", kinds.join(", "));
     }
     if many {
-        text += &format!("use Rattle.numbers.specs.Places.{{Put}}\nuse Rattle.numbers.specs.declared.Place.{{Place}}\nuse Rattle.fields.specs.Values.{{val}}\nuse Rattle.laying.specs.Laying.{{PutAll}}\nuse Rattle.layouts.specs.{}.{{{}}}\n", m.tables(), m.layout());
+        text += &format!("use Rattle.numbers.specs.Places.{{Put}}\nuse Rattle.numbers.specs.declared.Place.{{Place}}\nuse Rattle.fields.specs.Values.{{val}}\nuse Rattle.laying.specs.Laying.{{PutAll}}\nuse Rattle.{}.{{{}}}\n", m.tables(), m.layout());
     }
     text += &format!(
         "use Rattle.laying.specs.LayingLaws.{{{}}}\nuse Rattle.laying.specs.WritingLaws.{{written, written-length}}\n",
         written_laws(m)
     );
-    if m.fields.iter().any(|f| f.kind == Kind::Stat) {
+    if m.fields.iter().any(|f| f.kind.is_stat()) {
         text += "use Rattle.laying.specs.BoxLaws.{put-box}\n";
     }
     text + &uses(&m.dialect, &path(m, "write"))

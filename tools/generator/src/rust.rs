@@ -13,13 +13,16 @@ enum Rows {
     Sellers,
 }
 
-pub fn write(l: &Table, plain: &Table, files: &mut Files) {
-    for (rows, table, file) in [
-        (Rows::Ours, l, "rust/src/rows.rs"),
-        (Rows::Ours, plain, "rust/src/plain/rows.rs"),
-        (Rows::Sellers, l, "rust/examples/swap/protocol/rows.rs"),
+pub fn write(l: &Table, others: &[&Table], files: &mut Files) {
+    for (rows, file) in [
+        (Rows::Ours, "rust/src/rows.rs"),
+        (Rows::Sellers, "rust/examples/swap/protocol/rows.rs"),
     ] {
-        files.put(file.to_string(), rows.all(table));
+        files.put(file.to_string(), rows.all(l));
+    }
+    for table in others {
+        let module = table.dialect.prefix.trim_end_matches('_');
+        files.put(format!("rust/src/{module}/rows.rs"), Rows::Ours.all(table));
     }
 }
 
@@ -63,7 +66,7 @@ impl Rows {
             (Rows::Ours, Kind::Data) => "Data<'a>",
             (Rows::Ours, Kind::Names) => "Names<'a>",
             (Rows::Ours, Kind::Qids) => "Qids<'a>",
-            (_, Kind::Stat) => "Stat<'a>",
+            (_, Kind::Stat | Kind::UnixStat) => "Stat<'a>",
             (Rows::Sellers, Kind::Fid | Kind::Gid) => "u32",
             (Rows::Sellers, Kind::Tag) => "u16",
             (Rows::Sellers, Kind::Str) => "P9String",

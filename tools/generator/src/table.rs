@@ -1,4 +1,4 @@
-//! The tables of messages, one for each dialect: messages.txt for 9P2000.L, plain.txt for 9P2000.
+//! The tables of messages, one for each dialect: messages.txt for 9P2000.L, plain.txt for 9P2000, unix.txt for 9P2000.u.
 
 use std::collections::BTreeMap;
 
@@ -15,6 +15,8 @@ pub enum Kind {
     Names,
     Qids,
     Stat,
+    /// That of 9P2000.u.
+    UnixStat,
 }
 
 /// Which crates a dialect has, and where the definitions have its tables.
@@ -24,23 +26,43 @@ pub struct Dialect {
     /// The crates of its own records, and those whose records it has beside them.
     pub own: &'static [&'static str],
     pub shared: &'static [&'static str],
-    /// The module of crates/layouts/specs that has its tables.
+    /// The module that has its tables.
     pub tables: &'static str,
+    /// How many values hold any of its requests, and any of its replies, laid flat.
+    pub widths: [usize; 2],
+    /// The dialect by whose flat crates it reads and writes the rows that it shares with it.
+    pub over: Option<&'static Dialect>,
 }
 
 pub const L: Dialect = Dialect {
     prefix: "",
     own: &["common", "messages", "metadata"],
     shared: &[],
-    tables: "Tables",
+    tables: "layouts.specs.Tables",
+    widths: [10, 22],
+    over: None,
 };
 
 pub const PLAIN: Dialect = Dialect {
     prefix: "plain_",
     own: &["plain"],
     shared: &["common"],
-    tables: "Plain",
+    tables: "layouts.specs.Plain",
+    widths: [23, 22],
+    over: None,
 };
+
+pub const UNIX: Dialect = Dialect {
+    prefix: "unix_",
+    own: &["unix"],
+    shared: &["common", "messages", "plain"],
+    tables: "stats.specs.Unix",
+    widths: [23, 22],
+    over: Some(&PLAIN),
+};
+
+/// Each after those whose records it has.
+pub const DIALECTS: [&Dialect; 3] = [&L, &PLAIN, &UNIX];
 
 impl Dialect {
     /// One of its crates, as `plain_requests`.
@@ -51,6 +73,24 @@ impl Dialect {
     /// The crates that have its records.
     pub fn records(&self) -> impl Iterator<Item = &'static str> {
         self.shared.iter().chain(self.own).copied()
+    }
+
+    /// The crate that lays a record of a crate flat for this dialect: the first that has it in as much room.
+    pub fn flat_of(&self, m: &Message) -> String {
+        let room = |d: &Dialect| d.widths[m.direction as usize];
+        let has = |d: &&&Dialect| room(d) == room(self) && d.records().any(|krate| krate == m.dialect);
+        let first = DIALECTS.iter().find(has).map_or(self, |d| *d);
+        first.named("flat")
+    }
+
+    /// The crate that says how much room its flat values have.
+    pub fn room(&self) -> String {
+        self.over.unwrap_or(self).named("flat")
+    }
+
+    /// Whether the dialect that it stands over has the same row.
+    pub fn is_below(&self, m: &Message) -> bool {
+        self.over.is_some_and(|d| d.records().any(|krate| krate == m.dialect))
     }
 }
 
@@ -83,6 +123,8 @@ pub struct Table {
     pub heads: BTreeMap<(String, String), String>,
     /// The cases in the order of the enums.
     pub order: Vec<String>,
+    /// The crates whose records it shares, and which of them: all, where none is named.
+    shares: Vec<(String, Vec<String>)>,
 }
 
 impl Kind {
@@ -101,6 +143,7 @@ impl Kind {
             "names" => Kind::Names,
             "qids" => Kind::Qids,
             "stat" => Kind::Stat,
+            "ustat" => Kind::UnixStat,
             _ => return None,
         })
     }
@@ -119,6 +162,7 @@ impl Kind {
             Kind::Str | Kind::Data => "Span",
             Kind::Names | Kind::Qids => "Part",
             Kind::Stat => "Stat",
+            Kind::UnixStat => "UnixStat",
         }
     }
 
@@ -135,6 +179,10 @@ impl Kind {
     /// Whether the number stands in a tuple struct.
     pub fn is_wrapped(self) -> bool {
         matches!(self, Kind::Fid | Kind::Gid | Kind::Tag)
+    }
+
+    pub fn is_stat(self) -> bool {
+        matches!(self, Kind::Stat | Kind::UnixStat)
     }
 }
 
@@ -175,12 +223,10 @@ impl Message {
         self.record().to_lowercase()
     }
 
-    /// The module of crates/layouts/specs that has its layout.
+    /// The module that has its layout.
     pub fn tables(&self) -> &'static str {
-        match PLAIN.own.contains(&self.dialect.as_str()) {
-            true => PLAIN.tables,
-            false => L.tables,
-        }
+        let has = |d: &&&Dialect| d.own.contains(&self.dialect.as_str());
+        DIALECTS.iter().find(has).map_or(L.tables, |d| d.tables)
     }
 
     /// The layout's name in the definitions, as `layoutTversion`.
@@ -199,13 +245,14 @@ impl Message {
 }
 
 impl Table {
-    /// A dialect's table, with the messages that it shares with another.
-    pub fn parsed(dialect: Dialect, text: &str, other: Option<&Table>) -> Result<Self, String> {
+    /// A dialect's table, with the messages that it shares with others.
+    pub fn parsed(dialect: Dialect, text: &str, others: &[&Table]) -> Result<Self, String> {
         let mut table = Table {
             dialect,
             messages: vec![],
             heads: BTreeMap::new(),
             order: vec![],
+            shares: vec![],
         };
         for (at, line) in text.lines().enumerate() {
             table.take(line).ok_or(format!(
@@ -213,12 +260,22 @@ impl Table {
                 at + 1
             ))?;
         }
-        if let Some(other) = other {
-            let shared = |m: &&Message| table.dialect.shared.contains(&m.dialect.as_str());
-            let rows: Vec<Message> = other.messages.iter().filter(shared).cloned().collect();
-            table.messages.splice(0..0, rows);
+        let mut rows: Vec<Message> = vec![];
+        for m in others.iter().flat_map(|other| &other.messages) {
+            let is_there = rows.iter().any(|row| row.record() == m.record());
+            if table.has_part_in(m) && !is_there {
+                rows.push(m.clone());
+            }
         }
+        table.messages.splice(0..0, rows);
         Ok(table)
+    }
+
+    fn has_part_in(&self, m: &Message) -> bool {
+        let names = |(krate, records): &(String, Vec<String>)| {
+            *krate == m.dialect && (records.is_empty() || records.contains(&m.record()))
+        };
+        self.shares.iter().any(names)
     }
 
     fn take(&mut self, line: &str) -> Option<()> {
@@ -231,6 +288,10 @@ impl Table {
                 self.heads.insert(key, words.collect::<Vec<_>>().join(" "));
             }
             Some("order") => self.order.extend(words.map(str::to_string)),
+            Some("shares") => {
+                let krate = words.next()?.to_string();
+                self.shares.push((krate, words.map(str::to_string).collect()));
+            }
             Some(dialect) => {
                 let family = words.next()?.to_string();
                 let number = words.next()?.parse().ok()?;

@@ -5,7 +5,6 @@ use mathlib.Core.Path.{sym}
 use lib.Seq.{length-take-le}
 use Rattle.numbers.specs.PlaceLaws.{inside, num-holds}
 use Rattle.stats.specs.StatLaws.{open-cut, open-short, open-wrong, open-well, start-within, start-two}
-use Rattle.layouts.specs.Plain.{statShape}
 use Rattle.stats.proofs.open_stat.Statement.{statement}
 use Rattle.stats.proofs.open_stat.Tie as tie
 
@@ -32,33 +31,33 @@ agree-requires c κs =
     let l = c .before .before .before .before .before .before .before .before in
     start-within (l .before .args .s .now) (c .before .before .within .ensures) (c .before .if1 .taken)
 
-add-t14 : tie.Need-add-t14
-add-t14 c =
+add-t15 : tie.Need-add-t15
+add-t15 c =
     let g = c .before in
     let i = g .before .before in
     let l = i .before .before .before .before .before .before .before in
-    omega (arith, start-two statShape (l .before .args .s .now) _ _ (inside (i .before .within .ensures) (i .if1 .taken)) (g .agree .ensures) (c .if2 .taken))
+    omega (arith, start-two _ (l .before .args .s .now) _ _ (inside (i .before .within .ensures) (i .if1 .taken)) (g .agree .ensures) (c .if2 .taken))
 
 returns-2 : tie.Need-returns-2
 returns-2 c =
     let g = c .before in
     let i = g .before .before in
     let d = i .before .before .before .before in
-    open-well statShape (num-holds (omega arith) (d .before .before .read-u16 .ensures) (d .q .given .1)) (inside (i .before .within .ensures) (i .if1 .taken)) (g .agree .ensures) (c .if2 .taken)
+    open-well _ (num-holds (omega arith) (d .before .before .read-u16 .ensures) (d .q .given .1)) (inside (i .before .within .ensures) (i .if1 .taken)) (g .agree .ensures) (c .if2 .taken)
 
 returns-3 : tie.Need-returns-3
 returns-3 c =
     let g = c .before in
     let i = g .before .before in
     let d = i .before .before .before .before in
-    open-wrong statShape (num-holds (omega arith) (d .before .before .read-u16 .ensures) (d .q .given .1)) (inside (i .before .within .ensures) (i .if1 .taken)) (g .agree .ensures) (c .if2 .left)
+    open-wrong _ (num-holds (omega arith) (d .before .before .read-u16 .ensures) (d .q .given .1)) (inside (i .before .within .ensures) (i .if1 .taken)) (g .agree .ensures) (c .if2 .left)
 
 returns-4 : tie.Need-returns-4
 returns-4 c =
     let d = c .before .before .before .before in
-    open-short statShape (num-holds (omega arith) (d .before .before .read-u16 .ensures) (d .q .given .1)) (c .before .within .ensures) (c .if1 .left)
+    open-short _ (num-holds (omega arith) (d .before .before .read-u16 .ensures) (d .q .given .1)) (c .before .within .ensures) (c .if1 .left)
 
 pub open-stat-spec : {M : Type 1} → statement M
 open-stat-spec =
     tie.close
-    (tie.spec (λ _ _. tt) enum-known-q enum-told returns cast-n (λ _ _. tt) add-end slice-aggregate-agree agree-requires add-t14 returns-2 returns-3 returns-4)
+    (tie.spec (λ _ _. tt) enum-known-q enum-told returns cast-n (λ _ _. tt) add-end slice-aggregate-agree agree-requires add-t15 returns-2 returns-3 returns-4)

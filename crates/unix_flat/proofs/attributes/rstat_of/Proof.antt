@@ -1,0 +1,14 @@
+-- Written by tools/messages from its table of messages.
+-- As 9P2000's, and the fields of its own after them.
+use borrow.Author.Needs.{needs}
+use Rattle.unix_flat.specs.Same.{longer-of}
+use Rattle.unix_flat.proofs.attributes.rstat_of.Statement.{statement}
+use Rattle.unix_flat.proofs.attributes.rstat_of.Tie as tie
+
+returns : tie.Need-returns
+returns c =
+    let f = c .before in
+    longer-of 17 (f .before .args .t1) (f .rstat-of .ensures)
+
+pub rstat-of-spec : {M : Type 1} → statement M
+rstat-of-spec = tie.close (tie.spec (λ _ _. tt) (λ c. search needs) (λ c. search needs) (λ c. search needs) (λ c. search needs) (λ c. search needs) (λ c. search needs) (λ c. search needs) (λ c. search needs) returns)
