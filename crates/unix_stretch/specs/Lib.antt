@@ -5,3 +5,7 @@ pub mod Known
 pub mod Held
 pub mod Fitting
 pub mod Functions
+pub mod Prefix
+pub mod Boxes
+pub mod Editions
+pub mod Examples
