@@ -60,7 +60,7 @@ macro_rules! about {
     (Tclunk) => { "Gives a fid up." };
     (Tremove) => { "Removes a file, and gives its fid up in either case." };
     (Rlerror) => { "The request has failed." };
-    // Those of 9P2000 alone.
+    // Those of 9P2000 and 9P2000.u.
     (Rerror) => { "The request has failed." };
     (Topen) => { "Opens a file." };
     (Ropen) => { "The file is open." };
@@ -117,6 +117,11 @@ macro_rules! about {
     (data) => { "The bytes." };
     (ecode) => { "Linux's number for the error." };
     (ename) => { "What has failed, in words." };
+    (errno) => { "The number of the error, as Unix has it." };
+    (extension) => { "What a special file is: where a symbolic link leads, or the kind and the numbers of a device." };
+    (n_uid) => { "The owner's number." };
+    (n_gid) => { "The group's number." };
+    (n_muid) => { "The number of who last wrote to it." };
     (perm) => { "The permissions of the new file, and its kind in the highest bits." };
     (stat) => { "What there is to know of the file." };
     (muid) => { "Who last wrote to it, by name." };

@@ -254,77 +254,100 @@ fn placed(told: Outcome) -> Result<usize, Stop> {
     told.told().map_err(|refusal| Stop { at, refusal })
 }
 
-/// 9P2000's, each as that of 9P2000.L beside whose name it stands.
-pub mod plain {
-    use super::*;
+/// The calls of an older dialect, each as that of 9P2000.L beside whose name it stands.
+macro_rules! older {
+    (
+        $(#[$doc:meta])* $dialect:ident:
+        $read_tframe:ident $read_rframe:ident $read_tbody:ident $read_rbody:ident
+        $write_tframe:ident $write_rframe:ident $answers:ident
+    ) => {
+        $(#[$doc])*
+        pub mod $dialect {
+            use super::*;
 
-    #[inline]
-    pub fn read_t(bytes: &[u8], values: &mut [u64; PLAIN_T_VALUES]) -> Outcome {
-        // SAFETY: as for 9P2000.L's.
-        unsafe { sheafsledge_plain_read_tframe(bytes.as_ptr(), bytes.len(), values) }
-    }
+            #[inline]
+            pub fn read_t(bytes: &[u8], values: &mut [u64; PLAIN_T_VALUES]) -> Outcome {
+                // SAFETY: as for 9P2000.L's.
+                unsafe { $read_tframe(bytes.as_ptr(), bytes.len(), values) }
+            }
 
-    #[inline]
-    pub fn read_r(bytes: &[u8], values: &mut [u64; PLAIN_R_VALUES]) -> Outcome {
-        // SAFETY: as for 9P2000.L's.
-        unsafe { sheafsledge_plain_read_rframe(bytes.as_ptr(), bytes.len(), values) }
-    }
+            #[inline]
+            pub fn read_r(bytes: &[u8], values: &mut [u64; PLAIN_R_VALUES]) -> Outcome {
+                // SAFETY: as for 9P2000.L's.
+                unsafe { $read_rframe(bytes.as_ptr(), bytes.len(), values) }
+            }
 
-    #[inline]
-    pub fn read_tbody(
-        bytes: &[u8],
-        at: usize,
-        ty: u8,
-        values: &mut [u64; PLAIN_T_VALUES],
-    ) -> Outcome {
-        // SAFETY: as for 9P2000.L's.
-        unsafe { sheafsledge_plain_read_tbody(bytes.as_ptr(), bytes.len(), at, ty, values) }
-    }
+            #[inline]
+            pub fn read_tbody(
+                bytes: &[u8],
+                at: usize,
+                ty: u8,
+                values: &mut [u64; PLAIN_T_VALUES],
+            ) -> Outcome {
+                // SAFETY: as for 9P2000.L's.
+                unsafe { $read_tbody(bytes.as_ptr(), bytes.len(), at, ty, values) }
+            }
 
-    #[inline]
-    pub fn read_rbody(
-        bytes: &[u8],
-        at: usize,
-        ty: u8,
-        values: &mut [u64; PLAIN_R_VALUES],
-    ) -> Outcome {
-        // SAFETY: as for 9P2000.L's.
-        unsafe { sheafsledge_plain_read_rbody(bytes.as_ptr(), bytes.len(), at, ty, values) }
-    }
+            #[inline]
+            pub fn read_rbody(
+                bytes: &[u8],
+                at: usize,
+                ty: u8,
+                values: &mut [u64; PLAIN_R_VALUES],
+            ) -> Outcome {
+                // SAFETY: as for 9P2000.L's.
+                unsafe { $read_rbody(bytes.as_ptr(), bytes.len(), at, ty, values) }
+            }
 
-    #[inline]
-    pub fn write_t(
-        out: &mut [u8],
-        lent: &[u8],
-        (ty, tag): (u8, Tag),
-        values: &[u64; PLAIN_T_VALUES],
-    ) -> Outcome {
-        let (to, room, from, count) = (out.as_mut_ptr(), out.len(), lent.as_ptr(), lent.len());
-        // SAFETY: as for 9P2000.L's.
-        unsafe {
-            sheafsledge_plain_write_tframe(to, room, from, count, 0, ty, crossing(tag), values)
+            #[inline]
+            pub fn write_t(
+                out: &mut [u8],
+                lent: &[u8],
+                (ty, tag): (u8, Tag),
+                values: &[u64; PLAIN_T_VALUES],
+            ) -> Outcome {
+                let (to, room, from, count) =
+                    (out.as_mut_ptr(), out.len(), lent.as_ptr(), lent.len());
+                // SAFETY: as for 9P2000.L's.
+                unsafe { $write_tframe(to, room, from, count, 0, ty, crossing(tag), values) }
+            }
+
+            #[inline]
+            pub fn write_r(
+                out: &mut [u8],
+                lent: &[u8],
+                (ty, tag): (u8, Tag),
+                values: &[u64; PLAIN_R_VALUES],
+            ) -> Outcome {
+                let (to, room, from, count) =
+                    (out.as_mut_ptr(), out.len(), lent.as_ptr(), lent.len());
+                // SAFETY: as for 9P2000.L's.
+                unsafe { $write_rframe(to, room, from, count, 0, ty, crossing(tag), values) }
+            }
+
+            pub fn answers(request: Mark, reply: Mark) -> bool {
+                let (request_tag, reply_tag) = (crossing(request.tag), crossing(reply.tag));
+                // SAFETY: as for 9P2000.L's.
+                unsafe { $answers(request.ty, request_tag, reply.ty, reply_tag) }
+            }
         }
-    }
+    };
+}
 
-    #[inline]
-    pub fn write_r(
-        out: &mut [u8],
-        lent: &[u8],
-        (ty, tag): (u8, Tag),
-        values: &[u64; PLAIN_R_VALUES],
-    ) -> Outcome {
-        let (to, room, from, count) = (out.as_mut_ptr(), out.len(), lent.as_ptr(), lent.len());
-        // SAFETY: as for 9P2000.L's.
-        unsafe {
-            sheafsledge_plain_write_rframe(to, room, from, count, 0, ty, crossing(tag), values)
-        }
-    }
+older! {
+    /// 9P2000's.
+    plain:
+    sheafsledge_plain_read_tframe sheafsledge_plain_read_rframe
+    sheafsledge_plain_read_tbody sheafsledge_plain_read_rbody
+    sheafsledge_plain_write_tframe sheafsledge_plain_write_rframe sheafsledge_plain_answers
+}
 
-    pub fn answers(request: Mark, reply: Mark) -> bool {
-        let (request_tag, reply_tag) = (crossing(request.tag), crossing(reply.tag));
-        // SAFETY: as for 9P2000.L's.
-        unsafe { sheafsledge_plain_answers(request.ty, request_tag, reply.ty, reply_tag) }
-    }
+older! {
+    /// 9P2000.u's.
+    unix:
+    sheafsledge_unix_read_tframe sheafsledge_unix_read_rframe
+    sheafsledge_unix_read_tbody sheafsledge_unix_read_rbody
+    sheafsledge_unix_write_tframe sheafsledge_unix_write_rframe sheafsledge_unix_answers
 }
 
 /// A tag as it crosses.

@@ -5,32 +5,13 @@ use std::io::{self, Write};
 
 use crate::boundary::{Outcome, R_VALUES, T_VALUES};
 use crate::ffi::Told;
-use crate::fields::{fill, Field, Taken};
-use crate::records::Onward;
+use crate::fields::{fill, Field};
 use crate::{ffi, tables, Refusal, Rmessage, Tag, Tmessage, WalkHead};
 
 /// How many bytes stand before a frame's first field: its size, its type and its tag.
 pub(crate) const HEADER: usize = 7;
 
 const TWALK: u8 = 110;
-
-/// A request: its tag beside a message or a refusal.
-#[derive(Clone, Copy, Debug, PartialEq, Eq)]
-pub struct Tframe<'a> {
-    /// What its reply bears, too.
-    pub tag: Tag,
-    /// What is asked for, or why that can't be read.
-    pub msg: Result<Tmessage<'a>, Refusal>,
-}
-
-/// A reply.
-#[derive(Clone, Copy, Debug, PartialEq, Eq)]
-pub struct Rframe<'a> {
-    /// The tag of the request.
-    pub tag: Tag,
-    /// What is answered.
-    pub msg: Rmessage<'a>,
-}
 
 /// A frame that was read, and how many bytes its header and fields are; a tail may follow them,
 /// up to the declared size.
@@ -93,32 +74,163 @@ pub(crate) struct Framed<M> {
     pub make: M,
 }
 
-impl<'a, M: Make<Tframe<'a>>> Onward<Tmessage<'a>> for Framed<M> {
-    type Answer = M::Made;
+/// The two frames of a dialect, over its enums `Tmessage` and `Rmessage`: what they are, how they are read,
+/// and how long they are. How they are written is each dialect's own `encode`.
+macro_rules! frames {
+    (
+        $(#[$t:meta])* Tframe in $t_values:path, $read_t:path;
+        $(#[$t_decode:meta])* decode;
+        $(#[$t_size:meta])* byte_size;
+        $(#[$r:meta])* Rframe in $r_values:path, $read_r:path;
+        $(#[$r_decode:meta])* decode;
+        $(#[$r_size:meta])* byte_size;
+        $(#[$r_send:meta])* encode_to;
+    ) => {
+        $(#[$t])*
+        #[derive(Clone, Copy, Debug, PartialEq, Eq)]
+        pub struct Tframe<'a> {
+            /// What its reply bears, too.
+            pub tag: $crate::Tag,
+            /// What is asked for, or why that can't be read.
+            pub msg: Result<Tmessage<'a>, $crate::Refusal>,
+        }
 
-    #[inline(always)]
-    fn on(self, msg: Result<Tmessage<'a>, Refusal>) -> M::Made {
-        let Self { tag, used, make } = self;
-        let frame = Tframe { tag, msg };
-        make.make(Ok(Decoded { frame, used }))
-    }
+        $(#[$r])*
+        #[derive(Clone, Copy, Debug, PartialEq, Eq)]
+        pub struct Rframe<'a> {
+            /// The tag of the request.
+            pub tag: $crate::Tag,
+            /// What is answered.
+            pub msg: Rmessage<'a>,
+        }
+
+        impl<'a, M: $crate::Make<Tframe<'a>>> $crate::records::Onward<Tmessage<'a>>
+            for $crate::frames::Framed<M>
+        {
+            type Answer = M::Made;
+
+            #[inline(always)]
+            fn on(self, msg: Result<Tmessage<'a>, $crate::Refusal>) -> M::Made {
+                let Self { tag, used, make } = self;
+                let frame = Tframe { tag, msg };
+                make.make(Ok($crate::Decoded { frame, used }))
+            }
+        }
+
+        /// A refusal has no tag.
+        impl<'a, M: $crate::Make<Rframe<'a>>> $crate::records::Onward<Rmessage<'a>>
+            for $crate::frames::Framed<M>
+        {
+            type Answer = M::Made;
+
+            #[inline(always)]
+            fn on(self, msg: Result<Rmessage<'a>, $crate::Refusal>) -> M::Made {
+                let Self { tag, used, make } = self;
+                make.make(msg.map(|msg| $crate::Decoded {
+                    frame: Rframe { tag, msg },
+                    used,
+                }))
+            }
+        }
+
+        impl<'a> Tframe<'a> {
+            $(#[$t_decode])*
+            #[inline]
+            pub fn decode(bytes: &'a [u8]) -> Result<$crate::Decoded<Self>, $crate::Refusal> {
+                Self::decode_into(bytes, $crate::frames::AsItIs)
+            }
+
+            /// Reads as [`Tframe::decode`] does, and answers what is made of that, see
+            /// [`Make`](crate::Make).
+            #[inline(always)]
+            pub fn decode_into<M: $crate::Make<Self>>(bytes: &'a [u8], make: M) -> M::Made {
+                use $crate::records::Onward;
+                let mut values = [0; $t_values];
+                let read = $read_t(bytes, &mut values);
+                let tag = $crate::Tag(read.tag);
+                match $crate::Refusal::of(read.refusal, read.place) {
+                    Some(refusal) if !read.held => make.make(Err(refusal)),
+                    Some(refusal) => {
+                        let used = 0;
+                        $crate::frames::Framed { tag, used, make }.on(Err(refusal))
+                    }
+                    None => {
+                        let (values, frame, used) = (values.iter(), bytes, read.place);
+                        let framed = $crate::frames::Framed { tag, used, make };
+                        let taken = &mut $crate::fields::Taken { values, frame };
+                        Tmessage::take(read.ty, taken, framed)
+                    }
+                }
+            }
+
+            $(#[$t_size])*
+            pub fn byte_size(&self) -> Result<usize, $crate::Refusal> {
+                let fields = self.msg.map_or(0, |msg| msg.size());
+                $crate::frames::sized(self.encode(&mut []), $crate::frames::HEADER + fields)
+            }
+
+            /// Writes the request to a stream in one call, by way of a buffer that the caller keeps,
+            /// and answers its length. Refused, nothing is written.
+            #[cfg(feature = "std")]
+            pub fn encode_to(
+                &self,
+                stream: &mut impl std::io::Write,
+                buffer: &mut [u8],
+            ) -> std::io::Result<usize> {
+                $crate::frames::send(self.encode(buffer), stream, buffer)
+            }
+        }
+
+        impl<'a> Rframe<'a> {
+            $(#[$r_decode])*
+            #[inline]
+            pub fn decode(bytes: &'a [u8]) -> Result<$crate::Decoded<Self>, $crate::Refusal> {
+                Self::decode_into(bytes, $crate::frames::AsItIs)
+            }
+
+            /// Reads as [`Rframe::decode`] does, and answers what is made of that, see
+            /// [`Make`](crate::Make).
+            #[inline(always)]
+            pub fn decode_into<M: $crate::Make<Self>>(bytes: &'a [u8], make: M) -> M::Made {
+                use $crate::records::Onward;
+                let mut values = [0; $r_values];
+                let read = $read_r(bytes, &mut values);
+                let (tag, used) = ($crate::Tag(read.tag), read.place);
+                let framed = $crate::frames::Framed { tag, used, make };
+                match $crate::Refusal::of(read.refusal, read.place) {
+                    Some(refusal) => framed.on(Err(refusal)),
+                    None => {
+                        let (values, frame) = (values.iter(), bytes);
+                        let taken = &mut $crate::fields::Taken { values, frame };
+                        Rmessage::take(read.ty, taken, framed)
+                    }
+                }
+            }
+
+            $(#[$r_size])*
+            pub fn byte_size(&self) -> Result<usize, $crate::Refusal> {
+                let size = $crate::frames::HEADER + self.msg.size();
+                $crate::frames::sized(self.encode(&mut []), size)
+            }
+
+            $(#[$r_send])*
+            #[cfg(feature = "std")]
+            pub fn encode_to(
+                &self,
+                stream: &mut impl std::io::Write,
+                buffer: &mut [u8],
+            ) -> std::io::Result<usize> {
+                $crate::frames::send(self.encode(buffer), stream, buffer)
+            }
+        }
+    };
 }
 
-/// A refusal has no tag.
-impl<'a, M: Make<Rframe<'a>>> Onward<Rmessage<'a>> for Framed<M> {
-    type Answer = M::Made;
+pub(crate) use frames;
 
-    #[inline(always)]
-    fn on(self, msg: Result<Rmessage<'a>, Refusal>) -> M::Made {
-        let Self { tag, used, make } = self;
-        make.make(msg.map(|msg| Decoded {
-            frame: Rframe { tag, msg },
-            used,
-        }))
-    }
-}
-
-impl<'a> Tframe<'a> {
+frames! {
+    /// A request: its tag beside a message or a refusal.
+    Tframe in T_VALUES, ffi::read_t;
     /// Reads the request at the front of some bytes; no byte after its declared size is looked
     /// at. Refused where the header can't be read; where the body can't, the tag is told, the
     /// message is the refusal, and nothing counts as used.
@@ -130,31 +242,48 @@ impl<'a> Tframe<'a> {
     /// assert_eq!(read.frame.msg, Ok(Tmessage::Flush(Tflush { oldtag: Tag(2) })));
     /// # Ok::<(), sheafsledge::Refusal>(())
     /// ```
-    #[inline]
-    pub fn decode(bytes: &'a [u8]) -> Result<Decoded<Self>, Refusal> {
-        Self::decode_into(bytes, AsItIs)
-    }
+    decode;
+    /// How long the frame is that [`Tframe::encode`] writes, or its refusal where the output has
+    /// room enough.
+    ///
+    /// ```
+    /// use sheafsledge::{Data, Fid, Tag, Tframe, Tmessage, Twrite};
+    /// let write = Twrite { fid: Fid(1), offset: 0, data: Data(b"leap") };
+    /// let frame = Tframe { tag: Tag(1), msg: Ok(Tmessage::Write(write)) };
+    /// assert_eq!(frame.byte_size(), Ok(27));
+    /// ```
+    byte_size;
 
-    /// Reads as [`Tframe::decode`] does, and answers what is made of that, see [`Make`].
-    #[inline(always)]
-    pub fn decode_into<M: Make<Self>>(bytes: &'a [u8], make: M) -> M::Made {
-        let mut values = [0; T_VALUES];
-        let read = ffi::read_t(bytes, &mut values);
-        let tag = Tag(read.tag);
-        match Refusal::of(read.refusal, read.place) {
-            Some(refusal) if !read.held => make.make(Err(refusal)),
-            Some(refusal) => {
-                let used = 0;
-                Framed { tag, used, make }.on(Err(refusal))
-            }
-            None => {
-                let (values, frame, used) = (values.iter(), bytes, read.place);
-                let framed = Framed { tag, used, make };
-                Tmessage::take(read.ty, &mut Taken { values, frame }, framed)
-            }
-        }
-    }
+    /// A reply.
+    Rframe in R_VALUES, ffi::read_r;
+    /// Reads the reply at the front of some bytes; no byte after its declared size is looked at.
+    decode;
+    /// How long the frame is that [`Rframe::encode`] writes, or its refusal where the output has
+    /// room enough. A server knows by it how much of a read fits into a reply:
+    ///
+    /// ```
+    /// use sheafsledge::{Data, Rframe, Rmessage, Rread, Tag};
+    /// let msize = 8192;
+    /// let empty = Rmessage::Read(Rread { data: Data(b"") });
+    /// let header = Rframe { tag: Tag(0), msg: empty }.byte_size()?;
+    /// assert_eq!(msize - header, 8181);
+    /// # Ok::<(), sheafsledge::Refusal>(())
+    /// ```
+    byte_size;
+    /// Writes the reply to a stream in one call, by way of a buffer that the caller keeps, and
+    /// answers its length. Refused, nothing is written.
+    ///
+    /// ```
+    /// use sheafsledge::{Rframe, Rmessage, Tag};
+    /// let (mut stream, mut buffer) = (Vec::new(), [0; 64]);
+    /// Rframe { tag: Tag(1), msg: Rmessage::Flush }.encode_to(&mut stream, &mut buffer)?;
+    /// assert_eq!(stream, b"\x07\0\0\0\x6d\x01\0");
+    /// # Ok::<(), std::io::Error>(())
+    /// ```
+    encode_to;
+}
 
+impl Tframe<'_> {
     /// Writes the request at the front of the output, and answers its length. Refused, the output
     /// is as it was.
     #[inline]
@@ -174,52 +303,9 @@ impl<'a> Tframe<'a> {
         }
         written_t(self.tag, msg, out).told()
     }
-
-    /// How long the frame is that [`Tframe::encode`] writes, or its refusal where the output has
-    /// room enough.
-    ///
-    /// ```
-    /// use sheafsledge::{Data, Fid, Tag, Tframe, Tmessage, Twrite};
-    /// let write = Twrite { fid: Fid(1), offset: 0, data: Data(b"leap") };
-    /// let frame = Tframe { tag: Tag(1), msg: Ok(Tmessage::Write(write)) };
-    /// assert_eq!(frame.byte_size(), Ok(27));
-    /// ```
-    pub fn byte_size(&self) -> Result<usize, Refusal> {
-        let fields = self.msg.map_or(0, |msg| msg.size());
-        sized(self.encode(&mut []), HEADER + fields)
-    }
-
-    /// Writes the request to a stream in one call, by way of a buffer that the caller keeps, and
-    /// answers its length. Refused, nothing is written.
-    #[cfg(feature = "std")]
-    pub fn encode_to(&self, stream: &mut impl Write, buffer: &mut [u8]) -> io::Result<usize> {
-        send(self.encode(buffer), stream, buffer)
-    }
 }
 
-impl<'a> Rframe<'a> {
-    /// Reads the reply at the front of some bytes; no byte after its declared size is looked at.
-    #[inline]
-    pub fn decode(bytes: &'a [u8]) -> Result<Decoded<Self>, Refusal> {
-        Self::decode_into(bytes, AsItIs)
-    }
-
-    /// Reads as [`Rframe::decode`] does, and answers what is made of that, see [`Make`].
-    #[inline(always)]
-    pub fn decode_into<M: Make<Self>>(bytes: &'a [u8], make: M) -> M::Made {
-        let mut values = [0; R_VALUES];
-        let read = ffi::read_r(bytes, &mut values);
-        let (tag, used) = (Tag(read.tag), read.place);
-        let framed = Framed { tag, used, make };
-        match Refusal::of(read.refusal, read.place) {
-            Some(refusal) => framed.on(Err(refusal)),
-            None => {
-                let (values, frame) = (values.iter(), bytes);
-                Rmessage::take(read.ty, &mut Taken { values, frame }, framed)
-            }
-        }
-    }
-
+impl Rframe<'_> {
     /// Writes the reply at the front of the output, and answers its length. Refused, the output is
     /// as it was.
     #[inline(always)]
@@ -243,36 +329,6 @@ impl<'a> Rframe<'a> {
             _ => {}
         }
         written_r(self.tag, &self.msg, out).told()
-    }
-
-    /// How long the frame is that [`Rframe::encode`] writes, or its refusal where the output has
-    /// room enough. A server knows by it how much of a read fits into a reply:
-    ///
-    /// ```
-    /// use sheafsledge::{Data, Rframe, Rmessage, Rread, Tag};
-    /// let msize = 8192;
-    /// let empty = Rmessage::Read(Rread { data: Data(b"") });
-    /// let header = Rframe { tag: Tag(0), msg: empty }.byte_size()?;
-    /// assert_eq!(msize - header, 8181);
-    /// # Ok::<(), sheafsledge::Refusal>(())
-    /// ```
-    pub fn byte_size(&self) -> Result<usize, Refusal> {
-        sized(self.encode(&mut []), HEADER + self.msg.size())
-    }
-
-    /// Writes the reply to a stream in one call, by way of a buffer that the caller keeps, and
-    /// answers its length. Refused, nothing is written.
-    ///
-    /// ```
-    /// use sheafsledge::{Rframe, Rmessage, Tag};
-    /// let (mut stream, mut buffer) = (Vec::new(), [0; 64]);
-    /// Rframe { tag: Tag(1), msg: Rmessage::Flush }.encode_to(&mut stream, &mut buffer)?;
-    /// assert_eq!(stream, b"\x07\0\0\0\x6d\x01\0");
-    /// # Ok::<(), std::io::Error>(())
-    /// ```
-    #[cfg(feature = "std")]
-    pub fn encode_to(&self, stream: &mut impl Write, buffer: &mut [u8]) -> io::Result<usize> {
-        send(self.encode(buffer), stream, buffer)
     }
 }
 

@@ -1,10 +1,10 @@
 //! 9P2000.L frames for a server in Rust, read and written by a proved library; those of the older
-//! 9P2000 have a module of their own, [`plain`].
+//! 9P2000 and 9P2000.u have modules of their own, [`plain`] and [`unix`].
 //!
 //! The types bear the names of p9 0.3.2's protocol module. What is read borrows from the bytes, and
 //! a refusal has its number. Nothing is allocated, but for a Twalk of the caller's own names that
-//! are longer than 512 bytes together ([`Names::of`]), and a message of 9P2000 with several strings
-//! that are. Where a frame ends is what its size says:
+//! are longer than 512 bytes together ([`Names::of`]), and a message of an older dialect with several
+//! strings that are. Where a frame ends is what its size says:
 //! bytes after the last field are a tail, and never another request; [`stream::Frames`] cuts a
 //! stream into frames by that, in a buffer that it allocates once, and [`stretch()`] bytes that
 //! hold several: [`Listed::fields`] says where each field of theirs stands. The entries of a
@@ -57,6 +57,7 @@ mod ffi;
 mod fields;
 mod frames;
 mod ids;
+mod older;
 pub mod pcap;
 mod places;
 mod plans;
@@ -70,6 +71,7 @@ pub mod stream;
 mod stretch;
 mod tables;
 mod text;
+pub mod unix;
 mod walks;
 
 use sheafsledge_sys as boundary;
@@ -89,8 +91,8 @@ pub use tables::{write_rwalk, write_twalk, WalkHead};
 pub use text::Text;
 pub use walks::{Names, NamesIter, Qids, QidsIter};
 
-/// What is the same in every dialect, for code that takes frames of any: the root's and
-/// [`plain`]'s types of these names are made of them.
+/// What is the same in every dialect, for code that takes frames of any: the root's, [`plain`]'s and
+/// [`unix`]'s types of these names are made of them.
 pub mod any {
     pub use crate::places::Fields;
     pub use crate::stretch::{Body, Held, Listed, Stretch};

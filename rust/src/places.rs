@@ -7,7 +7,7 @@ use core::ops::Range;
 use crate::frames::HEADER;
 use crate::plain::Stat;
 use crate::stretch::{Held, Listed};
-use crate::{Data, Fid, Gid, Names, Qid, Qids, Tag, Text};
+use crate::{unix, Data, Fid, Gid, Names, Qid, Qids, Tag, Text};
 
 /// What a field holds.
 #[derive(Clone, Copy, Debug, PartialEq, Eq)]
@@ -26,15 +26,32 @@ pub enum Value<'a> {
     Qid(Qid),
     /// A stat of 9P2000, which is one field too.
     Stat(Stat<'a>),
+    /// A stat of 9P2000.u.
+    UnixStat(unix::Stat<'a>),
 }
 
-impl Value<'_> {
+impl<'a> Value<'a> {
+    /// Its field of that number, from 0 on, where it is a stat.
+    fn field(&self, number: usize) -> Option<Named<'a>> {
+        match self {
+            Self::Stat(stat) => stat.field(number),
+            Self::UnixStat(stat) => stat.field(number),
+            _ => None,
+        }
+    }
+
+    /// The fields of a stat by their names, in their order; nothing of other values.
+    pub fn parts(self) -> impl Iterator<Item = (&'static str, Value<'a>)> {
+        let fields = (0..).map_while(move |number| self.field(number));
+        fields.map(|Named { name, value, .. }| (name, value))
+    }
+
     /// How many bytes its count is on the wire, where it has one; a stat has a size as well.
     fn count(&self) -> usize {
         match self {
             Self::Number(_) | Self::Qid(_) => 0,
             Self::Text(_) | Self::Names(_) | Self::Qids(_) => 2,
-            Self::Data(_) | Self::Stat(_) => 4,
+            Self::Data(_) | Self::Stat(_) | Self::UnixStat(_) => 4,
         }
     }
 }
@@ -57,6 +74,7 @@ values! {
     Qids: Qids<'a>;
     Qid: Qid;
     Stat: Stat<'a>;
+    UnixStat: unix::Stat<'a>;
 }
 
 macro_rules! ids {
@@ -101,10 +119,7 @@ impl<'a> FieldAt<'a> {
     pub fn parts(&self) -> impl Iterator<Item = FieldAt<'a>> {
         let (value, mut at) = (self.value, self.shown().start);
         (0..).map_while(move |number| {
-            let Value::Stat(stat) = value else {
-                return None;
-            };
-            let Named { name, size, value } = stat.field(number)?;
+            let Named { name, size, value } = value.field(number)?;
             let start = at;
             at += size;
             let range = start..at;
@@ -113,7 +128,7 @@ impl<'a> FieldAt<'a> {
     }
 
     /// Each string that it holds, and where its letters stand: a string itself, the names of a walk, the
-    /// four strings of a stat, each without its count. Nothing of other fields.
+    /// strings of a stat, each without its count. Nothing of other fields.
     pub fn texts(&self) -> impl Iterator<Item = (Range<usize>, Text<'a>)> {
         let (text, names, mut at) = match self.value {
             Value::Text(text) => (Some(text), Names::default(), self.range.start),

@@ -8,6 +8,7 @@ use sheafsledge::*;
 
 const SESSION: &[u8] = include_bytes!("../../examples/diod-session.bin");
 const INSTRUMENT: &[u8] = include_bytes!("../../examples/instrument-session.bin");
+const RECORDER: &[u8] = include_bytes!("../../examples/recorder-session.bin");
 
 fn every_frame(stream: &mut Frames<&[u8]>, out: &mut [u8]) -> Result<usize, Refusal> {
     let mut entries = 0;
@@ -28,18 +29,27 @@ fn every_frame(stream: &mut Frames<&[u8]>, out: &mut [u8]) -> Result<usize, Refu
     Ok(entries)
 }
 
-/// The same of 9P2000, whose strings are put together on the stack.
-fn every_plain_frame(out: &mut [u8]) -> Result<usize, Refusal> {
-    let mut len = 0;
-    for frame in plain::stretch(INSTRUMENT).flatten() {
-        let tag = frame.tag;
-        len += match frame.body {
-            plain::Body::Request(msg) => plain::Tframe { tag, msg }.encode(out)?,
-            plain::Body::Reply(msg) => plain::Rframe { tag, msg: msg? }.encode(out)?,
-        };
-    }
-    Ok(len)
+/// The same of an older dialect, whose strings are put together on the stack.
+macro_rules! every_older_frame {
+    ($name:ident, $dialect:ident, $session:ident) => {
+        fn $name(out: &mut [u8]) -> Result<usize, Refusal> {
+            let mut len = 0;
+            for frame in $dialect::stretch($session).flatten() {
+                let tag = frame.tag;
+                len += match frame.body {
+                    $dialect::Body::Request(msg) => $dialect::Tframe { tag, msg }.encode(out)?,
+                    $dialect::Body::Reply(msg) => {
+                        $dialect::Rframe { tag, msg: msg? }.encode(out)?
+                    }
+                };
+            }
+            Ok(len)
+        }
+    };
 }
+
+every_older_frame!(every_plain_frame, plain, INSTRUMENT);
+every_older_frame!(every_unix_frame, unix, RECORDER);
 
 fn walks(out: &mut [u8]) -> Result<usize, Refusal> {
     let head = WalkHead {
@@ -91,15 +101,18 @@ fn lent(out: &mut [u8], long: &str) -> Result<usize, Refusal> {
 #[test]
 fn nothing_is_allocated() {
     let (mut stream, mut out) = (Frames::new(SESSION, 65_536), vec![0; 140_000]);
-    let (mut entries, mut letters, mut bytes, mut of_plain) = (Ok(0), Ok(0), Ok(0), Ok(0));
+    let (mut entries, mut letters, mut bytes) = (Ok(0), Ok(0), Ok(0));
+    let (mut of_plain, mut of_unix) = (Ok(0), Ok(0));
     let long = "a".repeat(65_535);
     let count = counted(|| {
         entries = every_frame(&mut stream, &mut out);
         letters = walks(&mut out);
         bytes = lent(&mut out, &long);
         of_plain = every_plain_frame(&mut out);
+        of_unix = every_unix_frame(&mut out);
     });
     assert_eq!(of_plain, Ok(483));
+    assert_eq!(of_unix, Ok(530));
     assert_eq!(letters, Ok(20));
     assert_eq!(bytes, Ok(9 + 16 * 13 + 2 * (17 + 16 * 6) + 2 * 131_089));
     assert!(entries.is_ok_and(|entries| entries > 0), "{entries:?}");

@@ -61,7 +61,9 @@ fn crossed(field: &FieldAt) -> Vec<u64> {
         Value::Names(names) => [&[names.len() as u64], &span[..]].concat(),
         Value::Qids(qids) => [&[qids.len() as u64], &span[..]].concat(),
         Value::Qid(qid) => vec![qid.ty.into(), qid.version.into(), qid.path],
-        Value::Stat(_) => field.parts().flat_map(|part| crossed(&part)).collect(),
+        Value::Stat(_) | Value::UnixStat(_) => {
+            field.parts().flat_map(|part| crossed(&part)).collect()
+        }
     }
 }
 

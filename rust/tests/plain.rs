@@ -1,18 +1,15 @@
 //! Frames of 9P2000 by hand, after Plan 9's manual, section 5: each read, written, cut at every byte and
 //! with a tail; an exchange; and stats whose counts are off.
 
+mod older;
 #[path = "../examples/instrument/words.rs"]
 mod words;
 
+use older::*;
 use sheafsledge::plain::*;
 use sheafsledge::{Data, Fid, Mark, Names, Qid, Qids, Refusal, Stop, Tag, Text, Value};
 
 const GLENDA: Text = Text::from_static("g");
-const QID: Qid = Qid {
-    ty: 0x80,
-    version: 1,
-    path: 2,
-};
 const STAT: Stat = Stat {
     ty: 1,
     dev: 2,
@@ -31,31 +28,16 @@ const STAT: Stat = Stat {
     muid: Text::from_static("cd"),
 };
 
-/// A stat's numbers on the wire: those of `STAT`.
-const NUMBERS: &[u8] =
-    b"\x01\0\x02\0\0\0\0\x03\0\0\0\x04\0\0\0\0\0\0\0\xa4\x01\0\0\x05\0\0\0\x06\0\0\0\
-                         \x07\0\0\0\0\0\0\0";
-/// Its strings.
-const STRINGS: &[u8] = b"\x01\0a\x01\0b\0\0\x02\0cd";
-
 /// An Rstat with this count, this size, the numbers and the bytes after them.
 fn rstat(count: u16, size: u16, rest: &[u8]) -> Vec<u8> {
     let stat = [&count.to_le_bytes(), &size.to_le_bytes(), NUMBERS, rest].concat();
     framed(125, 4, &stat)
 }
 
-/// A frame of a type and a tag, whose size is right.
-fn framed(ty: u8, tag: u16, body: &[u8]) -> Vec<u8> {
-    let size = (7 + body.len()) as u32;
-    [&size.to_le_bytes(), &[ty][..], &tag.to_le_bytes(), body].concat()
-}
-
 /// Each request of the dialect, and its bytes.
 fn requests() -> Vec<(u16, Tmessage<'static>, Vec<u8>)> {
-    let (fid, newfid, afid) = (Fid(1), Fid(2), Fid::NONE);
+    let (fid, afid) = (Fid(1), Fid::NONE);
     let (uname, aname) = (GLENDA, Text::default());
-    let version = Text::from_static("9P2000");
-    let wnames = Names::of(&["a", "bc"]).unwrap();
     let name = Text::from_static("n");
     let auth = Tauth {
         afid: Fid(9),
@@ -74,23 +56,7 @@ fn requests() -> Vec<(u16, Tmessage<'static>, Vec<u8>)> {
         perm: 0o644,
         mode: 1,
     };
-    let read = Tread {
-        fid,
-        offset: 256,
-        count: 8192,
-    };
-    let write = Twrite {
-        fid,
-        offset: 3,
-        data: Data(b"leap"),
-    };
-    let msize = 8192;
-    vec![
-        (
-            65535,
-            Tmessage::Version(Tversion { msize, version }),
-            b"\x13\0\0\0\x64\xff\xff\0\x20\0\0\x06\09P2000".to_vec(),
-        ),
+    let own = vec![
         (
             6,
             Tmessage::Auth(auth),
@@ -102,53 +68,9 @@ fn requests() -> Vec<(u16, Tmessage<'static>, Vec<u8>)> {
             b"\x14\0\0\0\x68\x01\0\x01\0\0\0\xff\xff\xff\xff\x01\0g\0\0".to_vec(),
         ),
         (
-            7,
-            Tmessage::Flush(Tflush { oldtag: Tag(6) }),
-            b"\x09\0\0\0\x6c\x07\0\x06\0".to_vec(),
-        ),
-        (
-            3,
-            Tmessage::Walk(Twalk {
-                fid,
-                newfid,
-                wnames,
-            }),
-            b"\x18\0\0\0\x6e\x03\0\x01\0\0\0\x02\0\0\0\x02\0\x01\0a\x02\0bc".to_vec(),
-        ),
-        (
-            2,
-            Tmessage::Open(Topen { fid, mode: 0x11 }),
-            b"\x0c\0\0\0\x70\x02\0\x01\0\0\0\x11".to_vec(),
-        ),
-        (
             3,
             Tmessage::Create(create),
             b"\x13\0\0\0\x72\x03\0\x01\0\0\0\x01\0n\xa4\x01\0\0\x01".to_vec(),
-        ),
-        (
-            8,
-            Tmessage::Read(read),
-            b"\x17\0\0\0\x74\x08\0\x01\0\0\0\0\x01\0\0\0\0\0\0\0\x20\0\0".to_vec(),
-        ),
-        (
-            9,
-            Tmessage::Write(write),
-            b"\x1b\0\0\0\x76\x09\0\x01\0\0\0\x03\0\0\0\0\0\0\0\x04\0\0\0leap".to_vec(),
-        ),
-        (
-            10,
-            Tmessage::Clunk(Tclunk { fid }),
-            b"\x0b\0\0\0\x78\x0a\0\x01\0\0\0".to_vec(),
-        ),
-        (
-            11,
-            Tmessage::Remove(Tremove { fid }),
-            b"\x0b\0\0\0\x7a\x0b\0\x01\0\0\0".to_vec(),
-        ),
-        (
-            4,
-            Tmessage::Stat(Tstat { fid }),
-            b"\x0b\0\0\0\x7c\x04\0\x01\0\0\0".to_vec(),
         ),
         (
             5,
@@ -160,154 +82,29 @@ fn requests() -> Vec<(u16, Tmessage<'static>, Vec<u8>)> {
             ]
             .concat(),
         ),
-    ]
+    ];
+    [shared_requests!(), own].concat()
 }
 
 /// The same of each reply.
 fn replies() -> Vec<(u16, Rmessage<'static>, Vec<u8>)> {
-    let version = Text::from_static("9P2000");
-    let (qid, iounit, msize) = (QID, 24, 8192);
-    let wqids = Qids::from(&[QID][..]);
     let ename = Text::from_static("no");
-    let qid_bytes = b"\x80\x01\0\0\0\x02\0\0\0\0\0\0\0";
-    let opened = [&qid_bytes[..], b"\x18\0\0\0"].concat();
-    vec![
-        (
-            65535,
-            Rmessage::Version(Rversion { msize, version }),
-            b"\x13\0\0\0\x65\xff\xff\0\x20\0\0\x06\09P2000".to_vec(),
-        ),
-        (
-            6,
-            Rmessage::Auth(Rauth { aqid: QID }),
-            framed(103, 6, qid_bytes),
-        ),
-        (
-            1,
-            Rmessage::Attach(Rattach { qid }),
-            framed(105, 1, qid_bytes),
-        ),
+    let own = vec![
         (
             3,
             Rmessage::Error(Rerror { ename }),
             b"\x0b\0\0\0\x6b\x03\0\x02\0no".to_vec(),
         ),
-        (7, Rmessage::Flush, b"\x07\0\0\0\x6d\x07\0".to_vec()),
-        (
-            3,
-            Rmessage::Walk(Rwalk { wqids }),
-            framed(111, 3, &[b"\x01\0", &qid_bytes[..]].concat()),
-        ),
-        (
-            2,
-            Rmessage::Open(Ropen { qid, iounit }),
-            framed(113, 2, &opened),
-        ),
-        (
-            3,
-            Rmessage::Create(Rcreate { qid, iounit }),
-            framed(115, 3, &opened),
-        ),
-        (
-            8,
-            Rmessage::Read(Rread {
-                data: Data(b"leap"),
-            }),
-            b"\x0f\0\0\0\x75\x08\0\x04\0\0\0leap".to_vec(),
-        ),
-        (
-            9,
-            Rmessage::Write(Rwrite { count: 4 }),
-            b"\x0b\0\0\0\x77\x09\0\x04\0\0\0".to_vec(),
-        ),
-        (10, Rmessage::Clunk, b"\x07\0\0\0\x79\x0a\0".to_vec()),
-        (11, Rmessage::Remove, b"\x07\0\0\0\x7b\x0b\0".to_vec()),
         (
             4,
             Rmessage::Stat(Rstat { stat: STAT }),
             [b"\x3e\0\0\0\x7d\x04\0\x35\0\x33\0", NUMBERS, STRINGS].concat(),
         ),
-        (5, Rmessage::Wstat, b"\x07\0\0\0\x7f\x05\0".to_vec()),
-    ]
-}
-
-/// All that a frame is asked in either direction: it is read, refused as short wherever it is cut,
-/// whatever its size says, read beside a tail, written, and refused where a byte of room is missing.
-macro_rules! held_to {
-    ($rows:expr, $read:expr, $write:expr) => {
-        for (tag, msg, bytes) in $rows {
-            let (size, read) = (bytes.len(), $read);
-            assert_eq!(read(&bytes), Ok((Tag(tag), msg, size)), "{msg:?}");
-            assert_eq!(msg.ty(), bytes[4], "{msg:?}");
-            for cut in 0..size {
-                assert_eq!(read(&bytes[..cut]), Err(Refusal::Short), "{msg:?} at {cut}");
-                let mut resized = bytes[..cut].to_vec();
-                if cut >= 7 {
-                    resized[..4].copy_from_slice(&(cut as u32).to_le_bytes());
-                    assert_eq!(read(&resized), Err(Refusal::Short), "{msg:?} of {cut}");
-                }
-            }
-            let mut tailed = [&bytes[..], b"\xee\0\x01"].concat();
-            tailed[..4].copy_from_slice(&(size as u32 + 3).to_le_bytes());
-            assert_eq!(read(&tailed), Ok((Tag(tag), msg, size)), "{msg:?}");
-
-            let mut out = [0xaa; 128];
-            assert_eq!($write(tag, msg, &mut out), Ok(size), "{msg:?}");
-            assert_eq!(out[..size], bytes, "{msg:?}");
-            assert!(out[size..].iter().all(|byte| *byte == 0xaa), "{msg:?}");
-            let mut room = vec![0xaa; size - 1];
-            assert_eq!($write(tag, msg, &mut room), Err(Refusal::NoRoom), "{msg:?}");
-            assert!(room.iter().all(|byte| *byte == 0xaa), "{msg:?}");
-        }
-    };
-}
-
-fn read_t(bytes: &[u8]) -> Result<(Tag, Tmessage<'_>, usize), Refusal> {
-    let read = Tframe::decode(bytes)?;
-    Ok((read.frame.tag, read.frame.msg?, read.used))
-}
-
-fn read_r(bytes: &[u8]) -> Result<(Tag, Rmessage<'_>, usize), Refusal> {
-    let read = Rframe::decode(bytes)?;
-    Ok((read.frame.tag, read.frame.msg, read.used))
-}
-
-#[test]
-fn each_request_is_as_the_manual_has_it() {
-    let types: Vec<u8> = requests().iter().map(|(_, _, bytes)| bytes[4]).collect();
-    let known = [
-        100, 102, 104, 108, 110, 112, 114, 116, 118, 120, 122, 124, 126,
     ];
-    assert_eq!(types, known);
-    held_to!(requests(), read_t, |tag, msg, out: &mut [u8]| {
-        let frame = Tframe {
-            tag: Tag(tag),
-            msg: Ok(msg),
-        };
-        let wrote = frame.encode(out);
-        if wrote.is_ok() {
-            assert_eq!(frame.byte_size(), wrote);
-        }
-        wrote
-    });
+    [shared_replies!(), own].concat()
 }
 
-#[test]
-fn each_reply_is_as_the_manual_has_it() {
-    let types: Vec<u8> = replies().iter().map(|(_, _, bytes)| bytes[4]).collect();
-    let known = [
-        101, 103, 105, 107, 109, 111, 113, 115, 117, 119, 121, 123, 125, 127,
-    ];
-    assert_eq!(types, known);
-    held_to!(replies(), read_r, |tag, msg, out: &mut [u8]| {
-        let frame = Rframe { tag: Tag(tag), msg };
-        let wrote = frame.encode(out);
-        if wrote.is_ok() {
-            assert_eq!(frame.byte_size(), wrote);
-        }
-        wrote
-    });
-}
+each_frame_is_held!();
 
 /// Each type is known in the dialects that have it, and in no other.
 #[test]
@@ -383,67 +180,12 @@ fn shared_records_are_the_same() {
     assert_eq!(out[0][..plain], out[1][..l]);
 }
 
-/// An exchange as a client and a server have it: what each frame is, and which request it answers.
-#[test]
-fn an_exchange_is_written_read_listed_and_paired() {
-    let (mut stream, mut buffer) = (Vec::new(), [0; 128]);
-    let (mut bytes, mut marks) = (Vec::new(), Vec::new());
-    // version, attach, walk, open, read, stat, wstat, create, clunk; and an open that fails.
-    for ty in [100, 104, 110, 112, 116, 124, 126, 114, 120] {
-        let mut asked = requests().into_iter();
-        let (tag, msg, by_hand) = asked.find(|row| row.2[4] == ty).unwrap();
-        bytes.extend(by_hand);
-        let (tag, msg) = (Tag(tag), Ok(msg));
-        let request = Tframe { tag, msg };
-        request.encode_to(&mut stream, &mut buffer).unwrap();
-
-        let mut told = replies().into_iter();
-        let (_, msg, mut by_hand) = told.find(|row| row.2[4] == ty + 1).unwrap();
-        by_hand[5..7].copy_from_slice(&tag.0.to_le_bytes());
-        bytes.extend(by_hand);
-        let reply = Rframe { tag, msg };
-        reply.encode_to(&mut stream, &mut buffer).unwrap();
-        marks.extend([(ty, tag.0), (ty + 1, tag.0)]);
-    }
-    bytes.extend(b"\x0c\0\0\0\x70\x0c\0\x01\0\0\0\0\x17\0\0\0\x6b\x0c\0\x0e\0file not found");
-    let open = Topen {
-        fid: Fid(1),
-        mode: 0,
-    };
-    let ename = Text::from_static("file not found");
-    let (tag, msg) = (Tag(12), Ok(Tmessage::Open(open)));
-    Tframe { tag, msg }
-        .encode_to(&mut stream, &mut buffer)
-        .unwrap();
-    let msg = Rmessage::Error(Rerror { ename });
-    Rframe { tag, msg }
-        .encode_to(&mut stream, &mut buffer)
-        .unwrap();
-    marks.extend([(112, 12), (107, 12)]);
-    assert_eq!(stream, bytes);
-
-    let listed: Vec<Listed> = stretch(&stream).collect::<Result<_, Stop>>().unwrap();
-    let seen: Vec<_> = listed.iter().map(|frame| (frame.ty, frame.tag.0)).collect();
-    assert_eq!(seen, marks);
-    assert!(listed
-        .iter()
-        .all(|frame| frame.tail == 0 && frame.body.refusal().is_none()));
-    for (i, request) in listed.iter().enumerate().step_by(2) {
-        for (j, reply) in listed.iter().enumerate() {
-            let paired = answers(request.mark(), reply.mark());
-            let of_one_tag = request.tag == reply.tag;
-            let owed = of_one_tag && (reply.ty == request.ty + 1 || reply.ty == 107);
-            assert_eq!(paired, owed, "{i} {j}");
-            assert!(j != i + 1 || paired, "{i}");
-        }
-    }
-    let error = listed.last().unwrap();
-    assert_eq!(error.body, Body::Reply(Ok(msg)));
-    assert!(stretch(&stream[..stream.len() - 1])
-        .last()
-        .unwrap()
-        .is_err());
-}
+an_exchange_is_held!(
+    Rerror {
+        ename: Text::from_static("file not found")
+    },
+    b"\x17\0\0\0\x6b\x0c\0\x0e\0file not found"
+);
 
 /// 107 is an error's type here, and 7 in 9P2000.L alone; a request of another dialect has no answer.
 #[test]

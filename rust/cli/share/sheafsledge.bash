@@ -25,7 +25,7 @@ _sheafsledge() {
     [ "$word" != = ] || word=''
     case $before in
     --dialect)
-        mapfile -t COMPREPLY < <(compgen -W '9P2000.L 9P2000' -- "$word")
+        mapfile -t COMPREPLY < <(compgen -W '9P2000.L 9P2000 9P2000.u' -- "$word")
         return
         ;;
     -o | --output | --times) offers='' ;;

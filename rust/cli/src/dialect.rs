@@ -11,7 +11,7 @@ pub const DIALECT: Opt = Opt {
     long: "dialect",
     short: None,
     value: Some("NAME"),
-    says: "the dialect of the frames: 9P2000.L, as without it, or\n9P2000",
+    says: "the dialect of the frames: 9P2000.L, as without it,\n9P2000 or 9P2000.u",
 };
 
 pub trait Dialect: 'static {
@@ -89,6 +89,8 @@ dialects! {
     L: sheafsledge;
     /// 9P2000.
     Plain: sheafsledge::plain;
+    /// 9P2000.u.
+    Unix: sheafsledge::unix;
 }
 
 /// A message, and how many bytes it uses.
@@ -97,16 +99,17 @@ fn parted<M>(read: Result<(M, usize), Refusal>) -> (Result<M, Refusal>, Option<u
     (read.map(|(msg, _)| msg), used)
 }
 
-/// What there is for the dialect that is named, of 9P2000.L and 9P2000; without one the former.
-pub fn of<T>(words: &Words, [l, plain]: [T; 2]) -> Result<T, Failure> {
+/// What there is for the dialect that is named, of 9P2000.L, 9P2000 and 9P2000.u; without one the first.
+pub fn of<T>(words: &Words, [l, plain, unix]: [T; 3]) -> Result<T, Failure> {
     match words.value(DIALECT.long) {
         None => Ok(l),
         Some(name) if name == "9P2000.L" => Ok(l),
         Some(name) if name == "9P2000" => Ok(plain),
+        Some(name) if name == "9P2000.u" => Ok(unix),
         Some(name) => {
             let name = shown(name);
             Err(words.wrong(format!(
-                "unknown dialect '{name}': it is 9P2000.L or 9P2000"
+                "unknown dialect '{name}': it is 9P2000.L, 9P2000 or 9P2000.u"
             )))
         }
     }

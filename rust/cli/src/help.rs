@@ -46,7 +46,7 @@ pub fn version() -> String {
 pub fn of_all(commands: &[Command]) -> String {
     let mut text = String::from(
         "Usage: sheafsledge COMMAND [WORD]..\n\n\
-         9P2000.L frames and those of 9P2000, looked at by a proved library.\n\nCommands:\n",
+         9P2000.L frames and those of 9P2000 and 9P2000.u, looked at by a proved library.\n\nCommands:\n",
     );
     for command in commands {
         text += &row(command.name, command.says);

@@ -2,7 +2,6 @@
 
 use std::ffi::OsStr;
 
-use sheafsledge::plain::Stat;
 use sheafsledge::{Qid, Value};
 
 use crate::dialect::Dialect;
@@ -61,39 +60,33 @@ fn holds(part: &Part, text: &mut Vec<u8>) {
             return;
         }
         Holds::Value(Value::Data(data)) => return number(text, ",\"bytes\":", data.len() as u64),
-        Holds::Value(Value::Number(number)) => number.to_string(),
-        Holds::Value(Value::Text(held)) => quoted(&held),
-        Holds::Value(Value::Names(names)) => array(names.iter().map(|name| quoted(&name))),
-        Holds::Value(Value::Qids(qids)) => array(qids.iter().map(object)),
-        Holds::Value(Value::Qid(qid)) => object(qid),
-        Holds::Value(Value::Stat(stat)) => stat_object(&stat),
+        Holds::Value(value) => said(value),
     };
     text.extend_from_slice(b",\"value\":");
     text.extend_from_slice(held.as_bytes());
 }
 
-fn array(elements: impl Iterator<Item = String>) -> String {
-    format!("[{}]", elements.collect::<Vec<_>>().join(","))
+fn said(value: Value) -> String {
+    match value {
+        Value::Number(number) => number.to_string(),
+        Value::Text(held) => quoted(&held),
+        Value::Names(names) => array(names.iter().map(|name| quoted(&name))),
+        Value::Qids(qids) => array(qids.iter().map(object)),
+        Value::Qid(qid) => object(qid),
+        Value::Data(data) => data.len().to_string(),
+        Value::Stat(_) | Value::UnixStat(_) => {
+            let part = |(name, value)| format!("\"{name}\":{}", said(value));
+            format!("{{{}}}", joined(value.parts().map(part)))
+        }
+    }
 }
 
-fn stat_object(stat: &Stat) -> String {
-    let Stat {
-        ty, dev, qid, mode, ..
-    } = *stat;
-    let Stat {
-        atime,
-        mtime,
-        length,
-        ..
-    } = *stat;
-    let texts = [stat.name, stat.uid, stat.gid, stat.muid];
-    let [name, uid, gid, muid] = texts.map(|text| quoted(&text));
-    let qid = object(qid);
-    format!(
-        "{{\"ty\":{ty},\"dev\":{dev},\"qid\":{qid},\"mode\":{mode},\"atime\":{atime},\
-         \"mtime\":{mtime},\"length\":{length},\"name\":{name},\"uid\":{uid},\"gid\":{gid},\
-         \"muid\":{muid}}}"
-    )
+fn array(elements: impl Iterator<Item = String>) -> String {
+    format!("[{}]", joined(elements))
+}
+
+fn joined(elements: impl Iterator<Item = String>) -> String {
+    elements.collect::<Vec<_>>().join(",")
 }
 
 fn object(Qid { ty, version, path }: Qid) -> String {

@@ -3,7 +3,6 @@
 use std::fmt::Display;
 use std::io::Write;
 
-use sheafsledge::plain::Stat;
 use sheafsledge::{Qid, Value};
 
 use crate::dialect::Dialect;
@@ -93,29 +92,20 @@ fn holds(part: &Part, text: &mut Vec<u8>) {
                 format_args!("{} {}", refusal.number(), refusal.sentence()),
             );
         }
-        Holds::Value(value) => match value {
-            Value::Number(n) => number(text, n),
-            Value::Text(held) => word(text, quoted(&held)),
-            Value::Data(data) => word(text, numbered(data.len() as u64, "byte")),
-            Value::Names(names) => names.iter().for_each(|name| word(text, quoted(&name))),
-            Value::Qids(qids) => qids.iter().for_each(|qid| dotted(text, qid)),
-            Value::Qid(qid) => dotted(text, qid),
-            Value::Stat(held) => stat(text, &held),
-        },
+        Holds::Value(value) => said(text, value),
     }
 }
 
-/// Its fields in their order.
-fn stat(text: &mut Vec<u8>, stat: &Stat) {
-    number(text, stat.ty);
-    number(text, stat.dev);
-    dotted(text, stat.qid);
-    for n in [stat.mode, stat.atime, stat.mtime] {
-        number(text, n);
-    }
-    number(text, stat.length);
-    for held in [stat.name, stat.uid, stat.gid, stat.muid] {
-        word(text, quoted(&held));
+fn said(text: &mut Vec<u8>, value: Value) {
+    match value {
+        Value::Number(n) => number(text, n),
+        Value::Text(held) => word(text, quoted(&held)),
+        Value::Data(data) => word(text, numbered(data.len() as u64, "byte")),
+        Value::Names(names) => names.iter().for_each(|name| word(text, quoted(&name))),
+        Value::Qids(qids) => qids.iter().for_each(|qid| dotted(text, qid)),
+        Value::Qid(qid) => dotted(text, qid),
+        // Its fields in their order.
+        Value::Stat(_) | Value::UnixStat(_) => value.parts().for_each(|(_, part)| said(text, part)),
     }
 }
 

@@ -5,7 +5,7 @@ mod lines;
 mod parts;
 
 use crate::command::Command;
-use crate::dialect::{self, Dialect, Plain, DIALECT, L};
+use crate::dialect::{self, Dialect, Plain, Unix, DIALECT, L};
 use crate::help;
 use crate::list::{self, OUTPUT};
 use crate::status::{Failure, Status};
@@ -50,7 +50,7 @@ list'.
 };
 
 fn run(words: &Words) -> Result<Status, Failure> {
-    dialect::of(words, [run_in::<L>, run_in::<Plain>])?(words)
+    dialect::of(words, [run_in::<L>, run_in::<Plain>, run_in::<Unix>])?(words)
 }
 
 fn run_in<D: Dialect>(words: &Words) -> Result<Status, Failure> {

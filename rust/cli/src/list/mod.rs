@@ -10,7 +10,7 @@ use std::io::{self, Write};
 use std::mem::replace;
 
 use crate::command::Command;
-use crate::dialect::{self, Dialect, Plain, DIALECT, L};
+use crate::dialect::{self, Dialect, Plain, Unix, DIALECT, L};
 use crate::help;
 use crate::input::{is_standard, named, Input};
 use crate::output::Output;
@@ -69,7 +69,7 @@ that no frame has (13). A summary goes to standard error.
 };
 
 fn run(words: &Words) -> Result<Status, Failure> {
-    dialect::of(words, [run_in::<L>, run_in::<Plain>])?(words)
+    dialect::of(words, [run_in::<L>, run_in::<Plain>, run_in::<Unix>])?(words)
 }
 
 fn run_in<D: Dialect>(words: &Words) -> Result<Status, Failure> {

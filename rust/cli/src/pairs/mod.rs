@@ -3,7 +3,7 @@
 mod paired;
 
 use crate::command::Command;
-use crate::dialect::{self, Dialect, Plain, DIALECT, L};
+use crate::dialect::{self, Dialect, Plain, Unix, DIALECT, L};
 use crate::help;
 use crate::list;
 use crate::status::{Failure, Status};
@@ -23,7 +23,8 @@ yet; 'stray' if there is none. For a request it is the position of its answer,
 or 'open' if there is none.
 
 A reply can answer a known request of the same tag if its type is the next
-number, or 7, an Rlerror; in 9P2000 107, an Rerror. Bodies are not looked at.
+number, or 7, an Rlerror; in 9P2000 and 9P2000.u 107, an Rerror. Bodies are not
+looked at.
 ",
     options: &[DIALECT, list::OUTPUT, help::HELP],
     examples: &["pairs examples/diod-session.bin"],
@@ -34,7 +35,7 @@ an open request",
 };
 
 fn run(words: &Words) -> Result<Status, Failure> {
-    dialect::of(words, [run_in::<L>, run_in::<Plain>])?(words)
+    dialect::of(words, [run_in::<L>, run_in::<Plain>, run_in::<Unix>])?(words)
 }
 
 fn run_in<D: Dialect>(words: &Words) -> Result<Status, Failure> {

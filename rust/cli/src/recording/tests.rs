@@ -5,9 +5,10 @@ use std::io::{self, ErrorKind, Read};
 use sheafsledge::{stretch, Refusal};
 
 use super::*;
-use crate::dialect::{Plain, L};
+use crate::dialect::{Plain, Unix, L};
 
 const INSTRUMENT: &[u8] = include_bytes!("../../../../examples/instrument-session.bin");
+const RECORDER: &[u8] = include_bytes!("../../../../examples/recorder-session.bin");
 
 const SESSION: &[u8] = include_bytes!("../../../../examples/diod-session.bin");
 
@@ -190,9 +191,12 @@ fn drawn(frames: &[Vec<u8>], draws: &mut Draws) -> Vec<u8> {
 
 #[test]
 fn a_session_of_9p2000_cut_anywhere_is_listed_as_one_stretch() {
-    for cut in 0..=INSTRUMENT.len() {
-        for (piece, step) in [(7, 5), (19, 3), (64, 50), (1000, 1000)] {
+    for (piece, step) in [(7, 5), (19, 3), (64, 50), (1000, 1000)] {
+        for cut in 0..=INSTRUMENT.len() {
             is_as_one_stretch::<Plain>(&INSTRUMENT[..cut], piece, step);
+        }
+        for cut in 0..=RECORDER.len() {
+            is_as_one_stretch::<Unix>(&RECORDER[..cut], piece, step);
         }
     }
     // The Rstat's name breaks, in pieces that are shorter than the frame.

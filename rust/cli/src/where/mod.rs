@@ -4,7 +4,7 @@ mod json;
 mod lines;
 
 use crate::command::Command;
-use crate::dialect::{self, Dialect, Plain, DIALECT, L};
+use crate::dialect::{self, Dialect, Plain, Unix, DIALECT, L};
 use crate::help;
 use crate::list::{self, JSON, OUTPUT};
 use crate::status::{Failure, Status};
@@ -43,7 +43,7 @@ but the summary on standard error counts all.
 };
 
 fn run(words: &Words) -> Result<Status, Failure> {
-    dialect::of(words, [run_in::<L>, run_in::<Plain>])?(words)
+    dialect::of(words, [run_in::<L>, run_in::<Plain>, run_in::<Unix>])?(words)
 }
 
 fn run_in<D: Dialect>(words: &Words) -> Result<Status, Failure> {

@@ -3,6 +3,8 @@
 use crate::running::*;
 
 const INSTRUMENT: &[u8] = include_bytes!("../../../../examples/instrument-session.bin");
+/// The same exchange in 9P2000.u.
+const RECORDER: &[u8] = include_bytes!("../../../../examples/recorder-session.bin");
 
 /// What `list` has to print of it.
 const LISTING: &str = "\
@@ -59,6 +61,92 @@ fn a_recording_of_9p2000_is_listed() {
     assert!(json.out.contains(object), "{}", json.out);
 }
 
+#[test]
+fn a_recording_of_9p2000_u_is_listed() {
+    let ran = run_on(&["list", "--dialect", "9P2000.u", "-"], RECORDER);
+    let told = "\
+at size type tag answer tail
+0 21 100 65535 0 0
+21 21 101 65535 0 0
+42 30 104 1 0 0
+72 20 105 1 0 0
+92 38 110 2 0 0
+130 35 111 2 0 0
+165 12 112 3 0 0
+177 24 113 3 0 0
+201 23 116 4 0 0
+224 23 117 4 0 0
+247 11 124 5 0 0
+258 87 125 5 0 0
+345 85 126 6 0 0
+430 30 107 6 0 0
+460 28 114 7 0 0
+488 24 115 7 0 0
+512 11 120 8 0 0
+523 7 121 8 0 0
+end 530 18
+";
+    let summary = "18 frames, 530 bytes, 0 tails, 0 refusals, 0 stops\n";
+    assert_eq!(
+        (ran.status, &ran.out[..], &ran.err[..]),
+        (Some(0), told, summary)
+    );
+
+    // In 9P2000 what .u has more is tail, and its stats are malformed.
+    let ran = run_on(&["list", "--dialect", "9P2000", "-"], RECORDER);
+    for line in [
+        "42 30 104 1 0 4",
+        "258 87 125 5 18 -",
+        "345 85 126 6 18 -",
+        "430 30 107 6 0 4",
+        "460 28 114 7 0 7",
+    ] {
+        assert!(
+            ran.out.lines().any(|told| told == line),
+            "{line}: {}",
+            ran.out
+        );
+    }
+    // And 9P2000's are short here.
+    let ran = run_on(&["list", "--dialect", "9P2000.u", "-"], INSTRUMENT);
+    for line in [
+        "38 26 104 1 1 -",
+        "250 73 125 5 18 -",
+        "323 71 126 6 18 -",
+        "394 26 107 6 1 -",
+        "420 21 114 7 1 -",
+    ] {
+        assert!(
+            ran.out.lines().any(|told| told == line),
+            "{line}: {}",
+            ran.out
+        );
+    }
+
+    let ran = run_on(&["pairs", "--dialect", "9P2000.u", "-"], RECORDER);
+    assert_eq!(ran.status, Some(0), "{}", ran.err);
+    for line in ["345 85 126 6 0 0 430", "430 30 107 6 0 0 345"] {
+        assert!(
+            ran.out.lines().any(|told| told == line),
+            "{line}: {}",
+            ran.out
+        );
+    }
+    let ran = run_on(&["fields", "--dialect", "9P2000.u", "-"], RECORDER);
+    for line in [
+        "42 104 n_uname 68 4 1000",
+        "258 125 stat 265 80 0 0 0.7.3 292 1000000000 1000000001 12 \"count\" \"station\" \"sci\" \"\" \"\" 1000 100 4294967295",
+        "430 107 errno 456 4 13",
+        "460 114 extension 481 7 \"count\"",
+    ] {
+        assert!(ran.out.lines().any(|told| told == line), "{line}: {}", ran.out);
+    }
+    let json = run_on(&["fields", "--json", "--dialect=9P2000.u", "-"], RECORDER);
+    let end = "\"gid\":\"sci\",\"muid\":\"\",\"extension\":\"\",\"n_uid\":1000,\"n_gid\":100,\
+               \"n_muid\":4294967295},\"name\":\"Rstat\"}\n";
+    assert!(json.out.contains(end), "{}", json.out);
+}
+
 /// Without the option frames are 9P2000.L's, and that may be said too.
 #[test]
 fn other_frames_are_those_of_9p2000_l() {
@@ -90,11 +178,11 @@ fn other_frames_are_those_of_9p2000_l() {
 #[test]
 fn another_word_is_no_dialect() {
     for command in ["list", "pairs", "where", "fields"] {
-        for word in ["9P2000.u", "9p2000", "", "9P2000.L "] {
+        for word in ["9P2000.U", "9p2000", "", "9P2000.L "] {
             let ran = run_on(&[command, "--dialect", word, "-"], INSTRUMENT);
             assert_eq!((ran.status, &ran.out[..]), (Some(2), ""));
             assert_eq!(ran.err.lines().count(), 1, "{}", ran.err);
-            let names = "it is 9P2000.L or 9P2000;";
+            let names = "it is 9P2000.L, 9P2000 or 9P2000.u;";
             assert!(
                 ran.err.contains(names) && ran.err.contains(word),
                 "{}",

@@ -122,15 +122,15 @@ fn dialects_are_completed() {
     for (typed, told) in [
         (
             &["sheafsledge", "list", "--dialect", ""][..],
-            "9P2000.L 9P2000",
+            "9P2000.L 9P2000 9P2000.u",
         ),
         (
             &["sheafsledge", "fields", "--dialect", "="],
-            "9P2000.L 9P2000",
+            "9P2000.L 9P2000 9P2000.u",
         ),
         (
             &["sheafsledge", "pairs", "--dialect", "=", "9P2000."],
-            "9P2000.L",
+            "9P2000.L 9P2000.u",
         ),
         (&["sheafsledge", "where", "--dialect", "9P2001"], ""),
     ] {
