@@ -22,7 +22,10 @@ pub fn write(table: &Table, files: &mut Files) {
             format!("crates/{krate}/specs/Views.antt"),
             views(table, direction, &cases),
         );
-        files.put(format!("crates/{krate}/specs/Made.antt"), made(table, &cases));
+        files.put(
+            format!("crates/{krate}/specs/Made.antt"),
+            made(table, &cases),
+        );
         files.put(
             format!("crates/{krate}/specs/Built.antt"),
             built(direction, krate, &rows, &cases),
@@ -40,6 +43,11 @@ pub fn write(table: &Table, files: &mut Files) {
             type_proof(krate, &cases),
         );
     }
+    write_known(table, files);
+}
+
+/// What stretches and pairs have to know of the types.
+fn write_known(table: &Table, files: &mut Files) {
     let stretch = table.dialect.named("stretch");
     files.put(format!("crates/{stretch}/specs/Known.antt"), known(table));
     files.put(
@@ -332,7 +340,10 @@ use Rattle.fields.specs.Values.{Value, val, numOf, startOf, lenOf, countOf}
     let records: Vec<_> = cases.iter().filter(|m| !m.is_empty()).collect();
     text += &values_uses(table, cases);
     for (kind, made) in [(Kind::Stat, "madeStat"), (Kind::UnixStat, "madeUnix")] {
-        if records.iter().any(|m| m.fields.iter().any(|f| f.kind == kind)) {
+        if records
+            .iter()
+            .any(|m| m.fields.iter().any(|f| f.kind == kind))
+        {
             text += &format!("use Rattle.fields.specs.Values.{{slotsOf}}\nuse Rattle.stats.specs.Stats.{{{made}}}\n");
         }
     }

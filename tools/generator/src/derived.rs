@@ -23,7 +23,10 @@ pub fn write(root: &Path, table: &Table, files: &mut Files) -> Result<(), String
         let text = fs::read_to_string(root.join("crates").join(from))
             .map_err(|why| format!("crates/{from}: {why}"))?;
         files.derive(
-            format!("crates/{}", table.dialect.named(&to.replace('@', table.dialect.prefix))),
+            format!(
+                "crates/{}",
+                table.dialect.named(&to.replace('@', table.dialect.prefix))
+            ),
             &format!("crates/{from}"),
             said(&table.dialect, &text),
         );
@@ -83,10 +86,7 @@ fn tables(dialect: &Dialect, line: &str) -> String {
     let mut text = String::new();
     for (module, names) in [(L.tables, shared), (dialect.tables, own)] {
         if !names.is_empty() {
-            text += &format!(
-                "{before}use Rattle.{module}.{{{}}}{end}",
-                names.join(", ")
-            );
+            text += &format!("{before}use Rattle.{module}.{{{}}}{end}", names.join(", "));
         }
     }
     text

@@ -4,10 +4,11 @@ use crate::names::{closed, closed_short, numbered, uses, Occurrences, NOTHING};
 use crate::records::{layouts, type_uses};
 use crate::table::{Dialect, Direction, Field, Kind, Message, Table};
 use crate::Files;
+use std::collections::BTreeSet;
 
 pub fn write(table: &Table, files: &mut Files) {
-    let flat = table.dialect.named("flat");
-    for family in table.families(|m| !m.is_empty() && table.dialect.flat_of(m) == flat) {
+    let flat = &table.dialect.named("flat");
+    for family in table.families(|m| !m.is_empty() && table.dialect.flat_of(m) == *flat) {
         files.put(
             format!("crates/{flat}/src/{family}.rt"),
             family_source(table, &family),
@@ -15,48 +16,49 @@ pub fn write(table: &Table, files: &mut Files) {
     }
     for m in &table.messages {
         if let Some(at) = lengthened(m) {
-            let place = format!("crates/{flat}/proofs/{}", m.family);
-            let small = m.small();
-            files.put(format!("{place}/flat_{small}/Proof.antt"), longer_flat_proof(&flat, m, at));
-            files.put(format!("{place}/{small}_of/Proof.antt"), longer_of_proof(&flat, m, at));
+            let (place, small) = (format!("crates/{flat}/proofs/{}", m.family), m.small());
+            let proof = format!("{place}/flat_{small}/Proof.antt");
+            files.put(proof, longer_flat_proof(flat, m, at));
+            let proof = format!("{place}/{small}_of/Proof.antt");
+            files.put(proof, longer_of_proof(flat, m, at));
         }
     }
     for direction in [Direction::T, Direction::R] {
-        let krate = &table.dialect.named(&format!("flat_{}", direction.enums()));
-        let mut rows = table.by_number(direction);
-        rows.retain(|m| !table.dialect.is_below(m));
-        files.put(
-            format!("crates/{krate}/src/lib.rt"),
-            bodies(table, direction, &rows),
-        );
-        for family in table.families(|_| true) {
-            let held = held(table, direction, &family);
-            if held.is_empty() {
-                continue;
-            }
-            files.put(
-                format!("crates/{krate}/src/{family}.rt"),
-                readers(table, direction, &family, &held),
-            );
-            for m in held {
-                files.put(
-                    format!(
-                        "crates/{krate}/proofs/{family}/read_{}/Proof.antt",
-                        m.small()
-                    ),
-                    reader_proof(krate, m),
-                );
-            }
+        write_bodies(table, direction, files);
+    }
+}
+
+/// The crate of a direction's bodies.
+fn write_bodies(table: &Table, direction: Direction, files: &mut Files) {
+    let krate = &table.dialect.named(&format!("flat_{}", direction.enums()));
+    let mut rows = table.by_number(direction);
+    rows.retain(|m| !table.dialect.is_below(m));
+    files.put(
+        format!("crates/{krate}/src/lib.rt"),
+        bodies(table, direction, &rows),
+    );
+    for family in table.families(|_| true) {
+        let held = held(table, direction, &family);
+        if held.is_empty() {
+            continue;
         }
         files.put(
-            format!("crates/{krate}/proofs/read_flat/Proof.antt"),
-            read_proof(table, direction, krate, &rows),
+            format!("crates/{krate}/src/{family}.rt"),
+            readers(table, direction, &family, &held),
         );
-        files.put(
-            format!("crates/{krate}/proofs/write_flat/Proof.antt"),
-            write_proof(table, direction, krate, &rows),
-        );
+        for m in held {
+            let place = format!("crates/{krate}/proofs/{family}/read_{}", m.small());
+            files.put(format!("{place}/Proof.antt"), reader_proof(krate, m));
+        }
     }
+    files.put(
+        format!("crates/{krate}/proofs/read_flat/Proof.antt"),
+        read_proof(table, direction, krate, &rows),
+    );
+    files.put(
+        format!("crates/{krate}/proofs/write_flat/Proof.antt"),
+        write_proof(table, direction, krate, &rows),
+    );
 }
 
 /// The constants of the crate that a family's file names.
@@ -88,6 +90,26 @@ fn constants(
     text
 }
 
+/// The `use` lines of a family's types and records.
+fn family_uses(rows: &[&Message]) -> BTreeSet<String> {
+    let mut lines = type_uses(rows);
+    let has = |is: fn(Kind) -> bool| rows.iter().any(|m| m.fields.iter().any(|f| is(f.kind)));
+    // A part holds a span, and so does a stat.
+    if has(|kind| matches!(kind, Kind::Names | Kind::Qids) || kind.is_stat()) {
+        lines.insert("use strings::Span;".to_string());
+    }
+    if has(|kind| kind == Kind::Stat) {
+        lines.insert("use layouts::qids::Qid;".to_string());
+    }
+    // What is before the longer stat is taken by 9P2000's own functions.
+    if has(|kind| kind == Kind::UnixStat) {
+        lines.retain(|line| !line.contains("::ids::"));
+    }
+    let records = rows.iter();
+    lines.extend(records.map(|m| format!("use {}::{};", m.module(), m.record())));
+    lines
+}
+
 fn family_source(table: &Table, family: &str) -> String {
     let rows: Vec<&Message> = table
         .messages
@@ -103,23 +125,7 @@ fn family_source(table: &Table, family: &str) -> String {
         .into_iter()
         .filter(|d| rows.iter().any(|m| m.direction == *d));
     text += &constants(&table.dialect, &rows, directions);
-    let mut lines = type_uses(&rows);
-    // A part holds a span.
-    let has = |is: fn(Kind) -> bool| rows.iter().any(|m| m.fields.iter().any(|f| is(f.kind)));
-    if has(|kind| matches!(kind, Kind::Names | Kind::Qids) || kind.is_stat()) {
-        lines.insert("use strings::Span;".to_string());
-    }
-    if has(|kind| kind == Kind::Stat) {
-        lines.insert("use layouts::qids::Qid;".to_string());
-    }
-    // What is before the longer stat is taken by 9P2000's own functions.
-    if has(|kind| kind == Kind::UnixStat) {
-        lines.retain(|line| !line.contains("::ids::"));
-    }
-    lines.extend(
-        rows.iter()
-            .map(|m| format!("use {}::{};", m.module(), m.record())),
-    );
+    let lines = family_uses(&rows);
     for line in lines {
         text += &format!("{line}\n");
     }
@@ -143,7 +149,11 @@ fn family_source(table: &Table, family: &str) -> String {
         _ => "ghost use Rattle.flat.specs.Flat.{flatValues, stored, fieldValues};\n",
     };
     for row in rows {
-        text += &format!("\n{}\n{}", flattened(row), put_together(row));
+        let back = match lengthened(row) {
+            Some(at) => put_longer(row, at),
+            None => put_together(row),
+        };
+        text += &format!("\n{}\n{back}", flattened(row));
     }
     text
 }
@@ -279,8 +289,11 @@ fn shortened(m: &Message) -> String {
 
 /// The record of 9P2000.u made of that one, and of the values after its.
 fn put_longer(m: &Message, at: usize) -> String {
-    let (record, small) = (m.record(), m.small());
-    let mut text = format!("    let shorter = plain_flat::{}::{small}_of(v);\n", m.family);
+    let (record, small, mut text) = (m.record(), m.small(), head_of(m));
+    text += &format!(
+        "    let shorter = plain_flat::{}::{small}_of(v);\n",
+        m.family
+    );
     for f in &m.fields {
         text += &match f.kind {
             Kind::UnixStat => format!("    let plain = shorter.{};\n", f.name),
@@ -292,7 +305,9 @@ fn put_longer(m: &Message, at: usize) -> String {
         at + 1
     );
     let ids = IDS.iter().zip(at + 2..);
-    let ids: String = ids.map(|(id, i)| format!(", {id}: {}", narrowed(i, 4))).collect();
+    let ids: String = ids
+        .map(|(id, i)| format!(", {id}: {}", narrowed(i, 4)))
+        .collect();
     text += &format!("    let stat = UnixStat {{ plain, extension{ids} }};\n");
     let fields: Vec<&str> = m.fields.iter().map(|f| f.name.as_str()).collect();
     text + &format!("    {record} {{ {} }}\n}}\n", fields.join(", "))
@@ -306,12 +321,14 @@ fn narrowed(i: usize, width: u8) -> String {
     }
 }
 
-fn put_together(m: &Message) -> String {
+/// The head of the function that puts a record together.
+fn head_of(m: &Message) -> String {
     let (record, small, layout, width) = (m.record(), m.small(), m.layout(), m.direction.width());
-    let mut text = format!("pub fn {small}_of(v: [u64; {width}]) -> {record}\n    ensures {{ λ r. ⌜ {small} r ≡ fieldValues {layout} v ⌝ }}\n{{\n");
-    if let Some(at) = lengthened(m) {
-        return text + &put_longer(m, at);
-    }
+    format!("pub fn {small}_of(v: [u64; {width}]) -> {record}\n    ensures {{ λ r. ⌜ {small} r ≡ fieldValues {layout} v ⌝ }}\n{{\n")
+}
+
+fn put_together(m: &Message) -> String {
+    let (record, mut text) = (m.record(), head_of(m));
     let mut i = 0;
     let mut fields = vec![];
     for f in &m.fields {
@@ -566,7 +583,10 @@ pub fn read_flat(s: &[u8], ty: u8, p: Place, values: &mut [u64; {width}]) -> Pla
 fn rest(table: &Table, direction: Direction, call: &str) -> String {
     match table.dialect.over {
         None => "Place::Refused(Refusal::UnknownType, 0)".to_string(),
-        Some(d) => format!("{}::{call}", d.named(&format!("flat_{}", direction.enums()))),
+        Some(d) => format!(
+            "{}::{call}",
+            d.named(&format!("flat_{}", direction.enums()))
+        ),
     }
 }
 
@@ -611,102 +631,131 @@ fn read_arm(m: &Message) -> String {
     }
 }
 
+/// A need, and what answers it.
+fn answered(need: &str, term: &str) -> String {
+    format!("\n{need} : tie.Need-{need}\n{need} c = {term}\n")
+}
+
+/// What is left for the last arm of a match, in words.
+fn rest_in_words(dialect: &Dialect) -> &'static str {
+    match dialect.over {
+        None => "the rest is a number that has no row",
+        Some(_) => "the rest has the row of the dialect below",
+    }
+}
+
 fn read_proof(table: &Table, direction: Direction, krate: &str, rows: &[&Message]) -> String {
-    let (d, tables) = (direction.letter(), table.dialect.tables);
-    let mut text =
-        "-- Each arm is the row of its number, read flat; the rest is a number that has no row.\n"
-            .to_string();
-    let empty = match rows.iter().any(|m| m.is_empty()) {
-        true => "flat-empty, ",
-        false => "",
-    };
-    text += &match table.dialect.over {
-        None => format!("use mathlib.Core.Path.{{refl}}\nuse Rattle.{tables}.{{table{d}}}\nuse Rattle.flat.specs.FlatLaws.{{{empty}flat-unknown}}\n"),
-        Some(_) => below_uses(table, direction),
-    };
+    let mut text = format!(
+        "-- Each arm is the row of its number, read flat; {}.\n",
+        rest_in_words(&table.dialect)
+    );
+    text += &read_laws(table, direction, rows.iter().any(|m| m.is_empty()));
     text += &uses(krate, "read_flat");
     let mut asked = vec![];
     let mut answers = vec![];
     for (i, m) in rows.iter().enumerate() {
         let (need, small, key) = (numbered("returns", i + 1), m.small(), i + 1);
-        text += &format!("\n{need} : tie.Need-{need}\n{need} c = ");
-        text += &match m.is_empty() {
-            true => format!("rw (c .match .keys{key}) (flat-empty _)\n"),
+        let term = match m.is_empty() {
+            true => format!("rw (c .match .keys{key}) (flat-empty _)"),
             false => {
                 asked.push(NOTHING.to_string());
-                format!("rw (c .before .before .match .keys{key}) (c .read-{small} .ensures)\n")
+                format!("rw (c .before .before .match .keys{key}) (c .read-{small} .ensures)")
             }
         };
+        text += &answered(&need, &term);
         answers.push(need);
     }
-    let need = numbered("returns", rows.len() + 1);
-    text += &format!("\n{need} : tie.Need-{need}\n{need} c = ");
-    text += &match table.dialect.over {
-        None => format!("flat-unknown table{d} _ (c .match .rest) refl\n\n"),
+    let (need, d) = (numbered("returns", rows.len() + 1), direction.letter());
+    let term = match table.dialect.over {
+        None => format!("flat-unknown table{d} _ (c .match .rest) refl"),
         Some(_) => {
             asked.push(NOTHING.to_string());
-            format!("rw (same-{} _ (c .before .before .match .rest)) (c .read-flat .ensures)\n\n", direction.enums())
+            let law = format!("same-{}", direction.enums());
+            format!("rw ({law} _ (c .before .before .match .rest)) (c .read-flat .ensures)")
         }
     };
+    text += &answered(&need, &term);
     answers.push(need);
     asked.extend(answers);
-    text + &closed("read-flat", &asked)
+    text + "\n" + &closed("read-flat", &asked)
+}
+
+fn read_laws(table: &Table, direction: Direction, has_empty: bool) -> String {
+    let (d, tables) = (direction.letter(), table.dialect.tables);
+    let empty = if has_empty { "flat-empty, " } else { "" };
+    match table.dialect.over {
+        None => format!("use mathlib.Core.Path.{{refl}}\nuse Rattle.{tables}.{{table{d}}}\nuse Rattle.flat.specs.FlatLaws.{{{empty}flat-unknown}}\n"),
+        Some(_) => below_uses(table, direction),
+    }
 }
 
 fn write_proof(table: &Table, direction: Direction, krate: &str, rows: &[&Message]) -> String {
-    let (d, tables) = (direction.letter(), table.dialect.tables);
-    let has_empty = rows.iter().any(|m| m.is_empty());
-    let mut text = "-- Each arm is the row of its number, written by its record's writer; the rest is a number that has no row.\nuse borrow.Author.Needs.{needs}\nuse mathlib.Core.Path.{refl}\n".to_string();
-    if has_empty {
-        text += "use Rattle.laying.specs.WritingLaws.{written-nothing}\n";
-    }
-    text += &match table.dialect.over {
-        None => format!("use Rattle.{tables}.{{table{d}}}\nuse Rattle.flat.specs.FlatLaws.{{written-known, written-unknown}}\n"),
-        Some(_) => below_uses(table, direction) + "use Rattle.flat.specs.FlatLaws.{written-known}\n",
-    };
+    let mut text = format!("-- Each arm is the row of its number, written by its record's writer; {}.\nuse borrow.Author.Needs.{{needs}}\n", rest_in_words(&table.dialect));
+    text += &write_laws(table, direction, rows.iter().any(|m| m.is_empty()));
     text += &uses(krate, "write_flat");
     let mut calls = Occurrences::default();
     let mut lengths = 0;
     let mut asked = vec![];
     let mut answers = vec![];
-    for (i, m) in rows.iter().enumerate() {
-        let (need, small) = (numbered("returns", i + 1), m.small());
-        asked.push(NOTHING.to_string());
-        if m.is_empty() {
-            let call = calls.next("begun");
-            text += &format!(
-                "\n{need} : tie.Need-{need}\n{need} c = rw (c .before .match .keys{}) (written-known refl (written-nothing (c .{call} .ensures)))\n",
-                i + 1
-            );
-        } else {
-            lengths += 1;
-            let length = numbered("same-length", lengths);
-            text += &format!("\n{length} : tie.Need-{length}\n{length} c = search needs\n\n{need} : tie.Need-{need}\n{need} c =\n");
-            text += "    let w = c .before .before in\n    let o = w .before in\n    let m = o .before .before in\n";
-            text += &format!(
-                "    rw (m .match .keys{}) (written-known {{ns = m .before .before .before .before .args .values .now}} (o .{small}-of .ensures) (w .write-{small} .ensures))\n",
-                i + 1
-            );
-            asked.push(NOTHING.to_string());
-            answers.push(length);
-        }
-        answers.push(need);
-    }
-    let need = numbered("returns", rows.len() + 1);
-    if table.dialect.over.is_some() {
-        let length = numbered("same-length", lengths + 1);
-        text += &format!("\n{length} : tie.Need-{length}\n{length} c = search needs\n");
+    let mut lengthwise = |text: &mut String, asked: &mut Vec<String>, answers: &mut Vec<String>| {
+        lengths += 1;
+        let length = numbered("same-length", lengths);
+        *text += &answered(&length, "search needs");
         asked.push(NOTHING.to_string());
         answers.push(length);
-    }
-    text += &format!("\n{need} : tie.Need-{need}\n{need} c = ");
-    text += &match table.dialect.over {
-        None => format!("written-unknown table{d} _ (c .match .rest) refl\n\n"),
-        Some(_) => format!("let w = c .before .before in rw (same-{} _ (w .before .before .match .rest)) (w .write-flat .ensures)\n\n", direction.enums()),
     };
+    for (i, m) in rows.iter().enumerate() {
+        let need = numbered("returns", i + 1);
+        asked.push(NOTHING.to_string());
+        let term = match m.is_empty() {
+            true => {
+                let call = calls.next("begun");
+                format!("rw (c .before .match .keys{}) (written-known refl (written-nothing (c .{call} .ensures)))", i + 1)
+            }
+            false => {
+                lengthwise(&mut text, &mut asked, &mut answers);
+                written_term(m, i + 1)
+            }
+        };
+        text += &answered(&need, &term);
+        answers.push(need);
+    }
+    let (need, d) = (numbered("returns", rows.len() + 1), direction.letter());
+    let term = match table.dialect.over {
+        None => format!("written-unknown table{d} _ (c .match .rest) refl"),
+        Some(_) => {
+            lengthwise(&mut text, &mut asked, &mut answers);
+            let law = format!("same-{}", direction.enums());
+            format!("let w = c .before .before in rw ({law} _ (w .before .before .match .rest)) (w .write-flat .ensures)")
+        }
+    };
+    text += &answered(&need, &term);
     answers.push(need);
     asked.extend(answers);
-    text + &closed("write-flat", &asked)
+    text + "\n" + &closed("write-flat", &asked)
+}
+
+fn written_term(m: &Message, key: usize) -> String {
+    let small = m.small();
+    format!(
+        "
+    let w = c .before .before in
+    let o = w .before in
+    let m = o .before .before in
+    rw (m .match .keys{key}) (written-known {{ns = m .before .before .before .before .args .values .now}} (o .{small}-of .ensures) (w .write-{small} .ensures))"
+    )
+}
+
+fn write_laws(table: &Table, direction: Direction, has_empty: bool) -> String {
+    let (d, tables) = (direction.letter(), table.dialect.tables);
+    let empty = match has_empty {
+        true => "use Rattle.laying.specs.WritingLaws.{written-nothing}\n",
+        false => "",
+    };
+    match table.dialect.over {
+        None => format!("use mathlib.Core.Path.{{refl}}\n{empty}use Rattle.{tables}.{{table{d}}}\nuse Rattle.flat.specs.FlatLaws.{{written-known, written-unknown}}\n"),
+        Some(_) => below_uses(table, direction) + "use Rattle.flat.specs.FlatLaws.{written-known}\n",
+    }
 }
 
 /// The law by which a type without a row of its own has that of the dialect below.
@@ -725,7 +774,9 @@ fn before(m: &Message) -> String {
 
 fn longer_flat_proof(krate: &str, m: &Message, at: usize) -> String {
     let small = m.small();
-    let mut text = "-- As 9P2000's, and the values of its own after them.\nuse borrow.Author.Needs.{needs}\n".to_string();
+    let mut text =
+        "-- As 9P2000's, and the values of its own after them.\nuse borrow.Author.Needs.{needs}\n"
+            .to_string();
     text += &format!("use Rattle.{krate}.specs.Same.{{longer-stored}}\n");
     text += &uses(krate, &format!("{}.flat_{small}", m.family));
     text += &format!(
@@ -740,7 +791,9 @@ fn longer_flat_proof(krate: &str, m: &Message, at: usize) -> String {
 
 fn longer_of_proof(krate: &str, m: &Message, at: usize) -> String {
     let small = m.small();
-    let mut text = "-- As 9P2000's, and the fields of its own after them.\nuse borrow.Author.Needs.{needs}\n".to_string();
+    let mut text =
+        "-- As 9P2000's, and the fields of its own after them.\nuse borrow.Author.Needs.{needs}\n"
+            .to_string();
     text += &format!("use Rattle.{krate}.specs.Same.{{longer-of}}\n");
     text += &uses(krate, &format!("{}.{small}_of", m.family));
     text += &format!(

@@ -79,7 +79,13 @@ impl Rows {
 
     /// A row of the seller's: the number, the case, and the record as it stands there.
     fn row(self, m: &Message) -> String {
-        let head = format!("    {} {}: {}{} {{", m.number, m.case, m.record(), lifetime(m));
+        let head = format!(
+            "    {} {}: {}{} {{",
+            m.number,
+            m.case,
+            m.record(),
+            lifetime(m)
+        );
         self.held(m, head)
     }
 
@@ -132,5 +138,11 @@ fn lifetime(m: &Message) -> &'static str {
 
 /// A case of ours, which holds a record that is declared apart.
 fn case(m: &Message) -> String {
-    format!("    {} {}: {}{}\n", m.number, m.case, m.record(), lifetime(m))
+    format!(
+        "    {} {}: {}{}\n",
+        m.number,
+        m.case,
+        m.record(),
+        lifetime(m)
+    )
 }

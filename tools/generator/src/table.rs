@@ -78,7 +78,8 @@ impl Dialect {
     /// The crate that lays a record of a crate flat for this dialect: the first that has it in as much room.
     pub fn flat_of(&self, m: &Message) -> String {
         let room = |d: &Dialect| d.widths[m.direction as usize];
-        let has = |d: &&&Dialect| room(d) == room(self) && d.records().any(|krate| krate == m.dialect);
+        let has =
+            |d: &&&Dialect| room(d) == room(self) && d.records().any(|krate| krate == m.dialect);
         let first = DIALECTS.iter().find(has).map_or(self, |d| *d);
         first.named("flat")
     }
@@ -90,7 +91,8 @@ impl Dialect {
 
     /// Whether the dialect that it stands over has the same row.
     pub fn is_below(&self, m: &Message) -> bool {
-        self.over.is_some_and(|d| d.records().any(|krate| krate == m.dialect))
+        self.over
+            .is_some_and(|d| d.records().any(|krate| krate == m.dialect))
     }
 }
 
@@ -255,10 +257,9 @@ impl Table {
             shares: vec![],
         };
         for (at, line) in text.lines().enumerate() {
-            table.take(line).ok_or(format!(
-                "line {}: not a row of the table",
-                at + 1
-            ))?;
+            table
+                .take(line)
+                .ok_or(format!("line {}: not a row of the table", at + 1))?;
         }
         let mut rows: Vec<Message> = vec![];
         for m in others.iter().flat_map(|other| &other.messages) {
@@ -290,7 +291,8 @@ impl Table {
             Some("order") => self.order.extend(words.map(str::to_string)),
             Some("shares") => {
                 let krate = words.next()?.to_string();
-                self.shares.push((krate, words.map(str::to_string).collect()));
+                self.shares
+                    .push((krate, words.map(str::to_string).collect()));
             }
             Some(dialect) => {
                 let family = words.next()?.to_string();

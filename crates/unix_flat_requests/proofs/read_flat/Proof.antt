@@ -1,5 +1,5 @@
 -- Written by tools/messages from its table of messages.
--- Each arm is the row of its number, read flat; the rest is a number that has no row.
+-- Each arm is the row of its number, read flat; the rest has the row of the dialect below.
 use Rattle.unix_flat.specs.Same.{same-requests}
 use Rattle.unix_flat_requests.proofs.read_flat.Statement.{statement}
 use Rattle.unix_flat_requests.proofs.read_flat.Tie as tie

@@ -1,7 +1,6 @@
 -- Written by tools/messages from its table of messages.
--- Each arm is the row of its number, written by its record's writer; the rest is a number that has no row.
+-- Each arm is the row of its number, written by its record's writer; the rest has the row of the dialect below.
 use borrow.Author.Needs.{needs}
-use mathlib.Core.Path.{refl}
 use Rattle.unix_flat.specs.Same.{same-requests}
 use Rattle.flat.specs.FlatLaws.{written-known}
 use Rattle.unix_flat_requests.proofs.write_flat.Statement.{statement}
