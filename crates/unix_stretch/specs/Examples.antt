@@ -22,9 +22,13 @@ use Rattle.framing.specs.Stretch.{answerOf}
 use Rattle.framing.specs.Stripped.{resized, cutAt}
 
 -- 13 requests and 14 replies, 9P2000's; 7 is not among them
-pub known : (knownBelow 256 tableT ≡ knownBelow 256 P.tableT) × (knownBelow 256 tableR ≡ knownBelow 256 P.tableR)
+pub known-requests : knownBelow 256 tableT ≡ 100 ∷ 102 ∷ 104 ∷ 108 ∷ 110 ∷ 112 ∷ 114 ∷ 116 ∷ 118 ∷ 120 ∷ 122 ∷ 124 ∷ 126 ∷ []
 unfolding knownBelow
-known = (refl, refl)
+known-requests = refl
+
+pub known-replies : knownBelow 256 tableR ≡ 101 ∷ 103 ∷ 105 ∷ 107 ∷ 109 ∷ 111 ∷ 113 ∷ 115 ∷ 117 ∷ 119 ∷ 121 ∷ 123 ∷ 125 ∷ 127 ∷ []
+unfolding knownBelow
+known-replies = refl
 
 -- ---- the frames that differ
 

@@ -37,3 +37,41 @@ crate::frames::frames! {
 
 // The strings of a stat are the most that a message has.
 crate::older::encodes!(ffi::write_t, ffi::write_r, 5);
+
+#[cfg(test)]
+mod tests {
+    use super::Rframe;
+    use crate::unix::{Rmessage, Rstat, Stat};
+    use crate::{Qid, Refusal, Tag, Text};
+
+    /// No `Text` of a caller's is refused, so these are such as the library would not have accepted.
+    #[test]
+    fn a_place_is_told_in_its_own_string() {
+        let refused = |strings: [&str; 5]| {
+            let [name, uid, gid, muid, extension] = strings.map(Text::accepted);
+            let stat = Stat {
+                ty: 0,
+                dev: 0,
+                qid: Qid::default(),
+                mode: 0,
+                atime: 0,
+                mtime: 0,
+                length: 0,
+                name,
+                uid,
+                gid,
+                muid,
+                extension,
+                n_uid: 0,
+                n_gid: 0,
+                n_muid: 0,
+            };
+            let msg = Rmessage::Stat(Rstat { stat });
+            Rframe { tag: Tag(1), msg }.encode(&mut [0; 256])
+        };
+        let zero = |at| Err(Refusal::ZeroByte { at });
+        assert_eq!(refused(["a", "bc", "", "d", "ef\0\0"]), zero(2));
+        assert_eq!(refused(["a", "", "", "d\0", "\0"]), zero(1));
+        assert_eq!(refused(["", "", "", "", "\0"]), zero(0));
+    }
+}
