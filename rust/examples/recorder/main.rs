@@ -1,20 +1,27 @@
 //! Reads a recording in the dialect that its two sides have agreed to speak, and says each frame and its
-//! fields.
+//! fields. Or asks a server for 9P2000.u, and reads by what it answers.
 //!
 //!     cargo run --example recorder -- ../examples/recorder-session.bin
+//!     cargo run --example recorder -- --ask HOST:PORT
 
+mod ask;
 mod words;
 
+use std::ffi::OsString;
+use std::net::TcpStream;
 use std::path::Path;
 use std::process::ExitCode;
-use std::{env, fs};
+use std::{env, fs, io};
 
 fn main() -> ExitCode {
-    let Some(file) = env::args_os().nth(1) else {
-        return fails("usage: recorder FILE");
+    let words: Vec<OsString> = env::args_os().skip(1).collect();
+    let (name, frames) = match words.as_slice() {
+        [flag, server] if flag == "--ask" => (server, asked(&server.to_string_lossy())),
+        [file] => (file, fs::read(file)),
+        _ => return fails("usage: recorder FILE, or recorder --ask HOST:PORT"),
     };
-    let name = Path::new(&file).display();
-    match fs::read(&file) {
+    let name = Path::new(name).display();
+    match frames {
         Err(error) => fails(&format!("{name}: {error}")),
         Ok(bytes) => {
             let (text, wrong) = words::session(&bytes);
@@ -24,6 +31,11 @@ fn main() -> ExitCode {
             })
         }
     }
+}
+
+fn asked(server: &str) -> io::Result<Vec<u8>> {
+    let server = TcpStream::connect(server)?;
+    ask::exchange(&server, &server)
 }
 
 fn fails(why: &str) -> ExitCode {

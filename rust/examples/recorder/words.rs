@@ -17,7 +17,7 @@ pub fn session(bytes: &[u8]) -> (String, Option<String>) {
 
 /// The version that a server has answered. Frames of versions are the same in every dialect, so any reads
 /// them; what the client has asked for is no more than its wish.
-fn agreed(bytes: &[u8]) -> Option<&str> {
+pub fn agreed(bytes: &[u8]) -> Option<&str> {
     let mut frames = stretch(bytes).map_while(Result::ok);
     frames.find_map(|frame| match frame.body {
         Body::Reply(Ok(Rmessage::Version(m))) => Some(m.version.as_str()),
