@@ -82,15 +82,15 @@ module _ (first second : List ℕ) where
       let l = length-append first second in
       whole first ∙ sym (shown_in both 0 (length first) (omega arith) ∙ rw (take-append_seam first second))
 
-  pub in-second : show_span second 0 (length second) ≡ show_span both (length first) (length second)
-  in-second =
+  pub in_second : show_span second 0 (length second) ≡ show_span both (length first) (length second)
+  in_second =
       let l = length-append first second in
       whole second ∙ sym (shown_in both (length first) (length second) (omega arith) ∙ rw (drop-append_seam first second, take-length second))
 
   module _ {fs : Layout} {vs : List Value} {p q r : Place} where
-    pub measure-first : FieldMeasured str first (span 0 (length first)) p q → Measured fs both vs q r → Measured (str ∷ fs) both (span 0 (length first) ∷ vs) p r
+    pub measure_first : FieldMeasured str first (span 0 (length first)) p q → Measured fs both vs q r → Measured (str ∷ fs) both (span 0 (length first) ∷ vs) p r
     unfolding check_field show show_string
-    measure-first m n = measure (record { is = m.is ∙ rw in_first }) n
+    measure_first m n = measure (record { is = m.is ∙ rw in_first }) n
 
   module _ {fs : Layout} {vs : List Value} {o o1 o2 : List ℕ} {p q r : Place} where
     pub put_first : PutAll (str ∷ []) first (span 0 (length first) ∷ []) o p o1 q → PutAll fs both vs o1 q o2 r → PutAll (str ∷ fs) both (span 0 (length first) ∷ vs) o p o2 r
@@ -98,12 +98,12 @@ module _ (first second : List ℕ) where
 
     pub put_second : PutAll (str ∷ []) second (span 0 (length second) ∷ []) o p o1 q → PutAll fs both vs o1 q o2 r
         → PutAll (str ∷ fs) both (span (length first) (length second) ∷ vs) o p o2 r
-    put_second = put_alike in-second
+    put_second = put_alike in_second
 
   -- measured, settled and put
-  pub apart-written : {l : Layout} {ns o o' : List ℕ} {p e q r : Place} → Bytes first → Bytes second → Measured l both (field_values l (together (some l) first second ns)) p e → Begun p e (length o) q
+  pub apart_written : {l : Layout} {ns o o' : List ℕ} {p e q r : Place} → Bytes first → Bytes second → Measured l both (field_values l (together (some l) first second ns)) p e → Begun p e (length o) q
       → PutAll l both (field_values l (together (some l) first second ns)) o q o' r → ApartWritten (some l) first second ns o p o' r
-  apart-written b c m s u = record { is = written_known refl (written (bytes_join first second b c) m s u) }
+  apart_written b c m s u = record { is = written_known refl (written (bytes_join first second b c) m s u) }
 
 -- the output keeps its length
 pub apart_length : {l : Layout} {first second ns o o' : List ℕ} {p q : Place} → ApartWritten (some l) first second ns o p o' q → length o' ≡ length o

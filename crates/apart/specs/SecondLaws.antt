@@ -9,14 +9,14 @@ use Rattle.numbers.specs.declared.Refusal.TheVariants as R
 use Rattle.numbers.specs.declared.Place.{Place}
 use Rattle.numbers.specs.declared.Place.TheVariants.{At, Refused}
 use Rattle.utf8.specs.Utf8.{utf8, sound_start, no_zero, zero_at}
-use Rattle.utf8.specs.StartLaws.{sound-in, zero_in}
+use Rattle.utf8.specs.StartLaws.{sound_in, zero_in}
 use Rattle.strings.specs.Strings.{ok_text}
 use Rattle.strings.specs.Spans.{show_span, show_string, check_at}
 use Rattle.strings.specs.SpanLaws.{string_inv}
 use Rattle.fields.specs.Layouts.{str, string}
 use Rattle.fields.specs.Values.{span, show}
 use Rattle.laying.specs.Laying.{advance, shown_size, check_field, FieldMeasured, Advanced}
-use Rattle.apart.specs.ApartLaws.{whole, in-second}
+use Rattle.apart.specs.ApartLaws.{whole, in_second}
 
 -- ---- what is known of the first where the second is measured
 
@@ -55,16 +55,16 @@ module _ (first second : List ℕ) where
   abbrev pub Alone : Place → Place → Type 0
   Alone p q = FieldMeasured str second (span 0 (length second)) p q
 
-  pub second-stays : {p : Place} {k : Refusal} {at : ℕ} → p ≡ Refused k at → AsOne p p
+  pub second_stays : {p : Place} {k : Refusal} {at : ℕ} → p ≡ Refused k at → AsOne p p
   unfolding check_field
-  second-stays e = record { is = rw e }
+  second_stays e = record { is = rw e }
 
   shown : show_span (first ++ second) (length first) (length second) ≡ ok second []
-  shown = sym (in-second first second) ∙ whole second
+  shown = sym (in_second first second) ∙ whole second
 
-  pub second-long : {p : Place} {a : ℕ} → p ≡ At a → 65535 < length second → AsOne p (Refused R.StringTooLong 0)
+  pub second_long : {p : Place} {a : ℕ} → p ≡ At a → 65535 < length second → AsOne p (Refused R.StringTooLong 0)
   unfolding check_field show show_string
-  second-long e h = record { is = rw (e, shown, lt-leb (length second) 65535 h) }
+  second_long e h = record { is = rw (e, shown, lt-leb (length second) 65535 h) }
 
   module _ {p q : Place} {a : ℕ} (e : p ≡ At a) (l : length second ≤ 65535) where
     alone : Alone p q → q ≡ past (ok_text 0 second []) a
@@ -76,8 +76,8 @@ module _ (first second : List ℕ) where
     there f = record { is = rw (e, shown, le-leb (length second) 65535 l) f }
 
   module _ {p q : Place} {a : ℕ} (e : p ≡ At a) (l : length second ≤ 65535) (m : Alone p q) where
-    pub second-good : {b : ℕ} → q ≡ At b → AsOne p q
-    second-good {b} h = there e l (go (utf8 second) (no_zero second) (0 + zero_at second) (0 + sound_start second) (length first + zero_at second) (length first + sound_start second) (alone e l m))
+    pub second_good : {b : ℕ} → q ≡ At b → AsOne p q
+    second_good {b} h = there e l (go (utf8 second) (no_zero second) (0 + zero_at second) (0 + sound_start second) (length first + zero_at second) (length first + sound_start second) (alone e l m))
       where
         go : (u z : Bool) (i j x y : ℕ) → q ≡ past (cond u (cond z (ok second []) (bad R.ZeroByte i)) (bad R.NotUtf8 j)) a
             → q ≡ past (cond u (cond z (ok second []) (bad R.ZeroByte x)) (bad R.NotUtf8 y)) a
@@ -86,8 +86,8 @@ module _ (first second : List ℕ) where
         go false z i j x y f = absurd (let g = sym h ∙ f in let z : ◌≡◌ {A = ℕ} 0 1 = cc g in omega arith)
 
     module _ {k : Refusal} {n : ℕ} (h : q ≡ Refused k n) where
-      pub second-lies : n ≤ length second
-      second-lies = go (utf8 second) (no_zero second) (zero_at second) (sound_start second) (zero_in second refl) (sound-in second refl) (alone e l m)
+      pub second_lies : n ≤ length second
+      second_lies = go (utf8 second) (no_zero second) (zero_at second) (sound_start second) (zero_in second refl) (sound_in second refl) (alone e l m)
         where
           go : (u z : Bool) (i j : ℕ) → i ≤ length second → j ≤ length second → q ≡ past (cond u (cond z (ok second []) (bad R.ZeroByte (0 + i))) (bad R.NotUtf8 (0 + j))) a
               → n ≤ length second
@@ -95,8 +95,8 @@ module _ (first second : List ℕ) where
           go true false i j x y f = let g = sym h ∙ f in let b : n ≡ 0 + i = cc g in omega arith
           go false z i j x y f = let g = sym h ∙ f in let b : n ≡ 0 + j = cc g in omega arith
 
-      pub second-bad : AsOne p (Refused k (length first + n))
-      second-bad = there e l (go (utf8 second) (no_zero second) (zero_at second) (sound_start second) (alone e l m))
+      pub second_bad : AsOne p (Refused k (length first + n))
+      second_bad = there e l (go (utf8 second) (no_zero second) (zero_at second) (sound_start second) (alone e l m))
         where
           go : (u z : Bool) (i j : ℕ) → q ≡ past (cond u (cond z (ok second []) (bad R.ZeroByte (0 + i))) (bad R.NotUtf8 (0 + j))) a
               → Refused k (length first + n) ≡ past (cond u (cond z (ok second []) (bad R.ZeroByte (length first + i))) (bad R.NotUtf8 (length first + j))) a

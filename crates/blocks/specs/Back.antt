@@ -16,7 +16,7 @@ use Rattle.flat.specs.Flat.{field_values}
 use Rattle.blocks.specs.Blocks.{Found, end, stop, Listing, line, ends, stops, list_from, listing, shown, Pack, holds, refuses, more, pack_from, pack_in, laid_in}
 use Rattle.blocks.specs.Views.{bytes_of, row_bytes, Shows}
 use Rattle.blocks.specs.ListingLaws.{Front, list_end, list_next}
-use Rattle.blocks.specs.PackLaws.{Sized, shows_sized, pack-fits, first_bytes, first_none, Holds, held_in}
+use Rattle.blocks.specs.PackLaws.{Sized, shows_sized, pack_fits, first_bytes, first_none, Holds, held_in}
 
 -- ---- packed, then listed
 
@@ -44,7 +44,7 @@ pub record Again (names row : List ℕ) (a cs : List ℕ) : Type 0 where
   pub items : List Item
   pub made : shown names row ≡ ok items []
   pub listed : list_from (length a) 0 (row_bytes names row ++ cs) ≡ line (length a) (places (length a) items) (length (a ++ row_bytes names row)) (list_from (length (a ++ row_bytes names row)) 0 cs)
-  pub shows-it : shows layout_dirent (a ++ (row_bytes names row ++ cs)) (places (length a) items) ≡ ok items []
+  pub shows_it : shows layout_dirent (a ++ (row_bytes names row ++ cs)) (places (length a) items) ≡ ok items []
 
 again : (names row : List ℕ) → Bytes names → ((j : ℕ) → get_or row j 0 < 256 ^ 8) → Sized names row → (a cs : List ℕ) → Again names row a cs
 again names row b w s a cs =
@@ -60,7 +60,7 @@ again names row b w s a cs =
       made = s.is;
       listed = ap (λ (z : List ℕ). list_from p 0 (z ++ cs)) e ∙ list_next p (items_bytes is ++ cs) f
           ∙ ap₂ (λ m (z : List ℕ). line p (places p is) m (list_from m 0 z)) n (drop-append_seam (items_bytes is) cs);
-      shows-it = ap (λ (z : List ℕ). shows layout_dirent (a ++ (z ++ cs)) (places p is)) e ∙ ap (λ l. shows l (a ++ (items_bytes is ++ cs)) (places p is)) (sym g.0) ∙ shows_items is a cs p g.1 refl;
+      shows_it = ap (λ (z : List ℕ). shows layout_dirent (a ++ (z ++ cs)) (places p is)) e ∙ ap (λ l. shows l (a ++ (items_bytes is ++ cs)) (places p is)) (sym g.0) ∙ shows_items is a cs p g.1 refl;
     }
 
 -- the listing of a block shows these entries and ends where the block does
@@ -85,7 +85,7 @@ first_back names b (row ∷ rows) w (suc n) h s a =
     let cs : List ℕ = first_bytes names rows n in
     let A = again names row b (λ j. w.each 0 j) (shows_sized (s 0 (omega arith))) a cs in
     let G = first_back names b rows (record { each = λ i j. w.each (suc i) j }) n (omega arith) (λ i l. s (suc i) (omega arith)) (a ++ row_bytes names row) in
-    rw A.listed (gives_more (length a) (length (a ++ row_bytes names row)) (A.shows-it ∙ sym A.made) (rw (append_assoc a (row_bytes names row) cs) at G))
+    rw A.listed (gives_more (length a) (length (a ++ row_bytes names row)) (A.shows_it ∙ sym A.made) (rw (append_assoc a (row_bytes names row) cs) at G))
 
 -- packed, then listed, gives the packed entries back (F11.8)
 pub packed_listed : (count len : ℕ) (names : List ℕ) (rows : List (List ℕ)) {n : ℕ} {bs : List ℕ} → Bytes names → Words rows → pack_in count len names rows ≡ holds n bs → Gives bs (listing bs) (map (shown names) (take n rows))
@@ -119,7 +119,7 @@ most names (row ∷ rows) room {n} e (suc m) h s l =
     let d : row_bytes names row ≡ b = ap bytes_of z.is in
     let a = length-append (row_bytes names row) (first_bytes names rows m) in
     let k = ap length d in
-    more_inv b (pack_from names (room - length b) rows) (sym (pack-fits names rows row room z.is (omega arith)) ∙ e)
+    more_inv b (pack_from names (room - length b) rows) (sym (pack_fits names rows row room z.is (omega arith)) ∙ e)
     (λ j ds f g. let i = most names rows (room - length b) f m (omega arith) (λ i t. s (suc i) (omega arith)) (omega arith) in omega arith)
 
 -- any number of entries from the front that show and fit is at most the answer (F11.4)

@@ -52,18 +52,18 @@ pub record Front (p : ℕ) (xs : List ℕ) (is : List Item) : Type 0 where
   pub kinds : map kind is ≡ layout_dirent
 
 module _ {p : ℕ} {xs : List ℕ} {is : List Item} (f : Front p xs is) where
-  pub front-least : 24 ≤ length (items_bytes is)
-  front-least = let e : least (map kind is) ≡ 24 = ap least f.kinds in let l = items_least is in omega arith
+  pub front_least : 24 ≤ length (items_bytes is)
+  front_least = let e : least (map kind is) ≡ 24 = ap least f.kinds in let l = items_least is in omega arith
 
-  pub front-held : length (items_bytes is) ≤ length xs
-  front-held = let e = ap length f.whole ∙ length-append (items_bytes is) f.left in omega arith
+  pub front_held : length (items_bytes is) ≤ length xs
+  front_held = let e = ap length f.whole ∙ length-append (items_bytes is) f.left in omega arith
 
-  pub front-left : drop (length (items_bytes is)) xs ≡ f.left
-  front-left = ap (drop (length (items_bytes is))) f.whole ∙ drop-append_seam (items_bytes is) f.left
+  pub front_left : drop (length (items_bytes is)) xs ≡ f.left
+  front_left = ap (drop (length (items_bytes is))) f.whole ∙ drop-append_seam (items_bytes is) f.left
 
-  pub front-entry : front p xs ≡ entry p (places p is) (p + length (items_bytes is))
+  pub front_entry : front p xs ≡ entry p (places p is) (p + length (items_bytes is))
   unfolding front
-  front-entry = ap (entry_of p) f.reads
+  front_entry = ap (entry_of p) f.reads
 
 -- it is an entry, or a refusal at that position
 pub front_case : {X : Type 0} (p : ℕ) (xs : List ℕ) → Bytes xs → ((is : List Item) → Front p xs is → X) → ((k : Refusal) (at : ℕ) → front p xs ≡ stop k at p → X) → X
@@ -98,15 +98,15 @@ skip_from (x ∷ xs) p (suc k) h = skip_from xs (suc p) k (omega arith) ∙ ap (
 
 -- an entry at the front is listed, and the listing goes on after it
 pub list_next : (p : ℕ) (xs : List ℕ) {is : List Item} → Front p xs is → list_from p 0 xs ≡ line p (places p is) (p + length (items_bytes is)) (list_from (p + length (items_bytes is)) 0 (drop (length (items_bytes is)) xs))
-list_next p [] f = absurd (let a = front-least f in let b = front-held f in omega arith)
-list_next p (x ∷ xs) {is} f = go (length (items_bytes is)) refl (front-least f) (front-held f)
+list_next p [] f = absurd (let a = front_least f in let b = front_held f in omega arith)
+list_next p (x ∷ xs) {is} f = go (length (items_bytes is)) refl (front_least f) (front_held f)
   where
     go : (n : ℕ) → length (items_bytes is) ≡ n → 24 ≤ n → n ≤ length (x ∷ xs) → list_from p 0 (x ∷ xs) ≡ line p (places p is) (p + length (items_bytes is)) (list_from (p + length (items_bytes is)) 0 (drop (length (items_bytes is)) (x ∷ xs)))
     go zero e a b = absurd (omega arith)
     go (suc n) e a b =
         let k : p + length (items_bytes is) - suc p ≡ n = omega arith in
         let q : suc p + n ≡ p + length (items_bytes is) = omega arith in
-        list_entry p x xs (front-entry f)
+        list_entry p x xs (front_entry f)
         ∙ ap (line p (places p is) (p + length (items_bytes is)))
         (ap (λ m. list_from (suc p) m xs) k ∙ skip_from xs (suc p) n (omega arith) ∙ ap₂ (λ m j. list_from m 0 (drop j (x ∷ xs))) q (sym e))
 
@@ -135,14 +135,14 @@ module _ (s : List ℕ) (b : Bytes s) where
   stopped p (x ∷ xs) h e = list_stop p x xs e
 
   -- the listing is these answers in order (F11.3)
-  pub list-step : (p : ℕ) → p ≤ length s → listed p ≡ goes_on (entry_at s p) listed
-  list-step p h =
+  pub list_step : (p : ℕ) → p ≤ length s → listed p ≡ goes_on (entry_at s p) listed
+  list_step p h =
       or_else (length s) p (λ l. at_end_lem p (omega arith))
       (λ l.
       let d = length-drop p s in
       front_case p (drop p s) (bytes_drop p s b)
       (λ is f.
-      rw (before_end p l, front-entry f) (list_next p (drop p s) f ∙ ap (λ (xs : List ℕ). line p (places p is) (p + length (items_bytes is)) (list_from (p + length (items_bytes is)) 0 xs)) (drop-drop (length (items_bytes is)) p s)))
+      rw (before_end p l, front_entry f) (list_next p (drop p s) f ∙ ap (λ (xs : List ℕ). line p (places p is) (p + length (items_bytes is)) (list_from (p + length (items_bytes is)) 0 xs)) (drop-drop (length (items_bytes is)) p s)))
       (λ k at e. rw (before_end p l, e) (stopped p (drop p s) (omega arith) e)))
 
   -- past the end it is 1, at that position
@@ -156,18 +156,18 @@ module _ (s : List ℕ) (b : Bytes s) where
     pub on : p + 24 ≤ next
     pub within : next ≤ length s
 
-  pub moves-on : {p at next : ℕ} {vs : List Value} → entry_at s p ≡ entry at vs next → Moved p at next
+  pub moves_on : {p at next : ℕ} {vs : List Value} → entry_at s p ≡ entry at vs next → Moved p at next
   unfolding entry_at
-  moves-on {p} {at} {next} {vs} e =
+  moves_on {p} {at} {next} {vs} e =
       or_else (length s) p (λ l. absurd (none l))
       (λ l. front_case p (drop p s) (bytes_drop p s b)
       (λ is f.
-      let u = sym (front-entry f) ∙ sym (before_end p l) ∙ e in
+      let u = sym (front_entry f) ∙ sym (before_end p l) ∙ e in
       let x : p ≡ at = cc u in
       let y : p + length (items_bytes is) ≡ next = cc u in
       let d = length-drop p s in
-      let v = front-least f in
-      let w = front-held f in
+      let v = front_least f in
+      let w = front_held f in
       record { begins = sym x; on = omega arith; within = omega arith })
       (λ k n g. absurd (let u = sym g ∙ sym (before_end p l) ∙ e in let c : ◌≡◌ {A = ℕ} 0 1 = cc u in omega arith)))
     where
@@ -200,10 +200,10 @@ adds_up (x ∷ xs) p zero b h = go (λ k l. adds_up xs (suc p) k b.1 l)
     go ih =
         front_case p (x ∷ xs) b
         (λ is f.
-        let v = front-least f in
-        let w = front-held f in
+        let v = front_least f in
+        let w = front_held f in
         let i = ih (p + length (items_bytes is) - suc p) (omega arith) in
-        rw (list_entry p x xs (front-entry f)) (omega arith))
+        rw (list_entry p x xs (front_entry f)) (omega arith))
         (λ k at e. rw (list_stop p x xs e) (omega arith))
 
 pub steps_add_up : (s : List ℕ) → Bytes s → steps_in (listing s) ≡ stops_at (listing s)

@@ -106,15 +106,15 @@ module _ (names : List ℕ) (rows : List (List ℕ)) (row : List ℕ) (room : �
   unfolding pack_from
   pack_cons e = ap (λ m. fitted room m (λ left. pack_from names left rows)) e
 
-  pub pack-fits : {is : List Item} {r : List ℕ} → shown names row ≡ ok is r → length (items_bytes is) ≤ room
+  pub pack_fits : {is : List Item} {r : List ℕ} → shown names row ≡ ok is r → length (items_bytes is) ≤ room
       → pack_from names room (row ∷ rows) ≡ more (items_bytes is) (pack_from names (room - length (items_bytes is)) rows)
-  pack-fits {is} e h = pack_cons e ∙ rw (le-leb (length (items_bytes is)) room h)
+  pack_fits {is} e h = pack_cons e ∙ rw (le-leb (length (items_bytes is)) room h)
 
-  pub pack-full : {is : List Item} {r : List ℕ} → shown names row ≡ ok is r → room < length (items_bytes is) → pack_from names room (row ∷ rows) ≡ holds 0 []
-  pack-full {is} e h = pack_cons e ∙ rw (lt-leb (length (items_bytes is)) room h)
+  pub pack_full : {is : List Item} {r : List ℕ} → shown names row ≡ ok is r → room < length (items_bytes is) → pack_from names room (row ∷ rows) ≡ holds 0 []
+  pack_full {is} e h = pack_cons e ∙ rw (lt-leb (length (items_bytes is)) room h)
 
-  pub pack-bad : {k : Refusal} {at : ℕ} → shown names row ≡ bad k at → pack_from names room (row ∷ rows) ≡ refuses k at
-  pack-bad e = pack_cons e
+  pub pack_bad : {k : Refusal} {at : ℕ} → shown names row ≡ bad k at → pack_from names room (row ∷ rows) ≡ refuses k at
+  pack_bad e = pack_cons e
 
 pub pack_none : (names : List ℕ) (room : ℕ) → pack_from names room [] ≡ holds 0 []
 unfolding pack_from
@@ -161,19 +161,19 @@ module _ {names : List ℕ} {room : ℕ} {rows : List (List ℕ)} where
         let n1 : room - u - length b ≡ room - (u + (get_or row 6 0 + 24)) = omega arith in
         let n2 : u + length b ≡ u + (get_or row 6 0 + 24) = omega arith in
         record {
-          on = here (pack-fits names (drop (suc i) rows) row (room - u) s.is (omega arith)) ∙ plus_more b i u (pack_from names (room - u - length b) (drop (suc i) rows))
+          on = here (pack_fits names (drop (suc i) rows) row (room - u) s.is (omega arith)) ∙ plus_more b i u (pack_from names (room - u - length b) (drop (suc i) rows))
               ∙ ap₂ (λ m n. plus (i + 1) m (told (pack_from names n (drop (suc i) rows)))) n2 n1 ∙ ap (λ j. plus (i + 1) (u + (get_or row 6 0 + 24)) (told (pack_from names (room - (u + (get_or row 6 0 + 24))) (drop j rows)))) (sym (add-one i));
           held = omega arith;
           count = omega arith;
         }
 
-    pub fit-full : Sized names row → room - u < get_or row 6 0 + 24 → Fitting names room rows (P.Packed i u)
-    fit-full s h =
+    pub fit_full : Sized names row → room - u < get_or row 6 0 + 24 → Fitting names room rows (P.Packed i u)
+    fit_full s h =
         let w = s.size in
-        record { is = sym (here (pack-full names (drop (suc i) rows) row (room - u) s.is (omega arith)) ∙ ap₂ P.Packed (omega arith) (omega arith)) }
+        record { is = sym (here (pack_full names (drop (suc i) rows) row (room - u) s.is (omega arith)) ∙ ap₂ P.Packed (omega arith) (omega arith)) }
 
-    pub fit-bad : {k : Refusal} {at : ℕ} → shown names row ≡ bad k at → Fitting names room rows (P.Refused k at)
-    fit-bad e = record { is = sym (here (pack-bad names (drop (suc i) rows) row (room - u) e)) }
+    pub fit_bad : {k : Refusal} {at : ℕ} → shown names row ≡ bad k at → Fitting names room rows (P.Refused k at)
+    fit_bad e = record { is = sym (here (pack_bad names (drop (suc i) rows) row (room - u) e)) }
 
   pub fit_all : {i u : ℕ} → i ≡ length rows → FitTo names room rows i u → Fitting names room rows (P.Packed i u)
   fit_all {i} {u} e f =
@@ -263,18 +263,18 @@ module _ {names : List ℕ} {rows : List (List ℕ)} {n i at : ℕ} {o o1 : List
   within : length (first_bytes names rows (suc i)) ≤ length o
   within = let k = r.held in let m = first_least names rows (suc i) n l in omega arith
 
-  pub put-room : length o1 ≡ length o → Room names this at (length o1)
-  put-room e = let g = grown in let w = within in record { shows = r.each i l; held = omega arith }
+  pub put_room : length o1 ≡ length o → Room names this at (length o1)
+  put_room e = let g = grown in let w = within in record { shows = r.each i l; held = omega arith }
 
   -- where the next begins
-  pub put-size : at + 24 + get_or this 6 0 ≡ length (first_bytes names rows (i + 1))
-  put-size = let g = grown in let z = row_size (shows_sized (r.each i l)) in let k = ap (λ m. length (first_bytes names rows m)) (add-one i) in omega arith
+  pub put_size : at + 24 + get_or this 6 0 ≡ length (first_bytes names rows (i + 1))
+  put_size = let g = grown in let z = row_size (shows_sized (r.each i l)) in let k = ap (λ m. length (first_bytes names rows m)) (add-one i) in omega arith
 
   pub put_fit : at + 24 + get_or this 6 0 ≤ length o
   put_fit = let g = grown in let w = within in let z = row_size (shows_sized (r.each i l)) in omega arith
 
   pub put_length : {o2 : List ℕ} → length o1 ≡ length o → o2 ≡ over o1 at (row_bytes names this) → length o2 ≡ length o
-  put_length e f = ap length f ∙ length_over o1 at (row_bytes names this) (put-room e).held ∙ e
+  put_length e f = ap length f ∙ length_over o1 at (row_bytes names this) (put_room e).held ∙ e
 
   pub put_next : {o2 : List ℕ} → o2 ≡ over o1 at (row_bytes names this) → PutTo names rows (i + 1) (at + 24 + get_or this 6 0) o o2
   put_next {o2} e =
@@ -287,7 +287,7 @@ module _ {names : List ℕ} {rows : List (List ℕ)} {n i at : ℕ} {o o1 : List
       let z : at ≡ 0 + length b = (let a = p.at_is in omega arith) in
       record {
         count = omega arith;
-        at_is = put-size;
+        at_is = put_size;
         is = e ∙ ap₂ (λ (y : List ℕ) m. over y m x) p.is z ∙ over_then o 0 b x (omega arith) ∙ ap (over o 0) (sym f);
       }
 
@@ -343,11 +343,11 @@ held_in names room [] e = nothing_held (sym (pack_none names room) ∙ e)
 held_in names room (row ∷ rows) {n} {bs} e = go (shown names row) refl (λ left m cs f. held_in names left rows f)
   where
     go : (m : Result (List Item)) → shown names row ≡ m → ((left : ℕ) (k : ℕ) (cs : List ℕ) → pack_from names left rows ≡ holds k cs → Holds names left rows k cs) → Holds names room (row ∷ rows) n bs
-    go (bad k at) s ih = absurd (let d = sym (pack-bad names rows row room s) ∙ e in let z : ◌≡◌ {A = ℕ} 0 1 = cc d in omega arith)
+    go (bad k at) s ih = absurd (let d = sym (pack_bad names rows row room s) ∙ e in let z : ◌≡◌ {A = ℕ} 0 1 = cc d in omega arith)
     go (ok is r) s ih =
         or_else (length (items_bytes is)) room
-        (λ l. more_held names row rows room s l (pack_from names (room - length (items_bytes is)) rows) (λ k cs f. ih (room - length (items_bytes is)) k cs f) (sym (pack-fits names rows row room s l) ∙ e))
-        (λ l. nothing_held (sym (pack-full names rows row room s l) ∙ e))
+        (λ l. more_held names row rows room s l (pack_from names (room - length (items_bytes is)) rows) (λ k cs f. ih (room - length (items_bytes is)) k cs f) (sym (pack_fits names rows row room s l) ∙ e))
+        (λ l. nothing_held (sym (pack_full names rows row room s l) ∙ e))
 
 -- ---- what the packer answers
 
@@ -359,21 +359,21 @@ module _ (count : ℕ) {room : ℕ} {names : List ℕ} {rows : List (List ℕ)} 
   answered : r ≡ told (pack_in count (length o) names rows)
   answered = f.is ∙ ap (λ n. told (pack_from names n rows)) e
 
-  pub pack-ready : {n b : ℕ} → r ≡ P.Packed n b → Ready names rows n (length o)
-  pack-ready {n} {b} g =
+  pub pack_ready : {n b : ℕ} → r ≡ P.Packed n b → Ready names rows n (length o)
+  pack_ready {n} {b} g =
       told_packed (pack_from names room rows) (sym g ∙ f.is)
       (λ bs h. let k = held_in names room rows h in let y = k.held in let z = ap length k.bytes in record { count = k.count; each = k.each; held = omega arith })
 
-  pub pack-put : {n b : ℕ} {o' : List ℕ} → r ≡ P.Packed n b → o' ≡ over o 0 (first_bytes names rows n) → PackedInto count names rows o o' (P.Packed n b)
-  pack-put {n} {b} {o'} g h =
+  pub pack_put : {n b : ℕ} {o' : List ℕ} → r ≡ P.Packed n b → o' ≡ over o 0 (first_bytes names rows n) → PackedInto count names rows o o' (P.Packed n b)
+  pack_put {n} {b} {o'} g h =
       told_packed (pack_from names room rows) (sym g ∙ f.is)
       (λ bs x.
       let k = held_in names room rows x in
       let w : pack_in count (length o) names rows ≡ holds n bs = ap (λ m. pack_from names m rows) (sym e) ∙ x in
       record { answer = sym g ∙ answered; left = h ∙ ap (over o 0) (sym k.bytes) ∙ ap (laid_in o) (sym w) })
 
-  pub pack-refused : {k : Refusal} {at : ℕ} → r ≡ P.Refused k at → PackedInto count names rows o o r
-  pack-refused {k} {at} g = record { answer = answered; left = go (pack_in count (length o) names rows) (sym g ∙ answered) }
+  pub pack_refused : {k : Refusal} {at : ℕ} → r ≡ P.Refused k at → PackedInto count names rows o o r
+  pack_refused {k} {at} g = record { answer = answered; left = go (pack_in count (length o) names rows) (sym g ∙ answered) }
     where
       go : (x : Pack) → P.Refused k at ≡ told x → o ≡ laid_in o x
       go (holds n bs) d = absurd (let z : ◌≡◌ {A = ℕ} 0 1 = cc d in omega arith)

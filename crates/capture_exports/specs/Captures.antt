@@ -41,11 +41,11 @@ export_made_one x y = (one_answer x.bytes y.bytes, one_answer x.answer y.answer)
 -- ---- the ways
 
 module _ {file o o' : List ℕ} {t t' : List (List ℕ)} {i : Imported} {r : Outcome} (m : List ℕ) (x : Imports file o t o' t' i) where
-  pub import-held : {b n : ℕ} → i ≡ Held b n → r ≡ ended (P.At b) → ImportMade file o t m o' t' (set m 0 n) r
-  import-held e f = let g = sym e ∙ x.answer in record { answer = rw (← g) f; bytes = x.bytes; times = x.times; frames = rw (← g) }
+  pub import_held : {b n : ℕ} → i ≡ Held b n → r ≡ ended (P.At b) → ImportMade file o t m o' t' (set m 0 n) r
+  import_held e f = let g = sym e ∙ x.answer in record { answer = rw (← g) f; bytes = x.bytes; times = x.times; frames = rw (← g) }
 
-  pub import-refused : {k : Refusal} {p : ℕ} → i ≡ Refused k p → r ≡ ended (P.Refused k p) → ImportMade file o t m o' t' m r
-  import-refused e f = let g = sym e ∙ x.answer in record { answer = rw (← g) f; bytes = x.bytes; times = x.times; frames = rw (← g) }
+  pub import_refused : {k : Refusal} {p : ℕ} → i ≡ Refused k p → r ≡ ended (P.Refused k p) → ImportMade file o t m o' t' m r
+  import_refused e f = let g = sym e ∙ x.answer in record { answer = rw (← g) f; bytes = x.bytes; times = x.times; frames = rw (← g) }
 
 pub export_made : {s o o' : List ℕ} {ts : List (List ℕ)} {p : Place} {r : Outcome} → Exports s ts o o' p → r ≡ ended p → ExportMade s ts o o' r
 export_made x e = record { answer = e ∙ ap ended x.answer; bytes = x.bytes }

@@ -17,19 +17,19 @@ use Rattle.strings.specs.SpanLaws.{shown_length}
 use Rattle.framing.specs.WritingLaws.{over_none}
 use Rattle.captures.specs.Captures.{num_in, bytes_in, times_in, frames_in, paired, record_bytes, records_of, cut_up}
 use Rattle.captures.specs.Steps.{from, Roomy, rest, records, Ready}
-use Rattle.captures.specs.FileLaws.{Stands, bytes-turn, times-turn}
-use Rattle.captures.specs.StretchLaws.{Next, frames-turn, starts}
+use Rattle.captures.specs.FileLaws.{Stands, bytes_turn, times_turn}
+use Rattle.captures.specs.StretchLaws.{Next, frames_turn, starts}
 use Rattle.captures.specs.PutLaws.{shown, put_over, record_length}
 
 -- ---- bytes over an output
 
 module _ (o o₀ : List ℕ) (to a : ℕ) (all : List ℕ) where
   -- put over it, and what comes after them
-  pub over-turn : (bs cs : List ℕ) → to + length (bs ++ cs) ≤ length o → over o to (bs ++ cs) ≡ over o₀ a all → over (over o to bs) (to + length bs) cs ≡ over o₀ a all
-  over-turn bs cs h e = over_then o to bs cs h ∙ e
+  pub over_turn : (bs cs : List ℕ) → to + length (bs ++ cs) ≤ length o → over o to (bs ++ cs) ≡ over o₀ a all → over (over o to bs) (to + length bs) cs ≡ over o₀ a all
+  over_turn bs cs h e = over_then o to bs cs h ∙ e
 
-  pub over-ends : to ≤ length o → over o to [] ≡ over o₀ a all → o ≡ over o₀ a all
-  over-ends h e = over_none o to h ∙ e
+  pub over_ends : to ≤ length o → over o to [] ≡ over o₀ a all → o ≡ over o₀ a all
+  over_ends h e = over_none o to h ∙ e
 
 -- ---- taking
 
@@ -50,39 +50,39 @@ module _ (big : Bool) (file o₀ : List ℕ) (t₀ : List (List ℕ)) where
       record { within = r.head; output = refl; table = refl; room = omega arith; rows = omega arith; bytes = refl; times = refl }
 
   module _ (o : List ℕ) (t : List (List ℕ)) (at to i : ℕ) (w : Taking big file o₀ t₀ o t at to i) where
-    pub row-left : {n : ℕ} → Stands big file at n → i < length t
-    row-left x =
+    pub row_left : {n : ℕ} → Stands big file at n → i < length t
+    row_left x =
         let h = w.rows in
-        let e = ap length (times-turn big file at x) in
+        let e = ap length (times_turn big file at x) in
         omega arith
 
-    pub room-left : {n : ℕ} → Stands big file at n → to + n ≤ length o
-    room-left {n} x =
+    pub room_left : {n : ℕ} → Stands big file at n → to + n ≤ length o
+    room_left {n} x =
         let h = w.room in
         let k = x.held in
         let l = shown_length file (at + 16) n k in
-        let e = ap length (bytes-turn big file at x) ∙ length-append (take n (drop (at + 16) file)) (bytes_in (from big file (at + 16 + n))) in
+        let e = ap length (bytes_turn big file at x) ∙ length-append (take n (drop (at + 16) file)) (bytes_in (from big file (at + 16 + n))) in
         omega arith
 
-    pub take-turn : {n x y : ℕ} {o' : List ℕ} {q : Place} → Stands big file at n → x ≡ num_in big 4 at file → y ≡ num_in big 4 (at + 4) file → SpanPut file (at + 16) n o (At to) o' q
+    pub take_turn : {n x y : ℕ} {o' : List ℕ} {q : Place} → Stands big file at n → x ≡ num_in big 4 at file → y ≡ num_in big 4 (at + 4) file → SpanPut file (at + 16) n o (At to) o' q
         → Taking big file o₀ t₀ o' (set t i (x ∷ y ∷ [])) (at + 16 + n) (to + n) (i + 1)
-    take-turn {n} {x} {y} {o'} {q} s e f p =
+    take_turn {n} {x} {y} {o'} {q} s e f p =
         let k = s.held in
         let h = w.room in
         let g = w.rows in
         let bs : List ℕ = take n (drop (at + 16) file) in
         let cs : List ℕ = bytes_in (from big file (at + 16 + n)) in
         let l : length bs ≡ n = shown_length file (at + 16) n k in
-        let turn : bytes_in (from big file at) ≡ bs ++ cs = bytes-turn big file at s in
+        let turn : bytes_in (from big file at) ≡ bs ++ cs = bytes_turn big file at s in
         let u = ap length turn in
         let v = length-append bs cs in
-        let tt' = ap length (times-turn big file at s) in
+        let tt' = ap length (times_turn big file at s) in
         let z : o' ≡ over o to bs = put_over (shown p k) (omega arith) in
         let m : length o' ≡ length o = ap length z ∙ length_over o to bs (omega arith) in
         let c = w.output in
         let d = length-set t i (x ∷ y ∷ []) in
         let b = w.table in
-        let over-all = over-turn o o₀ to 0 (bytes_in (from big file 24)) bs cs (omega arith) (rw turn at w.bytes) in
+        let over-all = over_turn o o₀ to 0 (bytes_in (from big file 24)) bs cs (omega arith) (rw turn at w.bytes) in
         record {
           within = k;
           output = omega arith;
@@ -90,7 +90,7 @@ module _ (big : Bool) (file o₀ : List ℕ) (t₀ : List (List ℕ)) where
           room = omega arith;
           rows = omega arith;
           bytes = ap (λ (a : List ℕ). over a (to + n) cs) z ∙ ap (λ j. over (over o to bs) (to + j) cs) (sym l) ∙ over-all;
-          times = rw (e, f, add-one) (rw (times-turn big file at s) at w.times);
+          times = rw (e, f, add-one) (rw (times_turn big file at s) at w.times);
         }
 
     pub take_ends : (bytes_in (from big file at) ≡ []) × (times_in (from big file at) ≡ []) → Roomy file (from big file 24) o₀ t₀
@@ -99,7 +99,7 @@ module _ (big : Bool) (file o₀ : List ℕ) (t₀ : List (List ℕ)) where
         let h = w.room in
         let k = r.rows in
         let ts : List (List ℕ) = times_in (from big file 24) in (
-          over-ends o o₀ to 0 (bytes_in (from big file 24)) (omega arith) (rw e at w.bytes),
+          over_ends o o₀ to 0 (bytes_in (from big file 24)) (omega arith) (rw e at w.bytes),
           (rw f at w.times) ∙ sets-eq ts t₀ 0 (omega arith) ∙ ap (λ j. ts ++ drop j t₀) (zero-add (length ts)),
         )
 
@@ -125,15 +125,15 @@ module _ (s : List ℕ) (ts : List (List ℕ)) (o₀ : List ℕ) where
 
   module _ (o : List ℕ) (at to i : ℕ) (w : Putting s ts o₀ o at to i) where
     module _ {e : ℕ} (x : Next s at e) where
-      pub row-there : i < length ts
-      row-there =
+      pub row_there : i < length ts
+      row_there =
           let h = w.rows in
-          let k = ap length (frames-turn x) in
+          let k = ap length (frames_turn x) in
           omega arith
 
       to_come : records_of (paired (drop i ts) (frames_in s (rest s at))) ≡ record_bytes (get_or (get_or ts i []) 0 0) (get_or (get_or ts i []) 1 0) (take (e - at) (drop at s)) ++ records_of (paired (drop (i + 1) ts) (frames_in s (rest s e)))
       unfolding records_of paired
-      to_come = rw (frames-turn x, drop-cons ts i [] row-there, add-one)
+      to_come = rw (frames_turn x, drop-cons ts i [] row_there, add-one)
 
       frame_there : length (take (e - at) (drop at s)) ≡ e - at
       frame_there =
@@ -151,8 +151,8 @@ module _ (s : List ℕ) (ts : List (List ℕ)) (o₀ : List ℕ) where
           let a = length-append (record_bytes t u f) (records_of (paired (drop (i + 1) ts) (frames_in s (rest s e)))) in
           ap length to_come ∙ a ∙ omega arith
 
-      pub room-there : to + 16 + (e - at) ≤ length o
-      room-there =
+      pub room_there : to + 16 + (e - at) ≤ length o
+      room_there =
           let h = w.room in
           let k = come_length in
           omega arith
@@ -169,12 +169,12 @@ module _ (s : List ℕ) (ts : List (List ℕ)) (o₀ : List ℕ) where
           let h = w.room in
           let g = w.rows in
           let k = come_length in
-          let fr = ap length (frames-turn x) in
+          let fr = ap length (frames_turn x) in
           let a = length-append (record_bytes t u f) cs in
           let m : length o' ≡ length o = ap length z ∙ length_over o to (record_bytes t u f) (omega arith) in
           let c = w.output in
           let n : to + 16 + (e - at) ≡ to + length (record_bytes t u f) = omega arith in
-          let all = over-turn o o₀ to 24 (records s ts) (record_bytes t u f) cs (omega arith) (rw to_come at w.bytes) in
+          let all = over_turn o o₀ to 24 (records s ts) (record_bytes t u f) cs (omega arith) (rw to_come at w.bytes) in
           record {
             within = x.held;
             output = omega arith;
@@ -186,4 +186,4 @@ module _ (s : List ℕ) (ts : List (List ℕ)) (o₀ : List ℕ) where
     pub put_ends : frames_in s (rest s at) ≡ [] → o ≡ over o₀ 24 (records s ts)
     put_ends e =
         let h = w.room in
-        over-ends o o₀ to 24 (records s ts) (omega arith) (rw (e, none_come (drop i ts)) at w.bytes)
+        over_ends o o₀ to 24 (records s ts) (omega arith) (rw (e, none_come (drop i ts)) at w.bytes)

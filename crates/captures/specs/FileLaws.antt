@@ -34,39 +34,39 @@ four_at : (s : List ℕ) (at : ℕ) → take 4 (drop at s) ≡ take 2 (drop at s
 four_at s at = take-add 2 2 (drop at s) ∙ ap (λ (x : List ℕ). take 2 (drop at s) ++ take 2 x) (drop-drop 2 at s)
 
 module _ (s : List ℕ) (at a b : ℕ) (h : at + 4 ≤ length s) where
-  pub number-big : a ≡ num_in true 2 at s → b ≡ num_in true 2 (at + 2) s → a * 65536 + b ≡ num_in true 4 at s
+  pub number_big : a ≡ num_in true 2 at s → b ≡ num_in true 2 (at + 2) s → a * 65536 + b ≡ num_in true 4 at s
   unfolding from_order from_le
-  number-big e f = rw (e, f, four_at s at, two_at s at (omega arith), two_at s (at + 2) (omega arith)) (omega arith)
+  number_big e f = rw (e, f, four_at s at, two_at s at (omega arith), two_at s (at + 2) (omega arith)) (omega arith)
 
-  pub number-little : a ≡ num_in false 2 at s → b ≡ num_in false 2 (at + 2) s → a + b * 65536 ≡ num_in false 4 at s
+  pub number_little : a ≡ num_in false 2 at s → b ≡ num_in false 2 (at + 2) s → a + b * 65536 ≡ num_in false 4 at s
   unfolding from_order from_le
-  number-little e f = rw (e, f, four_at s at, two_at s at (omega arith), two_at s (at + 2) (omega arith)) (omega arith)
+  number_little e f = rw (e, f, four_at s at, two_at s at (omega arith), two_at s (at + 2) (omega arith)) (omega arith)
 
 -- ---- the header
 
 module _ (big : Bool) (s : List ℕ) where
-  pub head-short : length s < 24 → false ≡ headed big s
+  pub head_short : length s < 24 → false ≡ headed big s
   unfolding headed
-  head-short h = rw (lt-ltb (length s) 24 h)
+  head_short h = rw (lt-ltb (length s) 24 h)
 
   module _ (l : 24 ≤ length s) {m : ℕ} (e1 : m ≡ num_in big 4 0 s) where
-    pub head-magic : (m ≡ 2712847316 → ⊥) → false ≡ headed big s
+    pub head_magic : (m ≡ 2712847316 → ⊥) → false ≡ headed big s
     unfolding headed
-    head-magic h = rw (le-ltb (length s) 24 l, ← e1, ne_eqb m 2712847316 h)
+    head_magic h = rw (le-ltb (length s) 24 l, ← e1, ne_eqb m 2712847316 h)
 
     module _ {v : ℕ} (h1 : m ≡ 2712847316) (e2 : v ≡ num_in big 2 4 s) where
-      pub head-major : (v ≡ 2 → ⊥) → false ≡ headed big s
+      pub head_major : (v ≡ 2 → ⊥) → false ≡ headed big s
       unfolding headed
-      head-major h = rw (le-ltb (length s) 24 l, ← e1, eq-eqb m 2712847316 h1, ← e2, ne_eqb v 2 h)
+      head_major h = rw (le-ltb (length s) 24 l, ← e1, eq-eqb m 2712847316 h1, ← e2, ne_eqb v 2 h)
 
       module _ {w : ℕ} (h2 : v ≡ 2) (e3 : w ≡ num_in big 2 6 s) where
-        pub head-minor : (w ≡ 4 → ⊥) → false ≡ headed big s
+        pub head_minor : (w ≡ 4 → ⊥) → false ≡ headed big s
         unfolding headed
-        head-minor h = rw (le-ltb (length s) 24 l, ← e1, eq-eqb m 2712847316 h1, ← e2, eq-eqb v 2 h2, ← e3, ne_eqb w 4 h)
+        head_minor h = rw (le-ltb (length s) 24 l, ← e1, eq-eqb m 2712847316 h1, ← e2, eq-eqb v 2 h2, ← e3, ne_eqb w 4 h)
 
-        pub head-link : {n : ℕ} → w ≡ 4 → n ≡ num_in big 4 20 s → eqb n 147 ≡ headed big s
+        pub head_link : {n : ℕ} → w ≡ 4 → n ≡ num_in big 4 20 s → eqb n 147 ≡ headed big s
         unfolding headed
-        head-link h3 e4 = rw (le-ltb (length s) 24 l, ← e1, eq-eqb m 2712847316 h1, ← e2, eq-eqb v 2 h2, ← e3, eq-eqb w 4 h3, ← e4)
+        head_link h3 e4 = rw (le-ltb (length s) 24 l, ← e1, eq-eqb m 2712847316 h1, ← e2, eq-eqb v 2 h2, ← e3, eq-eqb w 4 h3, ← e4)
 
 -- ---- one record
 
@@ -126,32 +126,32 @@ module _ (big : Bool) (s : List ℕ) (at : ℕ) where
     long : 16 ≤ length (drop at s)
     long = let d = length-drop at s in omega arith
 
-    pub size-unlike : (c ≡ o → ⊥) → Refused R.Capture at ≡ size_at big at (drop at s)
+    pub size_unlike : (c ≡ o → ⊥) → Refused R.Capture at ≡ size_at big at (drop at s)
     unfolding size_at taken
-    size-unlike g = rw (le-ltb (length (drop at s)) 16 long, cap, orig, ne_eqb c o g)
+    size_unlike g = rw (le-ltb (length (drop at s)) 16 long, cap, orig, ne_eqb c o g)
 
     module _ (g : c ≡ o) where
       pub size_small : c < 7 → Refused R.Capture at ≡ size_at big at (drop at s)
       unfolding size_at taken
       size_small i = rw (le-ltb (length (drop at s)) 16 long, cap, orig, eq-eqb c o g, lt-ltb c 7 i)
 
-      pub size-large : 7 ≤ c → 65535 < c → Refused R.Capture at ≡ size_at big at (drop at s)
+      pub size_large : 7 ≤ c → 65535 < c → Refused R.Capture at ≡ size_at big at (drop at s)
       unfolding size_at taken
-      size-large i j = rw (le-ltb (length (drop at s)) 16 long, cap, orig, eq-eqb c o g, le-ltb c 7 i, lt-ltb 65535 c j)
+      size_large i j = rw (le-ltb (length (drop at s)) 16 long, cap, orig, eq-eqb c o g, le-ltb c 7 i, lt-ltb 65535 c j)
 
       module _ (i : 7 ≤ c) (j : c ≤ 65535) where
-        pub size-long : length s < at + 16 + c → Refused R.Capture at ≡ size_at big at (drop at s)
+        pub size_long : length s < at + 16 + c → Refused R.Capture at ≡ size_at big at (drop at s)
         unfolding size_at taken
-        size-long k = rw (le-ltb (length (drop at s)) 16 long, cap, orig, eq-eqb c o g, le-ltb c 7 i, le-ltb 65535 c j, lt-ltb (length (drop at s)) (16 + c) (let d = length-drop at s in omega arith))
+        size_long k = rw (le-ltb (length (drop at s)) 16 long, cap, orig, eq-eqb c o g, le-ltb c 7 i, le-ltb 65535 c j, lt-ltb (length (drop at s)) (16 + c) (let d = length-drop at s in omega arith))
 
         module _ {z : ℕ} (k : at + 16 + c ≤ length s) (w : z ≡ num_in false 4 (at + 16) s) where
           inner : size_in (drop 16 (drop at s)) ≡ z
           unfolding from_order
           inner = ap size_in (drop-drop 16 at s) ∙ sym w
 
-          pub size-other : (z ≡ c → ⊥) → Refused R.Capture at ≡ size_at big at (drop at s)
+          pub size_other : (z ≡ c → ⊥) → Refused R.Capture at ≡ size_at big at (drop at s)
           unfolding size_at taken
-          size-other u = rw (le-ltb (length (drop at s)) 16 long, cap, orig, eq-eqb c o g, le-ltb c 7 i, le-ltb 65535 c j, le-ltb (length (drop at s)) (16 + c) (let d = length-drop at s in omega arith), inner, ne_eqb z c u)
+          size_other u = rw (le-ltb (length (drop at s)) 16 long, cap, orig, eq-eqb c o g, le-ltb c 7 i, le-ltb 65535 c j, le-ltb (length (drop at s)) (16 + c) (let d = length-drop at s in omega arith), inner, ne_eqb z c u)
 
           pub size_held : z ≡ c → At c ≡ size_at big at (drop at s)
           unfolding size_at taken
@@ -171,9 +171,9 @@ module _ (big : Bool) where
   unfolding packets_from
   packet_first x xs p e = rw (e, packets_from)
 
-  pub packet-next : (xs : List ℕ) (p n : ℕ) → Taken big xs n → packets_from big p 0 xs ≡ packet (time_in big xs) (take n (drop 16 xs)) (packets_from big (p + (16 + n)) 0 (drop (16 + n) xs))
-  packet-next [] p n t = absurd (let h = t.sixteen in omega arith)
-  packet-next (x ∷ xs) p n t =
+  pub packet_next : (xs : List ℕ) (p n : ℕ) → Taken big xs n → packets_from big p 0 xs ≡ packet (time_in big xs) (take n (drop 16 xs)) (packets_from big (p + (16 + n)) 0 (drop (16 + n) xs))
+  packet_next [] p n t = absurd (let h = t.sixteen in omega arith)
+  packet_next (x ∷ xs) p n t =
       let h = t.held in
       let e : 16 + n ≡ suc (15 + n) = omega arith in
       let d : drop (16 + n) (x ∷ xs) ≡ drop (15 + n) xs = ap (λ m. drop m (x ∷ xs)) e in
@@ -196,15 +196,15 @@ module _ (big : Bool) where
       go false t u = g t u
 
   -- the end, a record, or nothing that is taken
-  pub packet-case : {X : Type 0} (xs : List ℕ) (p : ℕ) → (xs ≡ [] → packets_from big p 0 xs ≡ complete → X)
+  pub packet_case : {X : Type 0} (xs : List ℕ) (p : ℕ) → (xs ≡ [] → packets_from big p 0 xs ≡ complete → X)
       → ((n : ℕ) → Taken big xs n → packets_from big p 0 xs ≡ packet (time_in big xs) (take n (drop 16 xs)) (packets_from big (p + (16 + n)) 0 (drop (16 + n) xs)) → X)
       → (packets_from big p 0 xs ≡ broken p → X) → X
   unfolding packets_from
-  packet-case [] p f g h = f refl refl
-  packet-case {X} (x ∷ xs) p f g h = go (taken big (x ∷ xs)) refl
+  packet_case [] p f g h = f refl refl
+  packet_case {X} (x ∷ xs) p f g h = go (taken big (x ∷ xs)) refl
     where
       go : (b : Bool) → taken big (x ∷ xs) ≡ b → X
-      go true t = let k = taken_inv big (x ∷ xs) t in g (captured big (x ∷ xs)) k (packet-next (x ∷ xs) p (captured big (x ∷ xs)) k)
+      go true t = let k = taken_inv big (x ∷ xs) t in g (captured big (x ∷ xs)) k (packet_next (x ∷ xs) p (captured big (x ∷ xs)) k)
       go false t = h (packet_none (x ∷ xs) p (omega arith) t)
 
   module _ (s : List ℕ) (p : ℕ) where
@@ -227,12 +227,12 @@ module _ (big : Bool) where
               held = omega arith;
               seven = u.seven;
               is =
-                  packet-next (drop p s) p n u
+                  packet_next (drop p s) p n u
                   ∙ rw (drop-drop 4 p s, drop-drop 16 p s, drop-drop (16 + n) p s, a);
             }
 
-    pub none-stands : {r : Place} {k : Refusal} {j : ℕ} → p < length s → r ≡ size_at big p (drop p s) → r ≡ Refused k j → from big s p ≡ broken p
-    none-stands h e f =
+    pub none_stands : {r : Place} {k : Refusal} {j : ℕ} → p < length s → r ≡ size_at big p (drop p s) → r ≡ Refused k j → from big s p ≡ broken p
+    none_stands h e f =
         size_inv (drop p s) p e (λ t u. absurd (let z : ◌≡◌ {A = ℕ} 0 1 = cc in omega arith))
         (λ t u. packet_none (drop p s) p (let d = length-drop p s in omega arith) t)
 
@@ -250,31 +250,31 @@ module _ (big : Bool) (s : List ℕ) (p : ℕ) where
         let d = length-drop (p + 16) s in
         length-take-le n (drop (p + 16) s) (omega arith)
 
-    pub tally-turn : (b m : ℕ) → tallied (b + n) (m + 1) (from big s (p + 16 + n)) ≡ tallied b m (from big s p)
+    pub tally_turn : (b m : ℕ) → tallied (b + n) (m + 1) (from big s (p + 16 + n)) ≡ tallied b m (from big s p)
     unfolding tallied
-    tally-turn b m = sym (ap (tallied b m) x.is ∙ ap (λ k. tallied (b + k) (m + 1) (from big s (p + 16 + n))) frame_length)
+    tally_turn b m = sym (ap (tallied b m) x.is ∙ ap (λ k. tallied (b + k) (m + 1) (from big s (p + 16 + n))) frame_length)
 
-    pub bytes-turn : bytes_in (from big s p) ≡ take n (drop (p + 16) s) ++ bytes_in (from big s (p + 16 + n))
+    pub bytes_turn : bytes_in (from big s p) ≡ take n (drop (p + 16) s) ++ bytes_in (from big s (p + 16 + n))
     unfolding bytes_in
-    bytes-turn = rw x.is
+    bytes_turn = rw x.is
 
-    pub times-turn : times_in (from big s p) ≡ (num_in big 4 p s ∷ num_in big 4 (p + 4) s ∷ []) ∷ times_in (from big s (p + 16 + n))
+    pub times_turn : times_in (from big s p) ≡ (num_in big 4 p s ∷ num_in big 4 (p + 4) s ∷ []) ∷ times_in (from big s (p + 16 + n))
     unfolding times_in
-    times-turn = rw x.is
+    times_turn = rw x.is
 
   module _ (x : from big s p ≡ broken p) where
-    pub tally-stop : (b m : ℕ) → I.Refused R.Capture p ≡ tallied b m (from big s p)
+    pub tally_stop : (b m : ℕ) → I.Refused R.Capture p ≡ tallied b m (from big s p)
     unfolding tallied
-    tally-stop b m = rw x
+    tally_stop b m = rw x
 
-    pub nothing-broken : (bytes_in (from big s p) ≡ []) × (times_in (from big s p) ≡ [])
+    pub nothing_broken : (bytes_in (from big s p) ≡ []) × (times_in (from big s p) ≡ [])
     unfolding bytes_in times_in
-    nothing-broken = (rw x, rw x)
+    nothing_broken = (rw x, rw x)
 
   module _ (x : from big s p ≡ complete) where
-    pub tally-end : (b m : ℕ) → I.Held b m ≡ tallied b m (from big s p)
+    pub tally_end : (b m : ℕ) → I.Held b m ≡ tallied b m (from big s p)
     unfolding tallied
-    tally-end b m = rw x
+    tally_end b m = rw x
 
     pub nothing_left : (bytes_in (from big s p) ≡ []) × (times_in (from big s p) ≡ [])
     unfolding bytes_in times_in

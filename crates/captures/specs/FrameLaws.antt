@@ -13,7 +13,7 @@ use Rattle.layouts.specs.Bodies.{Answer}
 use Rattle.framing.specs.Stretch.{Listing, entry, ends, stops}
 use Rattle.captures.specs.Captures.{frames_in, counted, fits, cut_up}
 use Rattle.captures.specs.Steps.{rest, joined, Good, Goods}
-use Rattle.captures.specs.StretchLaws.{Next, rest-case, at_end_lem, frames-end, frames-turn, starts}
+use Rattle.captures.specs.StretchLaws.{Next, rest_case, at_end_lem, frames_end, frames_turn, starts}
 
 -- what is listed from p on, after m frames, is k frames in all
 pub record Whole (s : List ℕ) (l : Listing) (p m k : ℕ) : Type 0 where
@@ -56,10 +56,10 @@ module _ (s : List ℕ) where
   unfolding counted fits
   whole (stops i q) p h e c f = absurd (let z : ◌≡◌ {A = ℕ} 0 1 = cc c in omega arith)
   whole (ends q) p h e c f =
-      rest-case s p h (λ z. no_more (omega arith) c) (λ e' x. absurd (let u = e ∙ x.is in let z : ◌≡◌ {A = ℕ} 0 1 = cc u in omega arith))
+      rest_case s p h (λ z. no_more (omega arith) c) (λ e' x. absurd (let u = e ∙ x.is in let z : ◌≡◌ {A = ℕ} 0 1 = cc u in omega arith))
       (λ i l g u. absurd (let v = e ∙ u in let z : ◌≡◌ {A = ℕ} 0 1 = cc v in omega arith))
   whole (entry at n ty tag a tail l) p h e c f =
-      rest-case s p h (λ z. absurd (let u = e ∙ at_end_lem s p (omega arith) in let z : ◌≡◌ {A = ℕ} 0 1 = cc u in omega arith))
+      rest_case s p h (λ z. absurd (let u = e ∙ at_end_lem s p (omega arith) in let z : ◌≡◌ {A = ℕ} 0 1 = cc u in omega arith))
       (λ e' x.
       let u = e ∙ x.is in
       let v : l ≡ rest s e' = cc u in

@@ -18,7 +18,7 @@ use Rattle.framing.specs.ListingLaws.{Front, list_next}
 use Rattle.captures.specs.declared.Imported.TheVariants as I
 use Rattle.captures.specs.Captures.{from_order, num_in, headed, order_of, time_in, Packets, packet, complete, broken, packets_from, packets_of, bytes_in, times_in, tallied, frames_in, counted, fits, paired, header, record_bytes, records_of, file_of}
 use Rattle.captures.specs.Steps.{joined, Good, Goods}
-use Rattle.captures.specs.FileLaws.{Taken, packet-next, packet-case}
+use Rattle.captures.specs.FileLaws.{Taken, packet_next, packet_case}
 use Rattle.captures.specs.PutLaws.{head_length}
 
 -- ---- a record
@@ -90,7 +90,7 @@ reads_records ts [] p h x y = refl
 reads_records [] (f ∷ fs) p h x y = absurd (omega arith)
 reads_records (t ∷ ts) (f ∷ fs) p h (x, xs) (y, ys) =
     let r = reads_record t f (records_of (paired ts fs)) x y in
-    packet-next false (record_bytes (get_or t 0 0) (get_or t 1 0) f ++ records_of (paired ts fs)) p (length f) r.took
+    packet_next false (record_bytes (get_or t 0 0) (get_or t 1 0) f ++ records_of (paired ts fs)) p (length f) r.took
     ∙ rw (r.time, r.frame, r.after, reads_records ts fs (p + (16 + length f)) (omega arith) xs ys)
 
 head_back : (r : List ℕ) → headed false (header ++ r) ≡ true
@@ -166,7 +166,7 @@ unfolding tallied times_in paired frames_of
 reads_back big (broken q) xs p b n e h = absurd (let z : ◌≡◌ {A = ℕ} 0 1 = cc h in omega arith)
 reads_back big complete xs p b n e h = record { goods = tt; pairs = refl; many = refl }
 reads_back big (packet t f r) xs p b n e h =
-    packet-case big xs p (λ u v. absurd (let w = e ∙ v in let z : ◌≡◌ {A = ℕ} 0 1 = cc w in omega arith))
+    packet_case big xs p (λ u v. absurd (let w = e ∙ v in let z : ◌≡◌ {A = ℕ} 0 1 = cc w in omega arith))
     (λ m t' v.
     let w = e ∙ v in
     let fr : f ≡ take m (drop 16 xs) = cc w in
@@ -208,10 +208,10 @@ pub writes_back : (r : Packets) (xs : List ℕ) (p b n : ℕ) {b' n' : ℕ} → 
 unfolding tallied records_of
 writes_back (broken q) xs p b n y e h = absurd (let z : ◌≡◌ {A = ℕ} 0 1 = cc h in omega arith)
 writes_back complete xs p b n y e h =
-    packet-case false xs p (λ u v. sym u) (λ m t' v. absurd (let w = e ∙ v in let z : ◌≡◌ {A = ℕ} 0 1 = cc w in omega arith))
+    packet_case false xs p (λ u v. sym u) (λ m t' v. absurd (let w = e ∙ v in let z : ◌≡◌ {A = ℕ} 0 1 = cc w in omega arith))
     (λ v. absurd (let w = e ∙ v in let z : ◌≡◌ {A = ℕ} 0 1 = cc w in omega arith))
 writes_back (packet t f r) xs p b n y e h =
-    packet-case false xs p (λ u v. absurd (let w = e ∙ v in let z : ◌≡◌ {A = ℕ} 0 1 = cc w in omega arith))
+    packet_case false xs p (λ u v. absurd (let w = e ∙ v in let z : ◌≡◌ {A = ℕ} 0 1 = cc w in omega arith))
     (λ m t' v.
     let w = e ∙ v in
     let ti : t ≡ time_in false xs = cc w in
@@ -228,11 +228,11 @@ pub record Reads (s : List ℕ) (l : Listing) (fs : List (List ℕ)) : Type 0 wh
   pub fit : fits l ≡ At (length s)
 
 module _ (ts rs : List Row) where
-  pub reads-joined : (pre : List ℕ) (fs : List (List ℕ)) → Goods fs → Reads (pre ++ joined fs) (list_from ts rs (length pre) 0 (joined fs)) fs
+  pub reads_joined : (pre : List ℕ) (fs : List (List ℕ)) → Goods fs → Reads (pre ++ joined fs) (list_from ts rs (length pre) 0 (joined fs)) fs
   unfolding frames_in counted fits list_from
-  reads-joined pre [] g = record { frames = refl; count = λ m. ap At (omega arith); fit = ap (λ (x : List ℕ). At (length x)) (sym (append-nil pre)) }
-  reads-joined pre (f ∷ fs) (g, gs) =
-      let i = reads-joined (pre ++ f) fs gs in
+  reads_joined pre [] g = record { frames = refl; count = λ m. ap At (omega arith); fit = ap (λ (x : List ℕ). At (length x)) (sym (append-nil pre)) }
+  reads_joined pre (f ∷ fs) (g, gs) =
+      let i = reads_joined (pre ++ f) fs gs in
       let la = length-append f (joined fs) in
       let s7 = g.seven in
       let most = g.most in
@@ -247,6 +247,6 @@ module _ (ts rs : List Row) where
         fit = ap fits l ∙ rw (le-ltb 65535 (length f) most) (i.fit ∙ ap (λ (x : List ℕ). At (length x)) (sym a));
       }
 
-  pub reads-stretch : (fs : List (List ℕ)) → Goods fs → Reads (joined fs) (listing ts rs (joined fs)) fs
+  pub reads_stretch : (fs : List (List ℕ)) → Goods fs → Reads (joined fs) (listing ts rs (joined fs)) fs
   unfolding listing
-  reads-stretch fs g = reads-joined [] fs g
+  reads_stretch fs g = reads_joined [] fs g

@@ -19,7 +19,7 @@ use Rattle.captures.specs.StretchLaws.{starts}
 use Rattle.captures.specs.FrameLaws.{Whole, whole}
 use Rattle.captures.specs.PutLaws.{head_length}
 use Rattle.captures.specs.WayLaws.{tallied_held}
-use Rattle.captures.specs.ReadLaws.{Pairs, frames_of, packets_after, reads_file, bytes_joined, bytes_paired, times_paired, tally_paired, reads_back, writes_back, Back, Reads, reads-stretch}
+use Rattle.captures.specs.ReadLaws.{Pairs, frames_of, packets_after, reads_file, bytes_joined, bytes_paired, times_paired, tally_paired, reads_back, writes_back, Back, Reads, reads_stretch}
 
 -- ---- one answer, and nothing altered
 
@@ -154,7 +154,7 @@ import_export {file} {o} {o'} {o2} {o2'} {t} {t'} {b} {n} {r} bs hd x y room =
     let ts : take n t' ≡ times_in p = ap (take n) w.times ∙ ap (λ q. take n (times_in q ++ drop n t)) is ∙ ap (λ j. take j (times_in p ++ drop n t)) (sym tl) ∙ take-append_seam (times_in p) (drop n t) in
     let k = reads_back false p (drop 24 file) 24 0 0 refl told in
     let e : bytes_in p ≡ joined (frames_of p) = bytes_joined p in
-    let g = reads-stretch [] [] (frames_of p) k.goods in
+    let g = reads_stretch [] [] (frames_of p) k.goods in
     let s' : take b o' ≡ joined (frames_of p) = s ∙ e in
     let fr : frames_in (take b o') (cut_up (take b o')) ≡ frames_of p = ap (λ (z : List ℕ). frames_in z (cut_up z)) s' ∙ g.frames in
     let co : counted 0 (cut_up (take b o')) ≡ At (0 + length (frames_of p)) = ap (λ (z : List ℕ). counted 0 (cut_up z)) s' ∙ g.count 0 in
@@ -186,7 +186,7 @@ imported_reads {file} {o} {o'} {t} {t'} {b} {n} ts rs x =
     let k = read_in (order_of file) file w.told in
     let m = k.1 in
     let s : take b o' ≡ joined (frames_of p) = ap (take b) w.bytes ∙ ap (λ j. take j (bytes_in p ++ drop b o)) (sym bl) ∙ take-append_seam (bytes_in p) (drop b o) ∙ bytes_joined p in
-    let g = reads-stretch ts rs (frames_of p) k.0 in
+    let g = reads_stretch ts rs (frames_of p) k.0 in
     let jl : length (joined (frames_of p)) ≡ b = ap length (sym (bytes_joined p)) ∙ bl in (
       ap (λ (z : List ℕ). counted 0 (listing ts rs z)) s ∙ g.count 0 ∙ ap At (omega arith),
       ap (λ (z : List ℕ). frames_in z (listing ts rs z)) s ∙ g.frames,

@@ -11,9 +11,9 @@ use Rattle.numbers.specs.declared.Place.TheVariants.{At, Refused}
 use Rattle.layouts.specs.Bodies.{Answer}
 use Rattle.framing.specs.Local.{size_in}
 use Rattle.framing.specs.Stretch.{Step, frame, end, stop, listed_frame, front, frame_at, Listing, entry, ends, stops, list_from, listing}
-use Rattle.framing.specs.ListingLaws.{Front, front_case, list-step, whole-at, moves-on}
+use Rattle.framing.specs.ListingLaws.{Front, front_case, list_step, whole_at, moves_on}
 use Rattle.framing.specs.Cuts.{WholeAt, CutAt, between}
-use Rattle.framing.specs.CutLaws.{cut-whole, cut-end, cut-stop, length_whole}
+use Rattle.framing.specs.CutLaws.{cut_whole, cut_end, cut_stop, length_whole}
 use Rattle.framing.specs.declared.Cut.{Cut}
 use Rattle.framing.specs.declared.Cut.TheVariants as C
 use Rattle.captures.specs.Captures.{frames_in, counted, fits, cut_up}
@@ -24,17 +24,17 @@ use Rattle.captures.specs.Steps.{step_to, rest}
 module _ (s : List ℕ) (p : ℕ) {g : Cut} (c : CutAt s p g) where
   pub end_whole : {ty tag e : ℕ} → g ≡ C.Whole ty tag e → At e ≡ step_to (frame_at [] [] s p)
   end_whole {ty} {tag} {e} f =
-      let w = cut-whole s p c f in
+      let w = cut_whole s p c f in
       let l = length_whole w in
       let a = w.seven in
       let n : e ≡ p + length (between p e s) = omega arith in
       ap At n ∙ ap step_to (w.is [] [])
 
-  pub end-end : g ≡ C.End → Refused R.StretchCut p ≡ step_to (frame_at [] [] s p)
-  end-end f = ap step_to (cut-end s p c f [] [])
+  pub end_end : g ≡ C.End → Refused R.StretchCut p ≡ step_to (frame_at [] [] s p)
+  end_end f = ap step_to (cut_end s p c f [] [])
 
-  pub end-stop : {k : Refusal} → g ≡ C.Refused k → Refused k p ≡ step_to (frame_at [] [] s p)
-  end-stop f = ap step_to (cut-stop s p c f [] [])
+  pub end_stop : {k : Refusal} → g ≡ C.Refused k → Refused k p ≡ step_to (frame_at [] [] s p)
+  end_stop f = ap step_to (cut_stop s p c f [] [])
 
 -- ---- one frame on
 
@@ -54,13 +54,13 @@ pub record Next (s : List ℕ) (p e : ℕ) : Type 0 where
 module _ (s : List ℕ) (p : ℕ) where
   next_is : {at n ty tag tail e : ℕ} {a : Answer} → p ≤ length s → frame_at [] [] s p ≡ frame at n ty tag a tail e → Next s p e
   next_is {at} {n} {ty} {tag} {tail} {e} {a} h f =
-      whole-at [] [] s f
+      whole_at [] [] s f
       (λ m x g.
       let z : length (take m (drop p s)) ≡ m = length-take-le m (drop p s) x.held in
       let y : length (take m (drop p s)) ≡ n = cc g in
       let q : p ≡ at = cc g in
       let k : m ≡ n = sym z ∙ y in
-      let v = moves-on [] [] s f in
+      let v = moves_on [] [] s f in
       let w = v.seven in
       record {
         ty = ty;
@@ -72,7 +72,7 @@ module _ (s : List ℕ) (p : ℕ) where
         on = v.on;
         held = v.within;
         size = ap from_le (take-take 4 n (drop p s) (omega arith)) ∙ x.size ∙ k;
-        is = list-step [] [] s p h ∙ rw (f, q);
+        is = list_step [] [] s p h ∙ rw (f, q);
       })
 
   pub next : {r : Place} {e : ℕ} → p ≤ length s → r ≡ step_to (frame_at [] [] s p) → r ≡ At e → Next s p e
@@ -92,11 +92,11 @@ module _ (s : List ℕ) (p : ℕ) where
   at_end_lem h = rw (drop_of_length-le s h)
 
   -- the end, a frame, or a refusal
-  pub rest-case : {X : Type 0} → p ≤ length s → (p ≡ length s → X) → ((e : ℕ) → Next s p e → X) → ((k : Refusal) → p < length s → frame_at [] [] s p ≡ stop k p → rest s p ≡ stops k p → X) → X
-  rest-case h f g i =
+  pub rest_case : {X : Type 0} → p ≤ length s → (p ≡ length s → X) → ((e : ℕ) → Next s p e → X) → ((k : Refusal) → p < length s → frame_at [] [] s p ≡ stop k p → rest s p ≡ stops k p → X) → X
+  rest_case h f g i =
       or_else (length s) p (λ l. f (omega arith))
       (λ l. front_case [] [] p (drop p s) (λ n x e. g (p + length (take n (drop p s))) (next_is h (inside l ∙ e)))
-      (λ k e. let u = inside l ∙ e in i k l u (list-step [] [] s p h ∙ rw u)))
+      (λ k e. let u = inside l ∙ e in i k l u (list_step [] [] s p h ∙ rw u)))
 
   pub stopped : {r : Place} {k : Refusal} {j : ℕ} → p < length s → r ≡ step_to (frame_at [] [] s p) → r ≡ Refused k j → rest s p ≡ stops k j
   stopped {r} {k} {j} h u v = front_case [] [] p (drop p s) (λ n x e. absurd (let t = rw (inside h ∙ e) at u in let z : ◌≡◌ {A = ℕ} 0 1 = cc in omega arith))
@@ -105,7 +105,7 @@ module _ (s : List ℕ) (p : ℕ) where
       let t = rw f at u in
       let a : i ≡ k = cc in
       let b : p ≡ j = cc in
-      list-step [] [] s p (omega arith) ∙ rw f (rw (a, b)))
+      list_step [] [] s p (omega arith) ∙ rw f (rw (a, b)))
 
 -- ---- what the loops make of it
 
@@ -121,40 +121,40 @@ module _ {s : List ℕ} {p e : ℕ} (x : Next s p e) where
   size_is : e - p ≡ x.n
   size_is = let f = x.on in omega arith
 
-  pub fit-turn : e - p ≤ 65535 → fits (rest s e) ≡ fits (rest s p)
+  pub fit_turn : e - p ≤ 65535 → fits (rest s e) ≡ fits (rest s p)
   unfolding fits
-  fit-turn h = rw (x.is, le-ltb 65535 x.n (let f = size_is in omega arith))
+  fit_turn h = rw (x.is, le-ltb 65535 x.n (let f = size_is in omega arith))
 
-  pub fit-long : 65535 < e - p → Refused R.Capture p ≡ fits (rest s p)
+  pub fit_long : 65535 < e - p → Refused R.Capture p ≡ fits (rest s p)
   unfolding fits
-  fit-long h = rw (x.is, lt-ltb 65535 x.n (let f = size_is in omega arith))
+  fit_long h = rw (x.is, lt-ltb 65535 x.n (let f = size_is in omega arith))
 
-  pub frames-turn : frames_in s (rest s p) ≡ take (e - p) (drop p s) ∷ frames_in s (rest s e)
+  pub frames_turn : frames_in s (rest s p) ≡ take (e - p) (drop p s) ∷ frames_in s (rest s e)
   unfolding frames_in
-  frames-turn = rw (x.is, size_is)
+  frames_turn = rw (x.is, size_is)
 
 module _ (s : List ℕ) (p : ℕ) {k : Refusal} {j : ℕ} (x : rest s p ≡ stops k j) where
-  pub count-stop : (m : ℕ) → Refused k j ≡ counted m (rest s p)
+  pub count_stop : (m : ℕ) → Refused k j ≡ counted m (rest s p)
   unfolding counted
-  count-stop m = rw x
+  count_stop m = rw x
 
-  pub fit-stop : Refused k j ≡ fits (rest s p)
+  pub fit_stop : Refused k j ≡ fits (rest s p)
   unfolding fits
-  fit-stop = rw x
+  fit_stop = rw x
 
-  pub frames-stop : frames_in s (rest s p) ≡ []
+  pub frames_stop : frames_in s (rest s p) ≡ []
   unfolding frames_in
-  frames-stop = rw x
+  frames_stop = rw x
 
 module _ (s : List ℕ) (p : ℕ) (x : rest s p ≡ ends p) where
-  pub count-end : (m : ℕ) → At m ≡ counted m (rest s p)
+  pub count_end : (m : ℕ) → At m ≡ counted m (rest s p)
   unfolding counted
-  count-end m = rw x
+  count_end m = rw x
 
-  pub fit-end : At p ≡ fits (rest s p)
+  pub fit_end : At p ≡ fits (rest s p)
   unfolding fits
-  fit-end = rw x
+  fit_end = rw x
 
-  pub frames-end : frames_in s (rest s p) ≡ []
+  pub frames_end : frames_in s (rest s p) ≡ []
   unfolding frames_in
-  frames-end = rw x
+  frames_end = rw x

@@ -38,30 +38,30 @@ head_inv big s = go (ltb (length s) 24) refl
     go false e f = ltb-false (length s) 24 e
 
 module _ (s : List ℕ) where
-  pub order-little : {b : Bool} → b ≡ headed false s → b ≡ true → order_of s ≡ some false
+  pub order_little : {b : Bool} → b ≡ headed false s → b ≡ true → order_of s ≡ some false
   unfolding order_of
-  order-little e f = rw (← e, f)
+  order_little e f = rw (← e, f)
 
-  pub order-big : {b c : Bool} → b ≡ headed false s → b ≡ false → c ≡ headed true s → c ≡ true → order_of s ≡ some true
+  pub order_big : {b c : Bool} → b ≡ headed false s → b ≡ false → c ≡ headed true s → c ≡ true → order_of s ≡ some true
   unfolding order_of
-  order-big e f g h = rw (← e, f, ← g, h)
+  order_big e f g h = rw (← e, f, ← g, h)
 
-  pub order-none : {b c : Bool} → b ≡ headed false s → b ≡ false → c ≡ headed true s → c ≡ false → order_of s ≡ none
+  pub order_none : {b c : Bool} → b ≡ headed false s → b ≡ false → c ≡ headed true s → c ≡ false → order_of s ≡ none
   unfolding order_of
-  order-none e f g h = rw (← e, f, ← g, h)
+  order_none e f g h = rw (← e, f, ← g, h)
 
   -- it is that of the header
-  pub order-inv : {big : Bool} → order_of s ≡ some big → headed big s ≡ true
+  pub order_inv : {big : Bool} → order_of s ≡ some big → headed big s ≡ true
   unfolding order_of
-  order-inv {big} = go (headed false s) (headed true s) refl refl
+  order_inv {big} = go (headed false s) (headed true s) refl refl
     where
       go : (a b : Bool) → headed false s ≡ a → headed true s ≡ b → cond a (some false) (cond b (some true) none) ≡ some big → headed big s ≡ true
       go true b e f g = let k : false ≡ big = cc g in rw (← k) e
       go false true e f g = let k : true ≡ big = cc g in rw (← k) f
       go false false e f g = absurd (let z : ◌≡◌ {A = ℕ} 0 1 = cc g in omega arith)
 
-  pub order-long : {big : Bool} → order_of s ≡ some big → 24 ≤ length s
-  order-long {big} e = head_inv big s (order-inv e)
+  pub order_long : {big : Bool} → order_of s ≡ some big → 24 ≤ length s
+  order_long {big} e = head_inv big s (order_inv e)
 
 -- ---- import
 
@@ -81,9 +81,9 @@ tallied_held complete b n {b'} {n'} e =
 tallied_held (broken p) b n e = absurd (let z : ◌≡◌ {A = ℕ} 0 1 = cc e in omega arith)
 
 module _ (file o : List ℕ) (t : List (List ℕ)) where
-  pub import-none : order_of file ≡ none → Imports file o t o t (I.Refused R.Capture 0)
+  pub import_none : order_of file ≡ none → Imports file o t o t (I.Refused R.Capture 0)
   unfolding imported packets_of tallied
-  import-none e = record { answer = rw e; bytes = rw e; times = rw e }
+  import_none e = record { answer = rw e; bytes = rw e; times = rw e }
 
   module _ {big : Bool} (e : order_of file ≡ some big) where
     in_order : packets_of file ≡ from big file 24
@@ -95,30 +95,30 @@ module _ (file o : List ℕ) (t : List (List ℕ)) where
       unfolding imported
       told = rw (in_order, f)
 
-      pub import-refused : {k : Refusal} {j : ℕ} → r ≡ I.Refused k j → Imports file o t o t r
-      import-refused g = record { answer = rw (told, g); bytes = rw (told, g); times = rw (told, g) }
+      pub import_refused : {k : Refusal} {j : ℕ} → r ≡ I.Refused k j → Imports file o t o t r
+      import_refused g = record { answer = rw (told, g); bytes = rw (told, g); times = rw (told, g) }
 
       module _ {b n : ℕ} (g : r ≡ I.Held b n) where
-        pub import-rows : length t < n → Imports file o t o t (I.Refused R.TableFull 0)
-        import-rows h = let u = lt-ltb (length t) n h in record { answer = rw (told, g, u); bytes = rw (told, g, u); times = rw (told, g, u) }
+        pub import_rows : length t < n → Imports file o t o t (I.Refused R.TableFull 0)
+        import_rows h = let u = lt-ltb (length t) n h in record { answer = rw (told, g, u); bytes = rw (told, g, u); times = rw (told, g, u) }
 
         module _ (h : n ≤ length t) where
-          pub import-room : length o < b → Imports file o t o t (I.Refused R.NoRoom 0)
-          import-room k =
+          pub import_room : length o < b → Imports file o t o t (I.Refused R.NoRoom 0)
+          import_room k =
               let u = le-ltb (length t) n h in
               let v = lt-ltb (length o) b k in
               record { answer = rw (told, g, u, v); bytes = rw (told, g, u, v); times = rw (told, g, u, v) }
 
-          pub import-ready : b ≤ length o → Roomy file (from big file 24) o t
-          import-ready k =
+          pub import_ready : b ≤ length o → Roomy file (from big file 24) o t
+          import_ready k =
               let i = tallied_held (from big file 24) 0 0 (sym f ∙ g) in
               let x = i.0 in
               let y = i.1 in
-              record { head = order-long file e; room = omega arith; rows = omega arith }
+              record { head = order_long file e; room = omega arith; rows = omega arith }
 
-          pub import-held : {o' : List ℕ} {t' : List (List ℕ)} → b ≤ length o
+          pub import_held : {o' : List ℕ} {t' : List (List ℕ)} → b ≤ length o
               → (o' ≡ over o 0 (bytes_in (from big file 24))) × (t' ≡ times_in (from big file 24) ++ drop (length (times_in (from big file 24))) t) → Imports file o t o' t' (I.Held b n)
-          import-held k (x, y) =
+          import_held k (x, y) =
               let u = le-ltb (length t) n h in
               let v = le-ltb (length o) b k in
               record {
@@ -130,39 +130,39 @@ module _ (file o : List ℕ) (t : List (List ℕ)) where
 -- ---- export
 
 module _ {room len n : ℕ} {b : Bool} (x : RoomFor room len n b) where
-  pub room-yes : b ≡ true → 24 + len + 16 * n ≤ room
-  room-yes e = rw e at x.is
+  pub room_yes : b ≡ true → 24 + len + 16 * n ≤ room
+  room_yes e = rw e at x.is
 
-  pub room-no : b ≡ false → room < 24 + len + 16 * n
-  room-no e = rw e at x.is
+  pub room_no : b ≡ false → room < 24 + len + 16 * n
+  room_no e = rw e at x.is
 
 module _ (s : List ℕ) (ts : List (List ℕ)) (o : List ℕ) {p : Place} (c : p ≡ counted 0 (cut_up s)) where
-  pub export-cut : {k : Refusal} {j : ℕ} → p ≡ Refused k j → Exports s ts o o p
+  pub export_cut : {k : Refusal} {j : ℕ} → p ≡ Refused k j → Exports s ts o o p
   unfolding exported
-  export-cut e = record { answer = rw (← c, e); bytes = rw (← c, e) }
+  export_cut e = record { answer = rw (← c, e); bytes = rw (← c, e) }
 
   module _ {n : ℕ} {q : Place} (e : p ≡ At n) (f : q ≡ fits (cut_up s)) where
-    pub export-long : {k : Refusal} {j : ℕ} → q ≡ Refused k j → Exports s ts o o q
+    pub export_long : {k : Refusal} {j : ℕ} → q ≡ Refused k j → Exports s ts o o q
     unfolding exported
-    export-long g = record { answer = rw (← c, e, ← f, g); bytes = rw (← c, e, ← f, g) }
+    export_long g = record { answer = rw (← c, e, ← f, g); bytes = rw (← c, e, ← f, g) }
 
     module _ {j : ℕ} (g : q ≡ At j) where
       all : Whole s (cut_up s) 0 0 n
       all = whole s (cut_up s) 0 (omega arith) (sym (starts s)) (sym c ∙ e) (sym f ∙ g)
 
-      pub frames-many : length (frames_in s (cut_up s)) ≡ n
-      frames-many = let h = all.count in omega arith
+      pub frames_many : length (frames_in s (cut_up s)) ≡ n
+      frames_many = let h = all.count in omega arith
 
-      pub export-rows : length ts < n → Exports s ts o o (Refused R.TableFull 0)
+      pub export_rows : length ts < n → Exports s ts o o (Refused R.TableFull 0)
       unfolding exported
-      export-rows h =
+      export_rows h =
           let u = lt-ltb (length ts) n h in
-          record { answer = rw (← c, e, ← f, g, frames-many, u); bytes = rw (← c, e, ← f, g, frames-many, u) }
+          record { answer = rw (← c, e, ← f, g, frames_many, u); bytes = rw (← c, e, ← f, g, frames_many, u) }
 
       module _ (h : n ≤ length ts) where
         records_long : length (records s ts) ≡ length s + 16 * n
         records_long =
-            let m = frames-many in
+            let m = frames_many in
             let j = ap length all.joins in
             let l = records_length ts (frames_in s (cut_up s)) (omega arith) in
             omega arith
@@ -174,23 +174,23 @@ module _ (s : List ℕ) (ts : List (List ℕ)) (o : List ℕ) {p : Place} (c : p
             let m = records_long in
             omega arith
 
-        pub export-room : length o < 24 + length s + 16 * n → Exports s ts o o (Refused R.NoRoom 0)
+        pub export_room : length o < 24 + length s + 16 * n → Exports s ts o o (Refused R.NoRoom 0)
         unfolding exported
-        export-room k =
+        export_room k =
             let u = le-ltb (length ts) n h in
             let v = lt-ltb (length o) (24 + length s + 16 * n) k in
-            record { answer = rw (← c, e, ← f, g, frames-many, u, file_long, v); bytes = rw (← c, e, ← f, g, frames-many, u, file_long, v) }
+            record { answer = rw (← c, e, ← f, g, frames_many, u, file_long, v); bytes = rw (← c, e, ← f, g, frames_many, u, file_long, v) }
 
         module _ (k : 24 + length s + 16 * n ≤ length o) where
-          pub export-ready : {o1 : List ℕ} → o1 ≡ over o 0 header → length o1 ≡ length o → Ready s ts o1
-          export-ready i l =
-              let m = frames-many in
+          pub export_ready : {o1 : List ℕ} → o1 ≡ over o 0 header → length o1 ≡ length o → Ready s ts o1
+          export_ready i l =
+              let m = frames_many in
               let r = records_long in
               record { rows = omega arith; room = omega arith }
 
-          pub export-held : {o1 o2 : List ℕ} {m : ℕ} → o1 ≡ over o 0 header → o2 ≡ over o1 24 (records s ts) → m ≡ 24 + length s + 16 * n → Exports s ts o o2 (At m)
+          pub export_held : {o1 o2 : List ℕ} {m : ℕ} → o1 ≡ over o 0 header → o2 ≡ over o1 24 (records s ts) → m ≡ 24 + length s + 16 * n → Exports s ts o o2 (At m)
           unfolding exported
-          export-held {o1} {o2} {m} x y z =
+          export_held {o1} {o2} {m} x y z =
               let u = le-ltb (length ts) n h in
               let v = le-ltb (length o) (24 + length s + 16 * n) k in
               let l = head_length in
@@ -200,6 +200,6 @@ module _ (s : List ℕ) (ts : List (List ℕ)) (o : List ℕ) {p : Place} (c : p
               = y ∙ ap (λ (a : List ℕ). over a 24 (records s ts)) x ∙ ap (λ i. over (over o 0 header) i (records s ts)) w
               ∙ over_then o 0 header (records s ts) (omega arith) ∙ over_front o (exported_file s ts) in
               record {
-                answer = rw (← c, e, ← f, g, frames-many, u, file_long, v, z);
-                bytes = rw (← c, e, ← f, g, frames-many, u, file_long, v) (both ∙ rw file_long);
+                answer = rw (← c, e, ← f, g, frames_many, u, file_long, v, z);
+                bytes = rw (← c, e, ← f, g, frames_many, u, file_long, v) (both ∙ rw file_long);
               }

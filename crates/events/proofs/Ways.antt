@@ -50,21 +50,21 @@ same_not {a} {b} e = rw (ne_eqb a b e)
 -- ---- messages of their own rules
 
 module _ {r : Request} where
-  pub attach-is : (m : Tattach) {a : ℕ} → a ≡ unless_none m.afid.0 → r ≡ asks 104 m.fid.0 a m.fid.0 → r ≡ asked_by 104 (tattach m)
+  pub attach_is : (m : Tattach) {a : ℕ} → a ≡ unless_none m.afid.0 → r ≡ asks 104 m.fid.0 a m.fid.0 → r ≡ asked_by 104 (tattach m)
   unfolding asked_by
-  attach-is m e f = f ∙ rw e
+  attach_is m e f = f ∙ rw e
 
-  pub xattr-is : (m : Txattrwalk) {a : ℕ} → a ≡ unless_same m.newfid.0 m.fid.0 → r ≡ asks 30 a m.fid.0 m.newfid.0 → r ≡ asked_by 30 (txattrwalk m)
+  pub xattr_is : (m : Txattrwalk) {a : ℕ} → a ≡ unless_same m.newfid.0 m.fid.0 → r ≡ asks 30 a m.fid.0 m.newfid.0 → r ≡ asked_by 30 (txattrwalk m)
   unfolding asked_by
-  xattr-is m e f = f ∙ rw e
+  xattr_is m e f = f ∙ rw e
 
-  pub flush-is : (m : Tflush) → r ≡ asks 108 none none none → ◌≡◌ {A = Request} (record { ty = r.ty; new = r.new; known = r.known; to = r.to; old = m.oldtag.0; count = r.count; start = r.start; len = r.len }) (asked_by 108 (tflush m))
+  pub flush_is : (m : Tflush) → r ≡ asks 108 none none none → ◌≡◌ {A = Request} (record { ty = r.ty; new = r.new; known = r.known; to = r.to; old = m.oldtag.0; count = r.count; start = r.start; len = r.len }) (asked_by 108 (tflush m))
   unfolding asked_by
-  flush-is m e = rw e
+  flush_is m e = rw e
 
-  pub create-is : (m : Tlcreate) → r ≡ asks 14 none m.fid.0 m.fid.0 → ◌≡◌ {A = Request} (record { ty = r.ty; new = r.new; known = r.known; to = r.to; old = r.old; count = r.count; start = m.name.start; len = m.name.len }) (asked_by 14 (tlcreate m))
+  pub create_is : (m : Tlcreate) → r ≡ asks 14 none m.fid.0 m.fid.0 → ◌≡◌ {A = Request} (record { ty = r.ty; new = r.new; known = r.known; to = r.to; old = r.old; count = r.count; start = m.name.start; len = m.name.len }) (asked_by 14 (tlcreate m))
   unfolding asked_by
-  create-is m e = rw e
+  create_is m e = rw e
 
   pub walk_is : (m : Twalk) {a : ℕ} → a ≡ unless_same m.newfid.0 m.fid.0 → r ≡ asks 110 a m.fid.0 m.newfid.0
       → ◌≡◌ {A = Request} (record { ty = r.ty; new = r.new; known = r.known; to = r.to; old = r.old; count = m.wnames.count; start = m.wnames.elements.start; len = m.wnames.elements.len }) (asked_by 110 (twalk m))
@@ -139,21 +139,21 @@ odd N.UnlinkAt = refl
 odd (N.Lerror m) = refl
 
 module _ {c : Body} where
-  pub a-request : {b : Tbody} {m : Tmessage} {n : ℕ} {r : Request} → c ≡ B.Request b → b ≡ T.Message m n → r ≡ asked_by (type_t m) (values_t m) → W.Asks r ≡ what_in (view_body c)
+  pub a_request : {b : Tbody} {m : Tmessage} {n : ℕ} {r : Request} → c ≡ B.Request b → b ≡ T.Message m n → r ≡ asked_by (type_t m) (values_t m) → W.Asks r ≡ what_in (view_body c)
   unfolding view_body view_t
-  a-request {m = m} e f h = rw (e, f, even m, h)
+  a_request {m = m} e f h = rw (e, f, even m, h)
 
-  pub no-request : {b : Tbody} {k : Refusal} {at : ℕ} → c ≡ B.Request b → b ≡ T.Refused k at → W.Refused k ≡ what_in (view_body c)
+  pub no_request : {b : Tbody} {k : Refusal} {at : ℕ} → c ≡ B.Request b → b ≡ T.Refused k at → W.Refused k ≡ what_in (view_body c)
   unfolding view_body view_t
-  no-request e f = rw (e, f)
+  no_request e f = rw (e, f)
 
-  pub a-reply : {b : Rbody} {m : Rmessage} {n q : ℕ} → c ≡ B.Reply b → b ≡ Q.Message m n → q ≡ qids_in (values_r m) → W.Answers q ≡ what_in (view_body c)
+  pub a_reply : {b : Rbody} {m : Rmessage} {n q : ℕ} → c ≡ B.Reply b → b ≡ Q.Message m n → q ≡ qids_in (values_r m) → W.Answers q ≡ what_in (view_body c)
   unfolding view_body view_r
-  a-reply {m = m} e f h = rw (e, f, odd m, h)
+  a_reply {m = m} e f h = rw (e, f, odd m, h)
 
-  pub no-reply : {b : Rbody} {k : Refusal} {at : ℕ} → c ≡ B.Reply b → b ≡ Q.Refused k at → W.Refused k ≡ what_in (view_body c)
+  pub no_reply : {b : Rbody} {k : Refusal} {at : ℕ} → c ≡ B.Reply b → b ≡ Q.Refused k at → W.Refused k ≡ what_in (view_body c)
   unfolding view_body view_r
-  no-reply e f = rw (e, f)
+  no_reply e f = rw (e, f)
 
 pub event_is : {w : What} (ty tag : ℕ) (a : Answer) → w ≡ what_in a → ◌≡◌ {A = Event} (record { ty = ty; tag = tag; what = w }) (event_of ty tag a)
 unfolding event_of

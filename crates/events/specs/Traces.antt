@@ -29,7 +29,7 @@ use Rattle.framing.specs.Stretch.{type_in, tag_in, table_for, answer_in, answer_
 use Rattle.framing.specs.ListingLaws.{front_case, list_next}
 use Rattle.session.specs.Rules.{free, fresh, stepped}
 use Rattle.session.specs.Own.{OwnOf, own_answers}
-use Rattle.session.specs.Sound.{Fair, FairEvent, Sound, fresh_sound, step-sound}
+use Rattle.session.specs.Sound.{Fair, FairEvent, Sound, fresh_sound, step_sound}
 use Rattle.session.specs.declared.Request.{Request}
 use Rattle.session.specs.declared.Session.{Session}
 use Rattle.session.specs.declared.What.TheVariants as W
@@ -278,7 +278,7 @@ tag_most f b =
 module _ (bs : List ℕ) (w : Bytes bs) where
   one_frame : (s : Session) (p ty : ℕ) (f r : List ℕ) → Bytes f → p ≤ length bs → drop p bs ≡ f ++ r → Sound bs s → Sound bs (stepped bs s (event_of ty (tag_in f) (raise p (answer_of table_t table_r f)))).session
   unfolding event_of
-  one_frame s p ty f r b v e d = step-sound w d (event_of ty (tag_in f) (raise p (answer_of table_t table_r f))) (tag_most f b) (fair_event bs p f r b v e)
+  one_frame s p ty f r b v e d = step_sound w d (event_of ty (tag_in f) (raise p (answer_of table_t table_r f))) (tag_most f b) (fair_event bs p f r b v e)
 
   one_own : (s : Session) (p ty : ℕ) (f : List ℕ) → Bytes f → Sound bs s → OwnOf (what_in (raise p (answer_of table_t table_r f))) (stepped bs s (event_of ty (tag_in f) (raise p (answer_of table_t table_r f)))).answer
   unfolding event_of
@@ -315,8 +315,8 @@ module _ (bs : List ℕ) (w : Bytes bs) where
   unfolding listing
   from_fresh = from_any (suc (length bs)) bs 0 fresh (omega arith) w (omega arith) refl (fresh_sound bs)
 
-  pub recording-sound : Sound bs (leaves bs fresh (listing table_t table_r bs))
-  recording-sound = from_fresh.0
+  pub recording_sound : Sound bs (leaves bs fresh (listing table_t table_r bs))
+  recording_sound = from_fresh.0
 
-  pub recording-own : AllOwn bs fresh (listing table_t table_r bs)
-  recording-own = from_fresh.1
+  pub recording_own : AllOwn bs fresh (listing table_t table_r bs)
+  recording_own = from_fresh.1

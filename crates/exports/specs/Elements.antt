@@ -106,13 +106,13 @@ module _ (lent : List ℕ) (c x y i : ℕ) (b : Bytes lent) (m : length lent < 2
       let lies = span_inv lent x y e3 in
       rw (e2, f) (omega arith)))
 
-  pub name-lies : (e : Result Value) → e ≡ element_at strs lent (part c x y) i → Ends e
-  name-lies (bad k at) h = tt
-  name-lies (ok v r) h = let n = name_within (sym h) in omega arith
+  pub name_lies : (e : Result Value) → e ≡ element_at strs lent (part c x y) i → Ends e
+  name_lies (bad k at) h = tt
+  name_lies (ok v r) h = let n = name_within (sym h) in omega arith
 
-  pub qid-lies : (e : Result Value) → e ≡ element_at quids lent (part c x y) i → Ends e
-  qid-lies (bad k at) h = tt
-  qid-lies (ok v r) h = let n = qid_within (sym h) in omega arith
+  pub qid_lies : (e : Result Value) → e ≡ element_at quids lent (part c x y) i → Ends e
+  qid_lies (bad k at) h = tt
+  qid_lies (ok v r) h = let n = qid_within (sym h) in omega arith
 
 -- ---- what is answered for it
 
@@ -121,13 +121,13 @@ module _ (e : Element) where
   unfolding view_element
   ends_at h n = rw h at n
 
-  pub spanned-found : {before after : List ℕ} {s : Span} {r : Outcome} → e ≡ E.Found s → after ≡ stored before 0 (s.start ∷ s.len ∷ []) → r ≡ ended (At (s.start + s.len)) → Spanned (view_element e) before after r
+  pub spanned_found : {before after : List ℕ} {s : Span} {r : Outcome} → e ≡ E.Found s → after ≡ stored before 0 (s.start ∷ s.len ∷ []) → r ≡ ended (At (s.start + s.len)) → Spanned (view_element e) before after r
   unfolding view_element
-  spanned-found h a x = rw h (record { is = record { answer = x; left = a } })
+  spanned_found h a x = rw h (record { is = record { answer = x; left = a } })
 
-  pub spanned-refused : {before : List ℕ} {k : Refusal} {at : ℕ} {r : Outcome} → e ≡ E.Refused k at → r ≡ ended (Refused k at) → Spanned (view_element e) before before r
+  pub spanned_refused : {before : List ℕ} {k : Refusal} {at : ℕ} {r : Outcome} → e ≡ E.Refused k at → r ≡ ended (Refused k at) → Spanned (view_element e) before before r
   unfolding view_element
-  spanned-refused h x = rw h (record { is = record { answer = x; left = refl } })
+  spanned_refused h x = rw h (record { is = record { answer = x; left = refl } })
 
 pub spanned_same : {e f : Result Value} {before after : List ℕ} {r : Outcome} → Spanned e before after r → e ≡ f → Spanned f before after r
 spanned_same s h = rw (← h) s

@@ -9,7 +9,7 @@ use Rattle.numbers.specs.declared.Place.TheVariants.{At, Refused}
 use Rattle.fields.specs.Layouts.{Layout}
 use Rattle.layouts.specs.Tables.{Row, lookup}
 use Rattle.framing.specs.Writing.{frame_out, frame_past, head_out, head_past, HeadPut}
-use Rattle.framing.specs.WritingLaws.{frame-written}
+use Rattle.framing.specs.WritingLaws.{frame_written}
 use Rattle.flat.specs.Flat.{shows_from, FlatWritten}
 use Rattle.exports.specs.Answers.{ended, Answered, wrote}
 use Rattle.exports.specs.declared.Outcome.{Outcome}
@@ -26,7 +26,7 @@ module _ {ty tag : ℕ} {ns lent o o1 o2 : List ℕ} {e q : Place} {r : Outcome}
       → Answered (ended (frame_past ty tag (shows_from l lent ns) o)) (frame_out ty tag (shows_from l lent ns) o) o2 r
   unfolding frame_out frame_past
   framed none b h x = wrote (h.bytes ∙ ap (λ z. head_out ty tag z o1) b.next ∙ b.bytes) (h.next ∙ ap (λ z. head_past z o1) b.next) x
-  framed (some l) b h x = let f = frame-written (record { bytes = b.bytes; next = b.next }) h in wrote f.bytes f.next x
+  framed (some l) b h x = let f = frame_written (record { bytes = b.bytes; next = b.next }) h in wrote f.bytes f.next x
 
 pub frame_wrote : {rows : List Row} {refusal ty tag : ℕ} {ns lent o o1 o2 : List ℕ} {e q : Place} {r : Outcome} → refusal ≡ 0
     → FlatWritten (lookup rows ty) lent ns o (At 7) o1 e → HeadPut ty tag e o1 o2 q → r ≡ ended q → FlatWrote rows refusal ty tag ns lent o o2 r

@@ -11,7 +11,7 @@ use Rattle.framing.specs.Raising.{raise, body_from}
 use Rattle.framing.specs.Stretch.{table_for, answer_of, tail_in, Step, frame, end, stop, frame_at}
 use Rattle.framing.specs.Cuts.{between, WholeAt}
 use Rattle.framing.specs.CutLaws.{length_whole, answer_there, tail_raised, frame_same}
-use Rattle.exports.specs.Answers.{outcome_of, ended}
+use Rattle.exports.specs.Answers.{outcomeOf, ended}
 use Rattle.exports.specs.declared.Outcome.{Outcome}
 
 -- a refusal of a stretch stands beside the position (F6.2)
@@ -20,28 +20,28 @@ stopped k at = record { refusal = number_of k; ty = 0; tag = 0; held = false; pl
 
 -- a frame is told by its type, its tag and the place after it; the end by its own place, and no frame
 abbrev pub step_outcome : Step → Outcome
-step_outcome (frame at size ty tag a tail next) = outcome_of ty tag true (At next)
+step_outcome (frame at size ty tag a tail next) = outcomeOf ty tag true (At next)
 step_outcome (end at) = ended (At at)
 step_outcome (stop k at) = stopped k at
 
 -- ---- a whole frame
 
 module _ {s : List ℕ} {p ty tag e : ℕ} (w : WholeAt s p ty tag e) where
-  pub step-there : outcome_of ty tag true (At e) ≡ step_outcome (frame_at table_t table_r s p)
-  step-there =
+  pub step_there : outcomeOf ty tag true (At e) ≡ step_outcome (frame_at table_t table_r s p)
+  step_there =
       let h = w.seven in
       let z = length_whole w in
       let n : e ≡ p + length (between p e s) = omega arith in
-      let f : outcome_of ty tag true (At (p + length (between p e s))) ≡ step_outcome (frame_at table_t table_r s p) = rw (w.ty, w.tag) (ap step_outcome (w.is table_t table_r)) in
-      ap (λ m. outcome_of ty tag true (At m)) n ∙ f
+      let f : outcomeOf ty tag true (At (p + length (between p e s))) ≡ step_outcome (frame_at table_t table_r s p) = rw (w.ty, w.tag) (ap step_outcome (w.is table_t table_r)) in
+      ap (λ m. outcomeOf ty tag true (At m)) n ∙ f
 
   -- what the reader of its direction answers, lent the bytes to its end
   abbrev said : Answer
   said = body_from (table_for table_t table_r ty) ty (take e s) p
 
   -- what is listed of a frame (F6.3 to F6.5, F6.9)
-  pub listed-there : Bytes s → frame p (e - p) ty tag said (tail_in (e - p) said) e ≡ frame_at table_t table_r s p
-  listed-there b =
+  pub listed_there : Bytes s → frame p (e - p) ty tag said (tail_in (e - p) said) e ≡ frame_at table_t table_r s p
+  listed_there b =
       let h = w.seven in
       let z = length_whole w in
       let a : said ≡ raise p (answer_of table_t table_r (between p e s)) = answer_there table_t table_r b w in

@@ -13,7 +13,7 @@ use numbers::{Place, Refusal};
 use pairs::Mark;
 
 // The frame is the bytes from the position to the place; at the end, where there is none, the place is the position. What is in it, the
-// reader of its direction in `stretch_exports` says, lent the bytes up to that place (`listed-there`).
+// reader of its direction in `stretch_exports` says, lent the bytes up to that place (`listed_there`).
 #[unsafe(no_mangle)]
 pub extern "C" fn sheafsledge_frame_at(bytes: &[u8], position: usize) -> Outcome
     ensures { result ≡ step_outcome (frame_at table_t table_r bytes.now position) }

@@ -17,9 +17,9 @@ use Rattle.numbers.specs.declared.Place.{Place}
 use Rattle.numbers.specs.declared.Place.TheVariants.{At, Refused}
 use Rattle.utf8.specs.Utf8.{◌to◌, in_range, chars, utf8, no_zero}
 use Rattle.utf8.specs.Plain.{plain_at, plain_each}
-use Rattle.utf8.specs.Utf8Laws.{chars_over, plain_turn, plain-full, full_over}
+use Rattle.utf8.specs.Utf8Laws.{chars_over, plain_turn, plain_full, full_over}
 use Rattle.strings.specs.Strings.{ok_text, read_string, string_bytes}
-use Rattle.strings.specs.SpanLaws.{string_cut, string_held, string_short, text-refused, text-good}
+use Rattle.strings.specs.SpanLaws.{string_cut, string_held, string_short, text_refused, text_good}
 use Rattle.strings.specs.Spans.{TextCheck}
 use Rattle.fields.specs.Layouts.{read_many}
 use Rattle.fields.specs.Fields.{ManyRead}
@@ -57,7 +57,7 @@ pub from_front : (t : List ℕ) → Same t 0
 from_front t = record { form = refl; full = refl }
 
 pub plain_byte : (t : List ℕ) (i : ℕ) {p : Bool} → i < length t → p ≡ in_range (1 to 127) (get_or t i 0) → p ≡ true → Same t i → Same t (i + 1)
-plain_byte t i l e h s = record { form = plain_turn t i l e h s.form; full = plain-full t i l e h s.full }
+plain_byte t i l e h s = record { form = plain_turn t i l e h s.form; full = plain_full t i l e h s.full }
 
 -- ---- and several at once
 
@@ -65,15 +65,15 @@ module _ {s : List ℕ} {i : ℕ} where
   pub one_plain : {b : Bool} → b ≡ in_range (1 to 127) (get_or s i 0) → b ≡ true → Plains s i (i + 1)
   one_plain f h = record { each = λ j l m. let e : j ≡ i = omega arith in rw e (sym f ∙ h) }
 
-  pub eight-plain : {b : Bool} → b ≡ plain_at s i 8 → b ≡ true → Plains s i (i + 8)
-  eight-plain f h = record { each = λ j l m. plain_each s i 8 j f h l m }
+  pub eight_plain : {b : Bool} → b ≡ plain_at s i 8 → b ≡ true → Plains s i (i + 8)
+  eight_plain f h = record { each = λ j l m. plain_each s i 8 j f h l m }
 
   pub no_run : i ≤ length s → Run s i 0
   no_run l = record { held = omega arith; plain = record { each = λ j m n. absurd (omega arith) } }
 
   -- bytes from i to e, of a stretch that begins no later
-  pub some-run : {a e n : ℕ} → Plains s a e → a ≤ i → i + n ≡ e → e ≤ length s → Run s i n
-  some-run p l f h = record { held = omega arith; plain = record { each = λ j m k. p.each j (omega arith) (omega arith) } }
+  pub some_run : {a e n : ℕ} → Plains s a e → a ≤ i → i + n ≡ e → e ≤ length s → Run s i n
+  some_run p l f h = record { held = omega arith; plain = record { each = λ j m k. p.each j (omega arith) (omega arith) } }
 
 pub plain_run : (t : List ℕ) (i n : ℕ) → Run t i n → Same t i → Same t (i + n)
 plain_run t i zero r s = let e : i + 0 ≡ i = omega arith in rw e s
@@ -92,7 +92,7 @@ pub all_good : {s : List ℕ} {x y n a : ℕ} {q : Place} (i : ℕ) → length (
     → Same (take (x + y - x) (drop x s)) i
 all_good {s} {x} {y} i l c e =
     let n : x + y - x ≡ y = omega arith in
-    let g = text-good c e in
+    let g = text_good c e in
     all_same (take (x + y - x) (drop x s)) i l (rw n g.0) (rw n g.1)
 
 -- ---- the ways out
@@ -127,11 +127,11 @@ module _ {s : List ℕ} {at n : ℕ} {x : Place} where
   bytes_cut f r e h l = sym (bad_name (length s) s at n f (string_short (num_holds (omega arith) r e) h)) ∙ l.is
 
 module _ {s : List ℕ} {at n c e : ℕ} {x : Place} where
-  pub text-bad : {a : ℕ} {q : Place} {k : Refusal} {i : ℕ} → (n ≡ 0 → ⊥) → Name s at c e → TextCheck s e c (At a) q → q ≡ Refused k i → Left s at n x → q ≡ x
-  text-bad f m t h l = h ∙ sym (bad_name (length s) s at n f (string_held m.held m.lies ∙ text-refused t (drop (e + c) s) h)) ∙ l.is
+  pub text_bad : {a : ℕ} {q : Place} {k : Refusal} {i : ℕ} → (n ≡ 0 → ⊥) → Name s at c e → TextCheck s e c (At a) q → q ≡ Refused k i → Left s at n x → q ≡ x
+  text_bad f m t h l = h ∙ sym (bad_name (length s) s at n f (string_held m.held m.lies ∙ text_refused t (drop (e + c) s) h)) ∙ l.is
 
-  pub one-off : {i : ℕ} → (n ≡ 0 → ⊥) → Name s at c e → length (take (e + c - e) (drop e s)) ≤ i → Same (take (e + c - e) (drop e s)) i → Left s at n x → Left s (e + c) (n - 1) x
-  one-off {i} f m o t l =
+  pub one_off : {i : ℕ} → (n ≡ 0 → ⊥) → Name s at c e → length (take (e + c - e) (drop e s)) ≤ i → Same (take (e + c - e) (drop e s)) i → Left s at n x → Left s (e + c) (n - 1) x
+  one_off {i} f m o t l =
       let u = chars_over _ i o t.form in
       let z = sym (full_over _ i o t.full) in
       let g : read_string at (drop at s) ≡ ok (take (e + c - e) (drop e s)) (drop (e + c) s) = name_reads m ∙ rw (← u, z) in

@@ -79,18 +79,18 @@ pub data_cut : {s : List ℕ} {p a : Place} {n : ℕ} {k : Refusal} {at : ℕ} �
 data_cut r f = counted_refused counted_dat r f
 
 module _ {s : List ℕ} {p a : Place} {n e : ℕ} where
-  pub data-limit : NumRead 4 s p n a → a ≡ At e → most < n → FieldRead dat s p (span 0 0) (Refused R.DataTooLong 0)
-  data-limit r f h = refused_field (counted_held counted_dat (num_holds (omega arith) r f) ∙ rw (lt-leb n most h)) refl
+  pub data_limit : NumRead 4 s p n a → a ≡ At e → most < n → FieldRead dat s p (span 0 0) (Refused R.DataTooLong 0)
+  data_limit r f h = refused_field (counted_held counted_dat (num_holds (omega arith) r f) ∙ rw (lt-leb n most h)) refl
 
-  pub data-short : {t : Bool} → NumRead 4 s p n a → a ≡ At e → n ≤ most → Within e n (length s) t → t ≡ false → FieldRead dat s p (span 0 0) (Refused R.Short 0)
-  data-short r f h i l =
+  pub data_short : {t : Bool} → NumRead 4 s p n a → a ≡ At e → n ≤ most → Within e n (length s) t → t ≡ false → FieldRead dat s p (span 0 0) (Refused R.Short 0)
+  data_short r f h i l =
       let k = num_holds (omega arith) r f in
       let x = k.fits in
       let y = k.ends in
       refused_field (counted_held counted_dat k ∙ rw (le-leb n most h, raw_cut n e s (outside i l) (omega arith))) refl
 
-  pub data-good : {t : Bool} → NumRead 4 s p n a → a ≡ At e → n ≤ most → Within e n (length s) t → t ≡ true → FieldRead dat s p (span e n) (At (e + n))
-  data-good r f h i l =
+  pub data_good : {t : Bool} → NumRead 4 s p n a → a ≡ At e → n ≤ most → Within e n (length s) t → t ≡ true → FieldRead dat s p (span e n) (At (e + n))
+  data_good r f h i l =
       let k = num_holds (omega arith) r f in
       let m = inside i l in
       let u : read_from (read_field dat) s p ≡ ok (bytes (take n (drop e s))) (drop (e + n) s)
@@ -154,11 +154,11 @@ nowhere : {f : Field} {s : List ℕ} {p e k : Place} {v : Value} → nothing f �
 nowhere h n r = record { value = n.value ∙ sym h ∙ r.value; next = n.next ∙ r.next }
 
 module _ {s : List ℕ} {p a q : Place} {n : ℕ} {v : Value} where
-  pub quids-cut : {k : Refusal} {at : ℕ} → CountRead s p n a → a ≡ Refused k at → Nowhere v q a → FieldRead quids s p v q
-  quids-cut r f w = nowhere refl w (vector_refused vector_quids r f)
+  pub quids_cut : {k : Refusal} {at : ℕ} → CountRead s p n a → a ≡ Refused k at → Nowhere v q a → FieldRead quids s p v q
+  quids_cut r f w = nowhere refl w (vector_refused vector_quids r f)
 
-  pub quids-short : {e : ℕ} {t : Bool} → CountRead s p n a → a ≡ At e → Within e (13 * n) (length s) t → t ≡ false → Nowhere v q (Refused R.Short 0) → FieldRead quids s p v q
-  quids-short {e} r f i l w =
+  pub quids_short : {e : ℕ} {t : Bool} → CountRead s p n a → a ≡ At e → Within e (13 * n) (length s) t → t ≡ false → Nowhere v q (Refused R.Short 0) → FieldRead quids s p v q
+  quids_short {e} r f i l w =
       let k = (count_holds r f).held in
       let x = k.fits in
       let y = k.ends in
@@ -191,11 +191,11 @@ pub count_lies : {s : List ℕ} {p a : Place} {n e : ℕ} → CountRead s p n a 
 count_lies r f = let k = (count_holds r f).held in let x = k.fits in let y = k.ends in omega arith
 
 module _ {s : List ℕ} {p a q : Place} {n : ℕ} {v : Value} where
-  pub strs-cut : {k : Refusal} {at : ℕ} → CountRead s p n a → a ≡ Refused k at → Nowhere v q a → FieldRead strs s p v q
-  strs-cut r f w = nowhere refl w (vector_refused vector_strs r f)
+  pub strs_cut : {k : Refusal} {at : ℕ} → CountRead s p n a → a ≡ Refused k at → Nowhere v q a → FieldRead strs s p v q
+  strs_cut r f w = nowhere refl w (vector_refused vector_strs r f)
 
-  pub strs-bad : {e : ℕ} {m : Place} {k : Refusal} {at : ℕ} → CountRead s p n a → a ≡ At e → ManyRead n s e m → m ≡ Refused k at → Nowhere v q m → FieldRead strs s p v q
-  strs-bad {e} r f c h w =
+  pub strs_bad : {e : ℕ} {m : Place} {k : Refusal} {at : ℕ} → CountRead s p n a → a ≡ At e → ManyRead n s e m → m ≡ Refused k at → Nowhere v q m → FieldRead strs s p v q
+  strs_bad {e} r f c h w =
       let z = (count_holds r f).held in
       nowhere refl w
       (refused_field (vector_held vector_strs r f ∙ rw (← z.ends, rest_bad (read_many n e (drop e s)) (length s) (sym c.next ∙ h))) h)
@@ -232,11 +232,11 @@ run {n} {e} {g} {s} b l c h =
     record { names = names; left = left; reads = f; count = t.good.0; size = omega arith; ends = i })
 
 module _ {s : List ℕ} {p a m : Place} {n e g : ℕ} where
-  pub strs-on : Bytes s → CountRead s p n a → a ≡ At e → ManyRead n s e m → m ≡ At g → e ≤ g
-  strs-on b r f c h = let z = (run b (count_lies r f) c h).size in omega arith
+  pub strs_on : Bytes s → CountRead s p n a → a ≡ At e → ManyRead n s e m → m ≡ At g → e ≤ g
+  strs_on b r f c h = let z = (run b (count_lies r f) c h).size in omega arith
 
-  pub strs-good : Bytes s → CountRead s p n a → a ≡ At e → ManyRead n s e m → m ≡ At g → FieldRead strs s p (part n e (g - e)) (At g)
-  strs-good b r f c h =
+  pub strs_good : Bytes s → CountRead s p n a → a ≡ At e → ManyRead n s e m → m ≡ At g → FieldRead strs s p (part n e (g - e)) (At g)
+  strs_good b r f c h =
       let z = run b (count_lies r f) c h in
       let k = (count_holds r f).held in
       let u : read_from (read_field strs) s p ≡ ok (strings z.names) z.left = vector_held vector_strs r f ∙ rw (← k.ends, z.reads) in

@@ -168,9 +168,9 @@ module _ {fs : List Shape} {s : List ℕ} {p q : Place} {end : ℕ} (O : Opened 
           absurd (let c = sym h ∙ F.next ∙ ap (past_fields (map plain_of fs) (take end s)) d ∙ stays (map plain_of fs) (take end s) k at in let z : ◌≡◌ {A = ℕ} 0 1 = cc c in omega arith)
 
   -- refused: by its box, or by the text of a string in it
-  pub box-refused : {k : Refusal} {at : ℕ} → e ≡ Refused k at → FieldRead (boxed fs) s p (block (map no_slot fs)) e
+  pub box_refused : {k : Refusal} {at : ℕ} → e ≡ Refused k at → FieldRead (boxed fs) s p (block (map no_slot fs)) e
   unfolding past_field
-  box-refused {k} {at} h =
+  box_refused {k} {at} h =
       let r = why in
       record { value = sym (unvalued (boxed fs) s p r); next = h ∙ sym r }
     where

@@ -3,7 +3,7 @@ use Rattle.std.specs.Prelude.{ℕ, zero, suc, ◌+◌, ◌-◌, ◌*◌, ◌^◌
 use Rattle.std.proofs.Common.{arith, sym, ap, ap₂, ◌∙◌, append-nil, append_assoc, length-append, length-drop, take-append-drop, take_at, drop_at, length-take-le, le-leb, leb-true, eq-eqb, eqb-true}
 use Rattle.numbers.specs.Numbers.{Bytes, to_le, from_le, length_to_le, from_to, to_from, bytes_take, bytes_drop}
 use Rattle.numbers.specs.Reading.{Result, ok, bad, after, raw, read_num}
-use Rattle.numbers.specs.ReadingLaws.{after_inv, cond_inv, Reads, reads_raw, reads_nil, reads-map, reads_then, reads-after, reads_cond, reads_num, Took, took_then, took_map, took_raw, took_num}
+use Rattle.numbers.specs.ReadingLaws.{after_inv, cond_inv, Reads, reads_raw, reads_nil, reads_map, reads_then, reads_after, reads_cond, reads_num, Took, took_then, took_map, took_raw, took_num}
 use Rattle.numbers.specs.declared.Refusal.TheVariants as R
 use Rattle.strings.specs.Strings.{read_string, string_bytes, GoodText}
 use Rattle.strings.specs.StringLaws.{reads_string, took_string}
@@ -15,7 +15,7 @@ pub reads_many : (a : ℕ) (l : List (List ℕ)) → AllGood l → Reads (read_m
 unfolding read_many many_bytes
 reads_many a [] g = reads_nil _ _ (λ r. refl)
 reads_many a (b ∷ bs) (g, gs) =
-    reads-after _ (reads_string a b g) (reads-map (λ r. b ∷ r) (reads_many (a + length (string_bytes b)) bs gs))
+    reads_after _ (reads_string a b g) (reads_map (λ r. b ∷ r) (reads_many (a + length (string_bytes b)) bs gs))
 
 -- the elements after a count that passes
 reads_few : {A : Type 0} {d : List ℕ → Result A} {x : List ℕ} {a : A} (n : ℕ) → n ≤ 16 → Reads d x a → Reads (λ r. counted n (d r)) x a
@@ -24,22 +24,22 @@ reads_few n h e = reads_cond (bad R.TooManyElements 0) (le-leb n 16 h) e
 -- the fields of a box
 pub reads_cell : (a : ℕ) (c : Cell) → GoodCell c → Reads (read_cell (shape c) a) (cell_bytes c) c
 unfolding read_cell cell_bytes
-reads_cell a (amount w n) g = reads-map (amount w) (reads_num w n g)
-reads_cell a (words bs) g = reads-map words (reads_string a bs g)
+reads_cell a (amount w n) g = reads_map (amount w) (reads_num w n g)
+reads_cell a (words bs) g = reads_map words (reads_string a bs g)
 
 pub reads_cells : (a : ℕ) (cs : List Cell) → GoodCells cs → Reads (read_cells (map shape cs) a) (cells_bytes cs) cs
 unfolding read_cells cells_bytes
 reads_cells a [] g = reads_nil _ _ (λ r. refl)
 reads_cells a (c ∷ cs) (g, gs) =
-    reads-after _ (reads_cell a c g) (reads-map (λ r. c ∷ r) (reads_cells (a + length (cell_bytes c)) cs gs))
+    reads_after _ (reads_cell a c g) (reads_map (λ r. c ∷ r) (reads_cells (a + length (cell_bytes c)) cs gs))
 
 -- they end where they were written to
 pub follows : (cs : List Cell) → GoodCells cs → Reads (follow (map shape cs)) (cells_bytes cs) 0
 unfolding follow cells_bytes cell_bytes string_bytes
 follows [] g = reads_nil _ _ (λ r. refl)
-follows (amount w n ∷ cs) (g, gs) = reads-after _ (reads_num w n g) (follows cs gs)
+follows (amount w n ∷ cs) (g, gs) = reads_after _ (reads_num w n g) (follows cs gs)
 follows (words bs ∷ cs) (g, gs) =
-    rw (append_assoc (to_le 2 (length bs)) bs (cells_bytes cs)) (reads-after _ (reads_num 2 (length bs) g.short) (reads-after _ (reads_raw (length bs) bs refl) (follows cs gs)))
+    rw (append_assoc (to_le 2 (length bs)) bs (cells_bytes cs)) (reads_after _ (reads_num 2 (length bs) g.short) (reads_after _ (reads_raw (length bs) bs refl) (follows cs gs)))
 
 -- so their count, their size and they agree
 agree : (cs : List Cell) → Good (box cs) → agrees (map shape cs) (to_le 2 (length (cells_bytes cs)) ++ cells_bytes cs) ≡ true
@@ -66,22 +66,22 @@ box_back a cs r g =
 
 pub reads_field : (a : ℕ) (i : Item) → Good i → Reads (read_field (kind i) a) (item_bytes i) i
 unfolding read_field item_bytes
-reads_field a (number w n) g = reads-map (number w) (reads_num w n g)
-reads_field a (string bs) g = reads-map string (reads_string a bs g)
+reads_field a (number w n) g = reads_map (number w) (reads_num w n g)
+reads_field a (string bs) g = reads_map string (reads_string a bs g)
 reads_field a (bytes bs) g =
-    reads-after _ (reads_num 4 (length bs) (omega arith))
-    (reads_cond (bad R.DataTooLong 0) (le-leb (length bs) most (omega arith)) (reads-map bytes (reads_raw (length bs) bs refl)))
-reads_field a (strings l) g = reads-after _ (reads_num 2 (length l) (let h = g.0 in omega arith)) (reads_few (length l) g.0 (reads-map strings (reads_many (a + 2) l g.1)))
-reads_field a (qids n bs) g = reads-after _ (reads_num 2 n (let h = g.0 in omega arith)) (reads_few n g.0 (reads-map (qids n) (reads_raw (13 * n) bs g.1)))
+    reads_after _ (reads_num 4 (length bs) (omega arith))
+    (reads_cond (bad R.DataTooLong 0) (le-leb (length bs) most (omega arith)) (reads_map bytes (reads_raw (length bs) bs refl)))
+reads_field a (strings l) g = reads_after _ (reads_num 2 (length l) (let h = g.0 in omega arith)) (reads_few (length l) g.0 (reads_map strings (reads_many (a + 2) l g.1)))
+reads_field a (qids n bs) g = reads_after _ (reads_num 2 n (let h = g.0 in omega arith)) (reads_few n g.0 (reads_map (qids n) (reads_raw (13 * n) bs g.1)))
 reads_field a (box cs) g =
-    reads-after _ (reads_num 2 (2 + length (cells_bytes cs)) g.0)
+    reads_after _ (reads_num 2 (2 + length (cells_bytes cs)) g.0)
     (reads_then _ (λ r. box_back a cs r g) (reads_raw (2 + length (cells_bytes cs)) (to_le 2 (length (cells_bytes cs)) ++ cells_bytes cs) (simp (length-append, length_to_le))))
 
 pub reads_fields : (a : ℕ) (is : List Item) → Goods is → Reads (read_fields (map kind is) a) (items_bytes is) is
 unfolding read_fields items_bytes
 reads_fields a [] g = reads_nil _ _ (λ r. refl)
 reads_fields a (i ∷ is) (g, gs) =
-    reads-after _ (reads_field a i g) (reads-map (λ r. i ∷ r) (reads_fields (a + length (item_bytes i)) is gs))
+    reads_after _ (reads_field a i g) (reads_map (λ r. i ∷ r) (reads_fields (a + length (item_bytes i)) is gs))
 
 -- ---- write after read
 

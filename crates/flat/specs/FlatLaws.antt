@@ -33,11 +33,11 @@ low_is w n h l =
 -- ---- a body that is read flat
 
 module _ {l : Layout} {s ns : List ℕ} {p e : Place} {vs : List Value} (f : Fields l s p vs e) where
-  pub flat-known : {a : ℕ} {ms : List ℕ} → e ≡ At a → ms ≡ stored ns 0 (flat_values vs) → FlatRead (some l) s p ns ms e
-  flat-known h g = record { values = g ∙ ap (λ q. laid q vs ns) (sym h ∙ f.next) ∙ ap (λ (v : List Value). laid (past_fields l s p) v ns) f.values; next = f.next }
+  pub flat_known : {a : ℕ} {ms : List ℕ} → e ≡ At a → ms ≡ stored ns 0 (flat_values vs) → FlatRead (some l) s p ns ms e
+  flat_known h g = record { values = g ∙ ap (λ q. laid q vs ns) (sym h ∙ f.next) ∙ ap (λ (v : List Value). laid (past_fields l s p) v ns) f.values; next = f.next }
 
-  pub flat-refused : {k : Refusal} {at : ℕ} → e ≡ Refused k at → FlatRead (some l) s p ns ns e
-  flat-refused h = record { values = ap (λ q. laid q (values_at l s p) ns) (sym h ∙ f.next); next = f.next }
+  pub flat_refused : {k : Refusal} {at : ℕ} → e ≡ Refused k at → FlatRead (some l) s p ns ns e
+  flat_refused h = record { values = ap (λ q. laid q (values_at l s p) ns) (sym h ∙ f.next); next = f.next }
 
 -- one that holds nothing
 pub flat_empty : {s ns : List ℕ} (p : Place) → FlatRead (some []) s p ns ns p
@@ -80,11 +80,11 @@ past_short : (w a : ℕ) (s : List ℕ) → 0 < w → length s < a + w → past_
 past_short w a s o h = sym (number_field (num_short {p = At a} {t = false} o refl (record { is = h }) refl)).next
 
 module _ {n a : ℕ} {s : List ℕ} {p : Place} (e : p ≡ At a) {t : Bool} (i : Within a n (length s) t) where
-  pub skip-held : t ≡ true → Skipped n s p (At (a + n))
-  skip-held h = record { is = rw (e, le-leb (a + n) (length s) (inside i h)) }
+  pub skip_held : t ≡ true → Skipped n s p (At (a + n))
+  skip_held h = record { is = rw (e, le-leb (a + n) (length s) (inside i h)) }
 
-  pub skip-short : t ≡ false → Skipped n s p (Refused R.Short 0)
-  skip-short h = record { is = rw (e, lt-leb (a + n) (length s) (outside i h)) }
+  pub skip_short : t ≡ false → Skipped n s p (Refused R.Short 0)
+  skip_short h = record { is = rw (e, lt-leb (a + n) (length s) (outside i h)) }
 
 skip_on : (w n a : ℕ) (s : List ℕ) → skipped n s (At (a + w)) ≡ skipped (w + n) s (At a)
 skip_on w n a s = let z : a + w + n ≡ a + (w + n) = omega arith in ap (λ m. cond (leb m (length s)) (At m) (Refused R.Short 0)) z

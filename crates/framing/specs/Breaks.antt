@@ -6,7 +6,7 @@ use Rattle.numbers.specs.Reading.{ok, bad}
 use Rattle.numbers.specs.declared.Refusal.{Refusal}
 use Rattle.numbers.specs.declared.Refusal.TheVariants as R
 use Rattle.utf8.specs.Utf8.{utf8, sound_start, no_zero, zero_at}
-use Rattle.utf8.specs.StartLaws.{sound-in, zero_in}
+use Rattle.utf8.specs.StartLaws.{sound_in, zero_in}
 use Rattle.utf8.specs.Longest.{sound_start_lem, longest, zero_there, zero_first}
 use Rattle.strings.specs.Strings.{ok_text}
 
@@ -28,7 +28,7 @@ module _ (a : ℕ) (bs r : List ℕ) {n : ℕ} where
   five e =
       let d : n ≡ a + sound_start bs = go (utf8 bs) (no_zero bs) e in
       let h : n - a ≡ sound_start bs = omega arith in
-      let l = sound-in bs refl in
+      let l = sound_in bs refl in
       record {
         from = omega arith;
         to = omega arith;

@@ -154,13 +154,13 @@ module _ {k : Refusal} {n : ℕ} (o : OfText k) where
       let v = ap length y in
       record { off = 2; len = m; lies = omega arith; is = rw (← z.bytes, ← y) at (any_rest (a + 2) bs t i) }))
 
-  pub many-text : (j a : ℕ) (xs : List ℕ) → Bytes xs → read_many j a xs ≡ bad k n → Text k n a xs
+  pub many_text : (j a : ℕ) (xs : List ℕ) → Bytes xs → read_many j a xs ≡ bad k n → Text k n a xs
   unfolding read_many
-  many-text zero a xs b e = not_bad e
-  many-text (suc j) a xs b e =
+  many_text zero a xs b e = not_bad e
+  many_text (suc j) a xs b e =
       bad_inv (read_string a xs) _ e (string_text a xs)
       (λ c r f g. bad_inv (read_many j (a + length (string_bytes c)) r) _ g
-      (λ h. let t = took_string a xs b f in behind (string_bytes c) r a xs t.whole (many-text j (a + length (string_bytes c)) r t.rest h))
+      (λ h. let t = took_string a xs b f in behind (string_bytes c) r a xs t.whole (many_text j (a + length (string_bytes c)) r t.rest h))
       (λ l u h i. not_bad i))
 
   data_no : (t : Bool) (m : ℕ) (r : List ℕ) → cond t (after (raw m r) (λ bs u. ok (bytes bs) u)) (bad R.DataTooLong 0) ≡ bad k n → ⊥
@@ -204,7 +204,7 @@ module _ {k : Refusal} {n : ℕ} (o : OfText k) where
   field_text strs a xs b e =
       bad_inv (read_num 2 xs) _ e (λ f. short_no o (num_bad 2 xs f))
       (λ m r f g. bad_inv (read_many m (a + 2) r) _ (few (leb m 16) _ g)
-      (λ h. let (x, y) = num_taken 2 xs f in later 2 a xs x (rw (← y) at (many-text m (a + 2) r (took_num 2 xs b f).rest h)))
+      (λ h. let (x, y) = num_taken 2 xs f in later 2 a xs x (rw (← y) at (many_text m (a + 2) r (took_num 2 xs b f).rest h)))
       (λ l u h i. not_bad i))
   field_text quids a xs b e =
       bad_inv (read_num 2 xs) _ e (λ f. short_no o (num_bad 2 xs f))
@@ -219,13 +219,13 @@ module _ {k : Refusal} {n : ℕ} (o : OfText k) where
       let v : Text k n (a + 2) bs = box_text fs a bs u (rw (← z.bytes) (bytes_take m r c)) i in
       later 2 a xs x (rw (← y) at (uncut m (a + 2) r (rw (← z.bytes) at v)))))
 
-  pub fields-text : (fs : Layout) (a : ℕ) (xs : List ℕ) → Bytes xs → read_fields fs a xs ≡ bad k n → Text k n a xs
+  pub fields_text : (fs : Layout) (a : ℕ) (xs : List ℕ) → Bytes xs → read_fields fs a xs ≡ bad k n → Text k n a xs
   unfolding read_fields
-  fields-text [] a xs b e = not_bad e
-  fields-text (f ∷ fs) a xs b e =
+  fields_text [] a xs b e = not_bad e
+  fields_text (f ∷ fs) a xs b e =
       bad_inv (read_field f a xs) _ e (field_text f a xs b)
       (λ i r g h. bad_inv (read_fields fs (a + length (item_bytes i)) r) _ h
-      (λ c. let t = took_field f a xs b g in behind (item_bytes i) r a xs t.whole (fields-text fs (a + length (item_bytes i)) r t.rest c))
+      (λ c. let t = took_field f a xs b g in behind (item_bytes i) r a xs t.whole (fields_text fs (a + length (item_bytes i)) r t.rest c))
       (λ l u c v. not_bad v))
 
   -- ---- and frames
@@ -236,7 +236,7 @@ module _ {k : Refusal} {n : ℕ} (o : OfText k) where
     where
       go : (m : Result (List Item)) → read_fields l a xs ≡ m → items_at ty a m ≡ refused k n → Text k n a xs
       go (ok is r) f g = absurd (let z : ◌≡◌ {A = ℕ} 0 1 = cc g in omega arith)
-      go (bad j i) f g = let x : j ≡ k = cc g in let y : i ≡ n = cc g in fields-text l a xs b (f ∙ ap₂ bad x y)
+      go (bad j i) f g = let x : j ≡ k = cc g in let y : i ≡ n = cc g in fields_text l a xs b (f ∙ ap₂ bad x y)
 
   frame_text : (rows : List Row) (s : List ℕ) {tag : ℕ} → Bytes s → read_frame rows s ≡ framed 0 tag (refused k n) → Text k n 0 s
   unfolding read_frame
@@ -275,8 +275,8 @@ six_in s t =
     record { start = t.off; len = t.len; lies = t.lies; breaks = six t.off (take t.len (drop t.off s)) [] (rw z at t.is) }
 
 module _ (rows : List Row) (s : List ℕ) {tag n : ℕ} (b : Bytes s) where
-  pub frame-five : read_frame rows s ≡ framed 0 tag (refused R.NotUtf8 n) → NotUtf8In s n
-  frame-five e = five_in s (frame_text of_five rows s b e)
+  pub frame_five : read_frame rows s ≡ framed 0 tag (refused R.NotUtf8 n) → NotUtf8In s n
+  frame_five e = five_in s (frame_text of_five rows s b e)
 
-  pub frame-six : read_frame rows s ≡ framed 0 tag (refused R.ZeroByte n) → ZeroIn s n
-  frame-six e = six_in s (frame_text of_six rows s b e)
+  pub frame_six : read_frame rows s ≡ framed 0 tag (refused R.ZeroByte n) → ZeroIn s n
+  frame_six e = six_in s (frame_text of_six rows s b e)

@@ -43,9 +43,9 @@ size_held {s} {p} {x} {e} r h =
 -- ---- the ways that end it
 
 module _ (ts rs : List Row) (s : List ℕ) (p : ℕ) where
-  pub at-past : length s < p → stop R.StretchCut p ≡ frame_at ts rs s p
+  pub at_past : length s < p → stop R.StretchCut p ≡ frame_at ts rs s p
   unfolding frame_at
-  at-past h = rw (lt-ltb (length s) p h)
+  at_past h = rw (lt-ltb (length s) p h)
 
   pub at_end_lem : length s ≡ p → end p ≡ frame_at ts rs s p
   unfolding frame_at
@@ -167,18 +167,18 @@ module _ (s : List ℕ) (p : ℕ) where
   unfolding CutAt
   ends_there e = e
 
-  pub stops-there : {k : Refusal} → ((ts rs : List Row) → stop k p ≡ frame_at ts rs s p) → CutAt s p (C.Refused k)
+  pub stops_there : {k : Refusal} → ((ts rs : List Row) → stop k p ≡ frame_at ts rs s p) → CutAt s p (C.Refused k)
   unfolding CutAt
-  stops-there e = e
+  stops_there e = e
 
-  pub cut-whole : {g : Cut} {ty tag e : ℕ} → CutAt s p g → g ≡ C.Whole ty tag e → WholeAt s p ty tag e
+  pub cut_whole : {g : Cut} {ty tag e : ℕ} → CutAt s p g → g ≡ C.Whole ty tag e → WholeAt s p ty tag e
   unfolding CutAt
-  cut-whole h e = rw e at h
+  cut_whole h e = rw e at h
 
-  pub cut-end : {g : Cut} → CutAt s p g → g ≡ C.End → (ts rs : List Row) → end p ≡ frame_at ts rs s p
+  pub cut_end : {g : Cut} → CutAt s p g → g ≡ C.End → (ts rs : List Row) → end p ≡ frame_at ts rs s p
   unfolding CutAt
-  cut-end h e = rw e at h
+  cut_end h e = rw e at h
 
-  pub cut-stop : {g : Cut} {k : Refusal} → CutAt s p g → g ≡ C.Refused k → (ts rs : List Row) → stop k p ≡ frame_at ts rs s p
+  pub cut_stop : {g : Cut} {k : Refusal} → CutAt s p g → g ≡ C.Refused k → (ts rs : List Row) → stop k p ≡ frame_at ts rs s p
   unfolding CutAt
-  cut-stop h e = rw e at h
+  cut_stop h e = rw e at h

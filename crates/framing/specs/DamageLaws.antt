@@ -8,7 +8,7 @@ use Rattle.layouts.specs.Tables.{Row}
 use Rattle.layouts.specs.Bodies.{Answer}
 use Rattle.framing.specs.Raising.{raise}
 use Rattle.framing.specs.Stretch.{type_in, tag_in, answer_of, tail_in, Step, frame, end, stop, frame_at, Listing, entry, ends, stops, list_from, listing}
-use Rattle.framing.specs.ListingLaws.{Front, goes_on, listed, list-step, list_next, whole-at}
+use Rattle.framing.specs.ListingLaws.{Front, goes_on, listed, list_step, list_next, whole_at}
 use Rattle.framing.specs.Damage.{Has, Damaged, EqualBut, there, other}
 
 -- ---- the frames of a listing, one after the other
@@ -28,9 +28,9 @@ module _ (ts rs : List Row) where
     begins {X} p q n h x f = go (frame_at ts rs s q) refl
       where
         go : (r : Step) → frame_at ts rs s q ≡ r → X
-        go (frame at m ty tag a tail next) e = whole-at ts rs s e (λ k g u. f k g)
-        go (end z) e = absurd (subst (λ r. Has p n (goes_on r (listed ts rs s))) e (subst (Has p n) (list-step ts rs s q h) x))
-        go (stop k z) e = absurd (subst (λ r. Has p n (goes_on r (listed ts rs s))) e (subst (Has p n) (list-step ts rs s q h) x))
+        go (frame at m ty tag a tail next) e = whole_at ts rs s e (λ k g u. f k g)
+        go (end z) e = absurd (subst (λ r. Has p n (goes_on r (listed ts rs s))) e (subst (Has p n) (list_step ts rs s q h) x))
+        go (stop k z) e = absurd (subst (λ r. Has p n (goes_on r (listed ts rs s))) e (subst (Has p n) (list_step ts rs s q h) x))
 
 -- ---- two stretches
 
@@ -96,9 +96,9 @@ module _ (ts rs : List Row) {p n : ℕ} {s t : List ℕ} (d : Damaged p n s t) w
           pick c k i b r (inr y) = subst (From q) (sym r) (is_before q m f (ih (q + m) b i y))
 
   -- if the stretch has the frame, the other one has it too, and the two are listed alike but for it
-  pub damaged-listing : Has p n (listing ts rs s) → EqualBut p n (listing ts rs s) (listing ts rs t)
+  pub damaged_listing : Has p n (listing ts rs s) → EqualBut p n (listing ts rs s) (listing ts rs t)
   unfolding listing
-  damaged-listing h = (from (listing ts rs s) 0 (omega arith) refl h).alike
+  damaged_listing h = (from (listing ts rs s) 0 (omega arith) refl h).alike
 
 -- ---- what that says
 

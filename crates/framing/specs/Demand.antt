@@ -27,7 +27,7 @@ use Rattle.framing.specs.Stretch.{type_in, tag_in, table_for, answer_in, answer_
 use Rattle.framing.specs.CutLaws.{whole_header}
 use Rattle.framing.specs.ListingLaws.{Front, list_next}
 use Rattle.framing.specs.Accepted.{Stands, reads_frame, Accepts, accepts}
-use Rattle.framing.specs.Stripped.{used-within, first-used}
+use Rattle.framing.specs.Stripped.{used_within, first_used}
 
 -- ---- what is done to a stretch
 
@@ -107,16 +107,16 @@ module _ (ts rs : List Row) (f g : List ℕ) {ty used : ℕ} {vs : List Value} (
     pub new : Accepts (table_for ts rs (type_in f)) g ty under vs used
     pub items : new.items ≡ old.items
 
-  pub grown-frame : Grown
+  pub grown_frame : Grown
   unfolding answer_of
-  grown-frame =
+  grown_frame =
       answer_inv (read_frame (table_for ts rs (type_in f)) f) a
       (λ at tag e.
       let rows : List Row = table_for ts rs (type_in f) in
       let A = accepts rows f b e in
       let i : List ℕ = items_bytes A.items in
       let u = A.uses in
-      let n : length (take used f) ≡ 7 + length i = ap length (first-used rows f A) ∙ length-append (head_bytes A.size ty tag) i ∙ ap (λ m. m + length i) (head_length A.size ty tag) in
+      let n : length (take used f) ≡ 7 + length i = ap length (first_used rows f A) ∙ length-append (head_bytes A.size ty tag) i ∙ ap (λ m. m + length i) (head_length A.size ty tag) in
       let k = length-take used f in
       let m = l.longer in
       let t : type_in g ≡ type_in f = type_held g used (omega arith) ∙ ap (λ (x : List ℕ). from_le (take 1 x)) l.same ∙ sym (type_held f used (omega arith)) in
@@ -124,7 +124,7 @@ module _ (ts rs : List Row) (f g : List ℕ) {ty used : ℕ} {vs : List Value} (
       let w = l.whole in
       let seven = w.seven in
       let z : length g < 256 ^ 4 = rw (← w.sized) (size_small g c (omega arith)) in
-      let x : take used f ≡ to_le 4 A.size ++ (to_le 1 ty ++ (to_le 2 tag ++ i)) = first-used rows f A ∙ (simp append_assoc) in
+      let x : take used f ≡ to_le 4 A.size ++ (to_le 1 ty ++ (to_le 2 tag ++ i)) = first_used rows f A ∙ (simp append_assoc) in
       let d : drop 4 (take used g) ≡ to_le 1 ty ++ (to_le 2 tag ++ i)
       = l.same ∙ ap (drop 4) x ∙ drop_at (to_le 4 A.size) (to_le 1 ty ++ (to_le 2 tag ++ i)) 4 (length_to_le 4 A.size) in
       let q : take 4 g ≡ to_le 4 (length g) = sym (size_front g c (omega arith)) ∙ ap (to_le 4) w.sized in
@@ -161,26 +161,26 @@ module _ (ts rs : List Row) where
       let x : Front (f ++ b) (length f) = record { four = omega arith; size = ap from_le (take-append-le 4 f b (omega arith)) ∙ w.sized; seven = h; held = omega arith } in
       rw (take-append_seam f b, drop-append_seam f b) at (list_next ts rs p (length f) (f ++ b) x)
 
-  pub old-listed : {old new : List ℕ} (e : Edited ts rs old new) (p : ℕ) → Bytes old → list_from ts rs p 0 old ≡ old_lines p e
+  pub old_listed : {old new : List ℕ} (e : Edited ts rs old new) (p : ℕ) → Bytes old → list_from ts rs p 0 old ≡ old_lines p e
   unfolding old_lines list_from
-  old-listed nothing p b = refl
-  old-listed (grown {old = old} f g ty used vs w a l e) p b =
-      list_whole p f old w ∙ rw a (ap (entry p (length f) (type_in f) (tag_in f) (raise p (accepted ty vs used)) (length f - used)) (old-listed e (p + length f) (bytes_split f old b).1))
-  old-listed (added f s e) p b = old-listed e p b
+  old_listed nothing p b = refl
+  old_listed (grown {old = old} f g ty used vs w a l e) p b =
+      list_whole p f old w ∙ rw a (ap (entry p (length f) (type_in f) (tag_in f) (raise p (accepted ty vs used)) (length f - used)) (old_listed e (p + length f) (bytes_split f old b).1))
+  old_listed (added f s e) p b = old_listed e p b
 
-  pub new-listed : {old new : List ℕ} (e : Edited ts rs old new) (p : ℕ) → Bytes old → Bytes new → list_from ts rs p 0 new ≡ new_lines p e
+  pub new_listed : {old new : List ℕ} (e : Edited ts rs old new) (p : ℕ) → Bytes old → Bytes new → list_from ts rs p 0 new ≡ new_lines p e
   unfolding new_lines list_from
-  new-listed nothing p b c = refl
-  new-listed (grown {old = old} {new = new} f g ty used vs w a l e) p b c =
-      let x = grown-frame ts rs f g (bytes_split f old b).0 (bytes_split g new c).0 a l in
+  new_listed nothing p b c = refl
+  new_listed (grown {old = old} {new = new} f g ty used vs w a l e) p b c =
+      let x = grown_frame ts rs f g (bytes_split f old b).0 (bytes_split g new c).0 a l in
       let y = x.within in
       let z = l.longer in
       list_whole p g new l.whole
       ∙ rw (x.type, x.tag, x.answer)
-      (ap₂ (entry p (length g) (type_in f) (tag_in f) (raise p (accepted ty vs used))) (omega arith) (new-listed e (p + length g) (bytes_split f old b).1 (bytes_split g new c).1))
-  new-listed (added {new = new} f s e) p b c =
+      (ap₂ (entry p (length g) (type_in f) (tag_in f) (raise p (accepted ty vs used))) (omega arith) (new_listed e (p + length g) (bytes_split f old b).1 (bytes_split g new c).1))
+  new_listed (added {new = new} f s e) p b c =
       list_whole p f new s.whole
-      ∙ rw (strange_frame f s) (ap (entry p (length f) (type_in f) (tag_in f) (refused R.UnknownType 0) 0) (new-listed e (p + length f) b (bytes_split f new c).1))
+      ∙ rw (strange_frame f s) (ap (entry p (length f) (type_in f) (tag_in f) (refused R.UnknownType 0) 0) (new_listed e (p + length f) b (bytes_split f new c).1))
 
 -- ---- the accident
 
@@ -193,7 +193,7 @@ fields_within ts rs f {ty} {used} b a =
     let rows : List Row = table_for ts rs (type_in f) in
     let A = accepts rows f b e in
     let n : length (take used f) ≡ 7 + length (items_bytes A.items)
-    = ap length (first-used rows f A) ∙ length-append (head_bytes A.size ty tag) (items_bytes A.items) ∙ ap (λ m. m + length (items_bytes A.items)) (head_length A.size ty tag) in
+    = ap length (first_used rows f A) ∙ length-append (head_bytes A.size ty tag) (items_bytes A.items) ∙ ap (λ m. m + length (items_bytes A.items)) (head_length A.size ty tag) in
     let k = length-take used f in
     let u = A.uses in
     (omega arith, omega arith))
@@ -244,5 +244,5 @@ module _ (ts rs : List Row) (f : List ℕ) {ty used : ℕ} {vs : List Value} (b 
   accident =
       let e : Edited ts rs (f ++ []) (repeated f ++ []) = grown f (repeated f) ty used vs w a longer_by_itself nothing in
       let l = repeated_length in
-      let n = new-listed ts rs e 0 (bytes_join f [] b tt) (bytes_join (repeated f) [] repeated_bytes tt) in
+      let n = new_listed ts rs e 0 (bytes_join f [] b tt) (bytes_join (repeated f) [] repeated_bytes tt) in
       ap (list_from ts rs 0 0) (sym (append-nil (repeated f))) ∙ n ∙ once (accepted ty vs used) l (omega arith) (omega arith)

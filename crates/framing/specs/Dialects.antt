@@ -19,16 +19,16 @@ use Rattle.framing.specs.Writing.{head_bytes, FrameWritten}
 use Rattle.framing.specs.WritingLaws.{head_length}
 use Rattle.framing.specs.Local.{size_in, local}
 use Rattle.framing.specs.Stretch.{type_in, tag_in, answer_in, answer_of, Step, frame, end, stop, frame_at, Listing, entry, ends, stops, listing}
-use Rattle.framing.specs.ListingLaws.{goes_on, listed, list-step, moves-on, stops_at}
+use Rattle.framing.specs.ListingLaws.{goes_on, listed, list_step, moves_on, stops_at}
 use Rattle.framing.specs.Accepted.{at_front, Accepts, accepts}
 use Rattle.framing.specs.ReadBack.{Readable, Back, read_back}
-use Rattle.framing.specs.Stripped.{resized, stripped-is, stripped-read, stripped-written, cut_at, cut_short}
-use Rattle.framing.specs.Demand.{Whole, Edited, old_lines, new_lines, old-listed, new-listed, repeated, accident}
-use Rattle.framing.specs.Shown.{records_in, same-records}
+use Rattle.framing.specs.Stripped.{resized, stripped_is, stripped_read, stripped_written, cut_at, cut_short}
+use Rattle.framing.specs.Demand.{Whole, Edited, old_lines, new_lines, old_listed, new_listed, repeated, accident}
+use Rattle.framing.specs.Shown.{records_in, same_records}
 use Rattle.framing.specs.Joining.{joined, Ends}
-use Rattle.framing.specs.JoiningLaws.{end-is-length, joined-listing}
+use Rattle.framing.specs.JoiningLaws.{end_is_length, joined_listing}
 use Rattle.framing.specs.Damage.{Has, Damaged, EqualBut}
-use Rattle.framing.specs.DamageLaws.{damaged-listing}
+use Rattle.framing.specs.DamageLaws.{damaged_listing}
 
 -- ---- `frame_at`, asked at a position and then at each next one
 
@@ -40,11 +40,11 @@ module _ (rowsT rowsR : List Row) where
 
   -- what is listed from a position on, by the step there
   pub listed_by : (s : List ℕ) (p : ℕ) (r : Step) → p ≤ length s → r ≡ frame_at rowsT rowsR s p → listed rowsT rowsR s p ≡ goes_on r (listed rowsT rowsR s)
-  listed_by s p r h a = list-step rowsT rowsR s p h ∙ ap (λ x. goes_on x (listed rowsT rowsR s)) (sym a)
+  listed_by s p r h a = list_step rowsT rowsR s p h ∙ ap (λ x. goes_on x (listed rowsT rowsR s)) (sym a)
 
   lists_from : (s : List ℕ) {p : ℕ} {L : Listing} → p ≤ length s → Lists s p L → L ≡ listed rowsT rowsR s p
   lists_from s {p} h (frames {at = at} {size} {ty} {tag} {tail} {next} {a} e n) =
-      let m = moves-on rowsT rowsR s (sym e) in
+      let m = moves_on rowsT rowsR s (sym e) in
       ap (entry at size ty tag a tail) (lists_from s m.within n) ∙ sym (listed_by s p (frame at size ty tag a tail next) h e)
   lists_from s {p} h (ended {q = q} e) = sym (listed_by s p (end q) h e)
   lists_from s {p} h (stopped {q = q} {k = k} e) = sym (listed_by s p (stop k q) h e)
@@ -55,30 +55,30 @@ module _ (rowsT rowsR : List Row) where
   lists s a = lists_from s (omega arith) a
 
   -- 1. lengthened and inserted
-  pub lists-edited : {old new : List ℕ} {L N : Listing} (e : Edited rowsT rowsR old new) → Bytes old → Bytes new → Lists old 0 L → Lists new 0 N → (L ≡ old_lines 0 e) × (N ≡ new_lines 0 e) × (records_in rowsT rowsR new N ≡ records_in rowsT rowsR old L)
+  pub lists_edited : {old new : List ℕ} {L N : Listing} (e : Edited rowsT rowsR old new) → Bytes old → Bytes new → Lists old 0 L → Lists new 0 N → (L ≡ old_lines 0 e) × (N ≡ new_lines 0 e) × (records_in rowsT rowsR new N ≡ records_in rowsT rowsR old L)
   unfolding listing
-  lists-edited {old} {new} e b c x y =
+  lists_edited {old} {new} e b c x y =
       let l = lists old x in
       let n = lists new y in
-      (l ∙ old-listed rowsT rowsR e 0 b, n ∙ new-listed rowsT rowsR e 0 b c, ap (records_in rowsT rowsR new) n ∙ same-records rowsT rowsR e b c ∙ ap (records_in rowsT rowsR old) (sym l))
+      (l ∙ old_listed rowsT rowsR e 0 b, n ∙ new_listed rowsT rowsR e 0 b c, ap (records_in rowsT rowsR new) n ∙ same_records rowsT rowsR e b c ∙ ap (records_in rowsT rowsR old) (sym l))
 
   -- 6. a frame with a copy of itself after its last field, inside its size, is listed as one, and the copy is its tail
-  pub lists-once : (f : List ℕ) {ty used : ℕ} {vs : List Value} {L : Listing} → Bytes f → Whole f → length f + length f < 256 ^ 4 → answer_of rowsT rowsR f ≡ accepted ty vs used → Lists (repeated f) 0 L
+  pub lists_once : (f : List ℕ) {ty used : ℕ} {vs : List Value} {L : Listing} → Bytes f → Whole f → length f + length f < 256 ^ 4 → answer_of rowsT rowsR f ≡ accepted ty vs used → Lists (repeated f) 0 L
       → L ≡ entry 0 (length f + length f) (type_in f) (tag_in f) (accepted ty vs used) (length f - used + length f) (ends (length f + length f))
-  lists-once f b w h a x = lists (repeated f) x ∙ accident rowsT rowsR f b w a h
+  lists_once f b w h a x = lists (repeated f) x ∙ accident rowsT rowsR f b w a h
 
   -- 7. two stretches joined, of which the first reads to its end
-  pub lists-joined : (s t : List ℕ) {L M N : Listing} → Lists s 0 L → Lists t 0 M → Lists (s ++ t) 0 N → Ends L → (stops_at L ≡ length s) × (N ≡ joined L M)
-  lists-joined s t x y z e =
+  pub lists_joined : (s t : List ℕ) {L M N : Listing} → Lists s 0 L → Lists t 0 M → Lists (s ++ t) 0 N → Ends L → (stops_at L ≡ length s) × (N ≡ joined L M)
+  lists_joined s t x y z e =
       let l = lists s x in
       let h = subst Ends l e in
-      (ap stops_at l ∙ end-is-length rowsT rowsR s h, lists (s ++ t) z ∙ joined-listing rowsT rowsR s t h ∙ ap₂ joined (sym l) (sym (lists t y)))
+      (ap stops_at l ∙ end_is_length rowsT rowsR s h, lists (s ++ t) z ∙ joined_listing rowsT rowsR s t h ∙ ap₂ joined (sym l) (sym (lists t y)))
 
   -- 8. a stretch and one that differs from it inside one of its frames
-  pub lists-damaged : {p n : ℕ} {s t : List ℕ} {L M : Listing} → Damaged p n s t → Lists s 0 L → Lists t 0 M → Has p n L → EqualBut p n L M
-  lists-damaged {p} {n} {s} {t} {L} d x y h =
+  pub lists_damaged : {p n : ℕ} {s t : List ℕ} {L M : Listing} → Damaged p n s t → Lists s 0 L → Lists t 0 M → Has p n L → EqualBut p n L M
+  lists_damaged {p} {n} {s} {t} {L} d x y h =
       let l = lists s x in
-      let e = damaged-listing rowsT rowsR d (subst (Has p n) l h) in
+      let e = damaged_listing rowsT rowsR d (subst (Has p n) l h) in
       subst (EqualBut p n L) (sym (lists t y)) (subst (λ z. EqualBut p n z (listing rowsT rowsR t)) (sym l) e)
 
 -- ---- a stripped frame has nothing left to strip
@@ -95,7 +95,7 @@ resized_again n s e =
 
 stripped_length : (rows : List Row) (s : List ℕ) {ty tag used : ℕ} {vs : List Value} → Accepts rows s ty tag vs used → length (resized used s) ≡ used
 stripped_length rows s {ty} {tag} {used} A =
-    ap length (stripped-is rows s A) ∙ length-append (head_bytes used ty tag) (items_bytes A.items) ∙ ap (λ n. n + length (items_bytes A.items)) (head_length used ty tag) ∙ sym A.uses
+    ap length (stripped_is rows s A) ∙ length-append (head_bytes used ty tag) (items_bytes A.items) ∙ ap (λ n. n + length (items_bytes A.items)) (head_length used ty tag) ∙ sym A.uses
 
 -- ---- a direction: its messages, each with a row, what its reader answers, and what a frame becomes whose body fails
 
@@ -128,17 +128,17 @@ module _ (d : Direction) where
 
     -- 2. stripped: the same frame is read
     pub stripped : (r : d.Read) → Reads (resized used s) r → r ≡ f
-    stripped r e = d.one r f (e ∙ ap d.whole (stripped-read d.rows s is ∙ ap (λ x. framed x tag (accepted (d.type m) (d.values m) used)) (sym (at_front d.rows s got)) ∙ sym got) ∙ sym c)
+    stripped r e = d.one r f (e ∙ ap d.whole (stripped_read d.rows s is ∙ ap (λ x. framed x tag (accepted (d.type m) (d.values m) used)) (sym (at_front d.rows s got)) ∙ sym got) ∙ sym c)
 
     -- and writing it, given room, gives those bytes
     pub written : {o o' : List ℕ} {q : Place} → used ≤ length o → FrameWritten (d.layout m) (d.type m) tag s (d.values m) o o' q → (o' ≡ over o 0 (resized used s)) × (q ≡ At used)
-    written {o} h w = let y = stripped-written d.rows s is (d.known m) o h in (w.bytes ∙ y.0, w.next ∙ y.1)
+    written {o} h w = let y = stripped_written d.rows s is (d.known m) o h in (w.bytes ∙ y.0, w.next ∙ y.1)
 
     -- also when the stripped bytes are lent in place of the frame
-    pub written-again : {o o' : List ℕ} {q : Place} → used ≤ length o → FrameWritten (d.layout m) (d.type m) tag (resized used s) (d.values m) o o' q → (o' ≡ over o 0 (resized used s)) × (q ≡ At used)
-    written-again {o} h w =
-        let A : Accepts d.rows (resized used s) (d.type m) tag (d.values m) used = accepts d.rows (resized used s) (resized_bytes used s b) (stripped-read d.rows s is) in
-        let y = stripped-written d.rows (resized used s) A (d.known m) o h in
+    pub written_again : {o o' : List ℕ} {q : Place} → used ≤ length o → FrameWritten (d.layout m) (d.type m) tag (resized used s) (d.values m) o o' q → (o' ≡ over o 0 (resized used s)) × (q ≡ At used)
+    written_again {o} h w =
+        let A : Accepts d.rows (resized used s) (d.type m) tag (d.values m) used = accepts d.rows (resized used s) (resized_bytes used s b) (stripped_read d.rows s is) in
+        let y = stripped_written d.rows (resized used s) A (d.known m) o h in
         (w.bytes ∙ y.0 ∙ ap (over o 0) (resized_again used s (stripped_length d.rows s is)), w.next ∙ y.1)
 
     -- 4. cut
@@ -151,5 +151,5 @@ module _ (d : Direction) where
   back m b g h w = read_back d.rows (d.known m) (d.small m) g b h w
 
   -- 5. local
-  pub local-read : (s t : List ℕ) (r r' : d.Read) → take 4 s ≡ take 4 t → take (size_in s) s ≡ take (size_in s) t → Reads s r → Reads t r' → r ≡ r'
-  local-read s t r r' e f a b = d.one r r' (a ∙ ap d.whole (local d.rows s t e f) ∙ sym b)
+  pub local_read : (s t : List ℕ) (r r' : d.Read) → take 4 s ≡ take 4 t → take (size_in s) s ≡ take (size_in s) t → Reads s r → Reads t r' → r ≡ r'
+  local_read s t r r' e f a b = d.one r r' (a ∙ ap d.whole (local d.rows s t e f) ∙ sym b)

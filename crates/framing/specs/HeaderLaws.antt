@@ -102,20 +102,20 @@ module _ {s : List ℕ} {x e n : ℕ} {q : Place} (r : NumRead 4 s (At 0) x q) (
   unfolding read_header
   header_is = rw ((size_held r h).0, le-ltb x 4 l, m) (ap read_type_tag (own s x l))
 
-  pub header-held : {ty tag k : ℕ} → Tagged (take n s) k ty tag → Headed s k ty tag
-  header-held {k = k} t =
+  pub header_held : {ty tag k : ℕ} → Tagged (take n s) k ty tag → Headed s k ty tag
+  header_held {k = k} t =
       let a : length (take n s) ≡ n = length-take-le n s (omega arith) in
       let b : k ≡ n = t.all ∙ a in
       let c = t.seven in
       record { seven = omega arith; held = omega arith; reads = rw b (header_is ∙ t.reads) }
 
-  pub header-cut : {k : Refusal} → read_type_tag (drop 4 (take n s)) ≡ bad k 0 → read_header s ≡ bad k 0
-  header-cut f = header_is ∙ f
+  pub header_cut : {k : Refusal} → read_type_tag (drop 4 (take n s)) ≡ bad k 0 → read_header s ≡ bad k 0
+  header_cut f = header_is ∙ f
 
-  pub head-on : (g : Head) → TypeTag (take n s) g → HeadIs s g
+  pub head_on : (g : Head) → TypeTag (take n s) g → HeadIs s g
   unfolding TypeTag HeadIs
-  head-on (H.Held k ty tag) t = header-held t
-  head-on (H.Refused k) t = header-cut t
+  head_on (H.Held k ty tag) t = header_held t
+  head_on (H.Refused k) t = header_cut t
 
 -- ---- the frame
 

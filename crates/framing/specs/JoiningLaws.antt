@@ -16,7 +16,7 @@ use Rattle.layouts.specs.Bodies.{Answer, accepted, refused}
 use Rattle.framing.specs.Raising.{raise_slot, raise_value, raise_place, raise}
 use Rattle.framing.specs.RaisedLaws.{raise_zero}
 use Rattle.framing.specs.Stretch.{type_in, tag_in, answer_of, tail_in, listed_frame, front, Listing, entry, ends, stops, list_from, listing}
-use Rattle.framing.specs.ListingLaws.{Front, front_either, front-frame, list-frame, list_stop, stops_at}
+use Rattle.framing.specs.ListingLaws.{Front, front_either, front_frame, list_frame, list_stop, stops_at}
 use Rattle.framing.specs.Joining.{raise_listing, joined, Ends}
 
 -- ---- raised twice
@@ -99,8 +99,8 @@ module _ (ts rs : List Row) where
           front_either ts rs (x ∷ xs)
           (λ n f.
           let g : List ℕ = take n (x ∷ xs) in
-          list-frame ts rs (c + p) x xs (front-frame ts rs (c + p) (x ∷ xs) f) ∙ entries refl (sym (raise_twice c p (answer_of ts rs g))) (ih (pred (length g)))
-          ∙ ap (raise_listing c) (sym (list-frame ts rs p x xs (front-frame ts rs p (x ∷ xs) f))))
+          list_frame ts rs (c + p) x xs (front_frame ts rs (c + p) (x ∷ xs) f) ∙ entries refl (sym (raise_twice c p (answer_of ts rs g))) (ih (pred (length g)))
+          ∙ ap (raise_listing c) (sym (list_frame ts rs p x xs (front_frame ts rs p (x ∷ xs) f))))
           (λ k e. list_stop ts rs (c + p) x xs (e (c + p)) ∙ ap (raise_listing c) (sym (list_stop ts rs p x xs (e p))))
 
   join_from : (a b : List ℕ) (p k : ℕ) → k ≤ length a → Ends (list_from ts rs p k a) → list_from ts rs p k (a ++ b) ≡ joined (list_from ts rs p k a) (list_from ts rs 0 0 b)
@@ -119,9 +119,9 @@ module _ (ts rs : List Row) where
           let z : length g ≡ n = length-take-le n (x ∷ a) f.held in
           let v = f.seven in
           let w = f.held in
-          let l = list-frame ts rs p x a (front-frame ts rs p (x ∷ a) f) in
+          let l = list_frame ts rs p x a (front_frame ts rs p (x ∷ a) f) in
           let s : take n (x ∷ (a ++ b)) ≡ g = take-append-le n (x ∷ a) b f.held in
-          list-frame ts rs p x (a ++ b) (front-frame ts rs p (x ∷ (a ++ b)) (front_append b f) ∙ ap (listed_frame ts rs p) s)
+          list_frame ts rs p x (a ++ b) (front_frame ts rs p (x ∷ (a ++ b)) (front_append b f) ∙ ap (listed_frame ts rs p) s)
           ∙ ap (entry p (length g) (type_in g) (tag_in g) (raise p (answer_of ts rs g)) (tail_in (length g) (answer_of ts rs g))) (ih (pred (length g)) (omega arith) (subst Ends l e))
           ∙ ap (λ m. joined m (list_from ts rs 0 0 b)) (sym l))
           (λ k m. absurd (subst Ends (list_stop ts rs p x a (m p)) e))
@@ -136,27 +136,27 @@ module _ (ts rs : List Row) where
       go ih =
           front_either ts rs (x ∷ xs)
           (λ n f.
-          let l = list-frame ts rs p x xs (front-frame ts rs p (x ∷ xs) f) in
+          let l = list_frame ts rs p x xs (front_frame ts rs p (x ∷ xs) f) in
           ap stops_at l ∙ ih (pred (length (take n (x ∷ xs)))) (subst Ends l e) ∙ (omega arith))
           (λ k m. absurd (subst Ends (list_stop ts rs p x xs (m p)) e))
 
   -- a stretch that reads to its end does so at its length
-  pub end-is-length : (s : List ℕ) → Ends (listing ts rs s) → stops_at (listing ts rs s) ≡ length s
+  pub end_is_length : (s : List ℕ) → Ends (listing ts rs s) → stops_at (listing ts rs s) ≡ length s
   unfolding listing
-  end-is-length s e = end_from s 0 0 e ∙ (omega arith)
+  end_is_length s e = end_from s 0 0 e ∙ (omega arith)
 
   -- if the first stretch reads to its end, the two joined are listed as the first is, and then as the second is, later by the first's length
-  pub joined-listing : (s t : List ℕ) → Ends (listing ts rs s) → listing ts rs (s ++ t) ≡ joined (listing ts rs s) (listing ts rs t)
+  pub joined_listing : (s t : List ℕ) → Ends (listing ts rs s) → listing ts rs (s ++ t) ≡ joined (listing ts rs s) (listing ts rs t)
   unfolding listing
-  joined-listing s t e = join_from s t 0 0 (omega arith) e
+  joined_listing s t e = join_from s t 0 0 (omega arith) e
 
   -- an empty stretch changes nothing, on either side
-  pub empty-first : (l : Listing) → joined (listing ts rs []) l ≡ l
+  pub empty_first : (l : Listing) → joined (listing ts rs []) l ≡ l
   unfolding listing list_from
-  empty-first l = listing_zero l
+  empty_first l = listing_zero l
 
-  pub empty-last : (l : Listing) → joined l (listing ts rs []) ≡ l
+  pub empty_last : (l : Listing) → joined l (listing ts rs []) ≡ l
   unfolding listing list_from
-  empty-last (entry at n ty tag a tail l) = ap (entry at n ty tag a tail) (empty-last l)
-  empty-last (ends p) = ap ends (omega arith)
-  empty-last (stops k p) = refl
+  empty_last (entry at n ty tag a tail l) = ap (entry at n ty tag a tail) (empty_last l)
+  empty_last (ends p) = ap ends (omega arith)
+  empty_last (stops k p) = refl

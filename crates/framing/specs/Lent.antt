@@ -25,7 +25,7 @@ use Rattle.laying.specs.Laying.{limit}
 use Rattle.laying.specs.LayingLaws.{span_shown, part_inv}
 use Rattle.laying.specs.Elements.{element_in, asked_for, element_at}
 use Rattle.framing.specs.Writing.{frame_bytes, frame_past, FrameWritten}
-use Rattle.framing.specs.Broken.{OfText, below, above, of_five, of_six, Text, bad_inv, not_bad, any_rest, later, uncut, many-text, NotUtf8In, ZeroIn, five_in, six_in}
+use Rattle.framing.specs.Broken.{OfText, below, above, of_five, of_six, Text, bad_inv, not_bad, any_rest, later, uncut, many_text, NotUtf8In, ZeroIn, five_in, six_in}
 
 module _ {k : Refusal} {n : ℕ} (t : OfText k) where
   span_no : (lent : List ℕ) (x y : ℕ) → show_span lent x y ≡ bad k n → ⊥
@@ -68,7 +68,7 @@ module _ {k : Refusal} {n : ℕ} (t : OfText k) where
 
   part_lent : (lent : List ℕ) (m x y : ℕ) → Bytes lent → x + y ≤ length lent → read_many m x (take y (drop x lent)) ≡ bad k n → Text k n 0 lent
   part_lent lent m x y b l e =
-      let w = many-text t m x (take y (drop x lent)) (bytes_take y (drop x lent) (bytes_drop x lent b)) e in
+      let w = many_text t m x (take y (drop x lent)) (bytes_take y (drop x lent) (bytes_drop x lent b)) e in
       let z : 0 + x ≡ x = omega arith in
       later x 0 lent (omega arith) (rw z (uncut y x (drop x lent) w))
 
@@ -144,15 +144,15 @@ module _ {k : Refusal} {n : ℕ} (t : OfText k) where
       go false w f = above t R.FrameTooLong (omega arith) (cc f)
 
 module _ {fs : Layout} {ty tag n : ℕ} {lent : List ℕ} {vs : List Value} {o o' : List ℕ} {q : Place} (b : Bytes lent) (w : FrameWritten fs ty tag lent vs o o' q) where
-  pub written-five : q ≡ Refused R.NotUtf8 n → NotUtf8In lent n
-  written-five e = five_in lent (shows_lent of_five fs lent vs b (past_bad of_five ty tag (shows fs lent vs) o (sym w.next ∙ e)))
+  pub written_five : q ≡ Refused R.NotUtf8 n → NotUtf8In lent n
+  written_five e = five_in lent (shows_lent of_five fs lent vs b (past_bad of_five ty tag (shows fs lent vs) o (sym w.next ∙ e)))
 
-  pub written-six : q ≡ Refused R.ZeroByte n → ZeroIn lent n
-  written-six e = six_in lent (shows_lent of_six fs lent vs b (past_bad of_six ty tag (shows fs lent vs) o (sym w.next ∙ e)))
+  pub written_six : q ≡ Refused R.ZeroByte n → ZeroIn lent n
+  written_six e = six_in lent (shows_lent of_six fs lent vs b (past_bad of_six ty tag (shows fs lent vs) o (sym w.next ∙ e)))
 
 module _ (f : Field) (lent : List ℕ) (v : Value) (i : ℕ) {n : ℕ} (b : Bytes lent) where
-  pub element-five : element_at f lent v i ≡ bad R.NotUtf8 n → NotUtf8In lent n
-  element-five e = five_in lent (element_lent of_five f lent v i b e)
+  pub element_five : element_at f lent v i ≡ bad R.NotUtf8 n → NotUtf8In lent n
+  element_five e = five_in lent (element_lent of_five f lent v i b e)
 
-  pub element-six : element_at f lent v i ≡ bad R.ZeroByte n → ZeroIn lent n
-  element-six e = six_in lent (element_lent of_six f lent v i b e)
+  pub element_six : element_at f lent v i ≡ bad R.ZeroByte n → ZeroIn lent n
+  element_six e = six_in lent (element_lent of_six f lent v i b e)

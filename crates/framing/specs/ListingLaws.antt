@@ -39,13 +39,13 @@ front_either ts rs xs f g =
     (λ a. g R.StretchCut (λ p. rw (lt-ltb (length xs) 4 a)))
 
 module _ (ts rs : List Row) (p : ℕ) (xs : List ℕ) where
-  pub front-frame : {n : ℕ} → Front xs n → front ts rs p xs ≡ listed_frame ts rs p (take n xs)
+  pub front_frame : {n : ℕ} → Front xs n → front ts rs p xs ≡ listed_frame ts rs p (take n xs)
   unfolding front
-  front-frame {n} f = rw (le-ltb (length xs) 4 f.four, f.size, le-ltb n 7 f.seven, le-ltb (length xs) n f.held)
+  front_frame {n} f = rw (le-ltb (length xs) 4 f.four, f.size, le-ltb n 7 f.seven, le-ltb (length xs) n f.held)
 
   -- it is a frame, or a refusal at that position
   pub front_case : {X : Type 0} → ((n : ℕ) → Front xs n → front ts rs p xs ≡ listed_frame ts rs p (take n xs) → X) → ((k : Refusal) → front ts rs p xs ≡ stop k p → X) → X
-  front_case f g = front_either ts rs xs (λ n h. f n h (front-frame h)) (λ k e. g k (e p))
+  front_case f g = front_either ts rs xs (λ n h. f n h (front_frame h)) (λ k e. g k (e p))
 
 -- ---- the listing, one frame on
 
@@ -53,10 +53,10 @@ entry_sized : {p ty tag m n : ℕ} (a : Answer) {l l' : Listing} → m ≡ n →
 entry_sized a e f = rw (e, f)
 
 module _ (ts rs : List Row) where
-  pub list-frame : (p x : ℕ) (xs : List ℕ) {at n ty tag tail next : ℕ} {a : Answer} → front ts rs p (x ∷ xs) ≡ frame at n ty tag a tail next
+  pub list_frame : (p x : ℕ) (xs : List ℕ) {at n ty tag tail next : ℕ} {a : Answer} → front ts rs p (x ∷ xs) ≡ frame at n ty tag a tail next
       → list_from ts rs p 0 (x ∷ xs) ≡ entry at n ty tag a tail (list_from ts rs (suc p) (pred n) xs)
   unfolding list_from
-  list-frame p x xs e = rw (e, list_from)
+  list_frame p x xs e = rw (e, list_from)
 
   pub list_stop : (p x : ℕ) (xs : List ℕ) {k : Refusal} → front ts rs p (x ∷ xs) ≡ stop k p → list_from ts rs p 0 (x ∷ xs) ≡ stops k p
   unfolding list_from
@@ -76,7 +76,7 @@ module _ (ts rs : List Row) where
   list_next p zero (x ∷ xs) f = absurd (let h = f.seven in omega arith)
   list_next p (suc n) (x ∷ xs) f =
       let l : length (take (suc n) (x ∷ xs)) ≡ suc n = length-take-le (suc n) (x ∷ xs) f.held in
-      list-frame p x xs (front-frame ts rs p (x ∷ xs) f)
+      list_frame p x xs (front_frame ts rs p (x ∷ xs) f)
       ∙ entry_sized (answer_of ts rs (take (suc n) (x ∷ xs))) l
       (ap (λ m. list_from ts rs (suc p) (pred m) xs) l ∙ skip_from xs (suc p) n (let h = f.held in omega arith) ∙ ap (λ q. list_from ts rs q 0 (drop n xs)) (omega arith))
 
@@ -105,8 +105,8 @@ module _ (ts rs : List Row) (s : List ℕ) where
   stopped p (x ∷ xs) h e = list_stop ts rs p x xs e
 
   -- the listing is these answers in order (F6.8)
-  pub list-step : (p : ℕ) → p ≤ length s → listed p ≡ goes_on (frame_at ts rs s p) listed
-  list-step p h =
+  pub list_step : (p : ℕ) → p ≤ length s → listed p ≡ goes_on (frame_at ts rs s p) listed
+  list_step p h =
       or_else (length s) p (λ l. at_end_lem p (omega arith))
       (λ l.
       let d = length-drop p s in
@@ -117,10 +117,10 @@ module _ (ts rs : List Row) (s : List ℕ) where
       (λ k e. rw (before_end p l, e) (stopped p (drop p s) (omega arith) e)))
 
   -- a frame that is listed stands whole at its position
-  pub whole-at : {X : Type 0} {p at n ty tag tail next : ℕ} {a : Answer} → frame_at ts rs s p ≡ frame at n ty tag a tail next
+  pub whole_at : {X : Type 0} {p at n ty tag tail next : ℕ} {a : Answer} → frame_at ts rs s p ≡ frame at n ty tag a tail next
       → ((m : ℕ) → Front (drop p s) m → listed_frame ts rs p (take m (drop p s)) ≡ frame at n ty tag a tail next → X) → X
   unfolding frame_at
-  whole-at {p = p} e f =
+  whole_at {p = p} e f =
       or_else (length s) p (λ l. absurd (none l))
       (λ l. front_case ts rs p (drop p s) (λ m x g. f m x (sym g ∙ sym (before_end p l) ∙ e))
       (λ k g. absurd (let u = sym g ∙ sym (before_end p l) ∙ e in let c : ◌≡◌ {A = ℕ} 0 1 = cc u in omega arith)))
@@ -137,9 +137,9 @@ module _ (ts rs : List Row) (s : List ℕ) where
     pub on : next ≡ p + n
     pub within : next ≤ length s
 
-  pub moves-on : {p at n ty tag tail next : ℕ} {a : Answer} → frame_at ts rs s p ≡ frame at n ty tag a tail next → Moved p n next
-  moves-on {p} {at} {n} {ty} {tag} {tail} {next} e =
-      whole-at e
+  pub moves_on : {p at n ty tag tail next : ℕ} {a : Answer} → frame_at ts rs s p ≡ frame at n ty tag a tail next → Moved p n next
+  moves_on {p} {at} {n} {ty} {tag} {tail} {next} e =
+      whole_at e
       (λ m f u.
       let z : length (take m (drop p s)) ≡ m = length-take-le m (drop p s) f.held in
       let x : length (take m (drop p s)) ≡ n = cc u in
@@ -179,9 +179,9 @@ module _ (ts rs : List Row) where
           let v = f.seven in
           let w = f.held in
           let i = ih (pred m) (omega arith) in
-          rw (list-frame ts rs p x xs e) (omega arith))
+          rw (list_frame ts rs p x xs e) (omega arith))
           (λ k e. rw (list_stop ts rs p x xs e) (omega arith))
 
-  pub sizes-add-up : (s : List ℕ) → sizes_in (listing ts rs s) ≡ stops_at (listing ts rs s)
+  pub sizes_add_up : (s : List ℕ) → sizes_in (listing ts rs s) ≡ stops_at (listing ts rs s)
   unfolding listing
-  sizes-add-up s = let e = adds_up s 0 0 (omega arith) in omega arith
+  sizes_add_up s = let e = adds_up s 0 0 (omega arith) in omega arith

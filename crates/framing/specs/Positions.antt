@@ -22,15 +22,15 @@ use Rattle.framing.specs.WritingLaws.{head_length}
 use Rattle.framing.specs.Stretch.{type_in, tag_in, table_for, answer_of, frame, frame_at}
 use Rattle.framing.specs.Cuts.{between}
 use Rattle.framing.specs.CutLaws.{whole_frame}
-use Rattle.framing.specs.ListingLaws.{Front, whole-at}
+use Rattle.framing.specs.ListingLaws.{Front, whole_at}
 use Rattle.framing.specs.Accepted.{Accepts, accepts}
-use Rattle.framing.specs.Broken.{NotUtf8In, ZeroIn, frame-five, frame-six}
-use Rattle.framing.specs.Stripped.{resized, shows-record, stripped-written}
+use Rattle.framing.specs.Broken.{NotUtf8In, ZeroIn, frame_five, frame_six}
+use Rattle.framing.specs.Stripped.{resized, shows_record, stripped_written}
 
 module _ (rows : List Row) (f : List ℕ) {l : Layout} {ty tag used : ℕ} {vs : List Value} (A : Accepts rows f ty tag vs used) (known : lookup rows ty ≡ some l) where
   -- with any bytes before it and after it
-  pub shows-among : (x y : List ℕ) → shows l (x ++ (f ++ y)) (map (raise_value (length x)) vs) ≡ ok A.items []
-  shows-among x y =
+  pub shows_among : (x y : List ℕ) → shows l (x ++ (f ++ y)) (map (raise_value (length x)) vs) ≡ ok A.items []
+  shows_among x y =
       let h : List ℕ = head_bytes A.size ty tag in
       let i : List ℕ = items_bytes A.items in
       let r : List ℕ = drop A.size f in
@@ -59,13 +59,13 @@ module _ (rows : List Row) (s : List ℕ) (p e : ℕ) (b : Bytes s) (h : p ≤ e
   shown_there : shows l s (map (raise_value p) vs) ≡ shows l (between p e s) vs
   shown_there =
       let n : length (take p s) ≡ p = length-take-le p s (omega arith) in
-      ap₂ (λ (x : List ℕ) m. shows l x (map (raise_value m) vs)) (around s p e h) (sym n) ∙ shows-among rows (between p e s) is known (take p s) (drop e s)
-      ∙ sym (shows-record rows (between p e s) is known)
+      ap₂ (λ (x : List ℕ) m. shows l x (map (raise_value m) vs)) (around s p e h) (sym n) ∙ shows_among rows (between p e s) is known (take p s) (drop e s)
+      ∙ sym (shows_record rows (between p e s) is known)
 
   written_there : (o : List ℕ) → used ≤ length o
       → (frame_out ty tag (shows l s (map (raise_value p) vs)) o ≡ over o 0 (resized used (between p e s))) × (frame_past ty tag (shows l s (map (raise_value p) vs)) o ≡ At used)
   written_there o r =
-      let w = stripped-written rows (between p e s) is known o r in (
+      let w = stripped_written rows (between p e s) is known o r in (
         ap (λ m. frame_out ty tag m o) shown_there ∙ w.0,
         ap (λ m. frame_past ty tag m o) shown_there ∙ w.1,
       )
@@ -83,7 +83,7 @@ module _ (ts rs : List Row) (s : List ℕ) (p : ℕ) {at n ty tag tail next : �
 
   pub stood : Stood
   stood =
-      whole-at ts rs s e
+      whole_at ts rs s e
       (λ m f u.
       let g : List ℕ = take m (drop p s) in
       let z : length g ≡ m = length-take-le m (drop p s) f.held in
@@ -119,14 +119,14 @@ module _ (ts rs : List Row) (s : List ℕ) (p : ℕ) {at n ty tag y used tail ne
 
   module _ {l : Layout} (known : lookup (table_for ts rs ty) y ≡ some l) where
     -- its values show in the stretch exactly what the frame, read alone, shows in itself
-    pub listed-shows : shows l s vs ≡ shows l (between p next s) alone.values
-    listed-shows =
+    pub listed_shows : shows l s vs ≡ shows l (between p next s) alone.values
+    listed_shows =
         let w = stood ts rs s p e in
         ap (shows l s) (sym alone.raised) ∙ shown_there (table_for ts rs ty) s p next b w.start w.held known alone.reads
 
     -- and writing it with the stretch as the lent bytes gives the frame stripped of its tail
-    pub listed-written : (o : List ℕ) → used ≤ length o → (frame_out y tag (shows l s vs) o ≡ over o 0 (resized used (between p next s))) × (frame_past y tag (shows l s vs) o ≡ At used)
-    listed-written o h =
+    pub listed_written : (o : List ℕ) → used ≤ length o → (frame_out y tag (shows l s vs) o ≡ over o 0 (resized used (between p next s))) × (frame_past y tag (shows l s vs) o ≡ At used)
+    listed_written o h =
         let w = stood ts rs s p e in
         let v : shows l s vs ≡ shows l s (map (raise_value p) alone.values) = ap (shows l s) (sym alone.raised) in
         let r = written_there (table_for ts rs ty) s p next b w.start w.held known alone.reads o h in (ap (λ m. frame_out y tag m o) v ∙ r.0, ap (λ m. frame_past y tag m o) v ∙ r.1)
@@ -178,18 +178,18 @@ place_inv p (accepted ty vs used) e f = absurd (let z : ◌≡◌ {A = ℕ} 0 1 
 place_inv p (refused j i) {k} {m} e f = let g : j ≡ k = cc e in let h : raise_place p j i ≡ m = cc e in f i (ap (λ x. refused x i) g) (rw g at h)
 
 module _ (ts rs : List Row) (s : List ℕ) (p : ℕ) {at n ty tag tail next m : ℕ} (b : Bytes s) where
-  pub five-there : frame_at ts rs s p ≡ frame at n ty tag (refused R.NotUtf8 m) tail next → NotUtf8In s m
-  five-there e =
+  pub five_there : frame_at ts rs s p ≡ frame at n ty tag (refused R.NotUtf8 m) tail next → NotUtf8In s m
+  five_there e =
       let w = stood ts rs s p e in
       place_inv p (answer_of ts rs (between p next s)) w.answer
       (λ i g h. rw h at
       (five_moved s p next w.start w.held
-      (frame-five (table_for ts rs ty) (between p next s) (bytes_take (next - p) (drop p s) (bytes_drop p s b)) (w.reads ∙ ap (framed 0 tag) g))))
+      (frame_five (table_for ts rs ty) (between p next s) (bytes_take (next - p) (drop p s) (bytes_drop p s b)) (w.reads ∙ ap (framed 0 tag) g))))
 
-  pub six-there : frame_at ts rs s p ≡ frame at n ty tag (refused R.ZeroByte m) tail next → ZeroIn s m
-  six-there e =
+  pub six_there : frame_at ts rs s p ≡ frame at n ty tag (refused R.ZeroByte m) tail next → ZeroIn s m
+  six_there e =
       let w = stood ts rs s p e in
       place_inv p (answer_of ts rs (between p next s)) w.answer
       (λ i g h. rw h at
       (six_moved s p next w.start w.held
-      (frame-six (table_for ts rs ty) (between p next s) (bytes_take (next - p) (drop p s) (bytes_drop p s b)) (w.reads ∙ ap (framed 0 tag) g))))
+      (frame_six (table_for ts rs ty) (between p next s) (bytes_take (next - p) (drop p s) (bytes_drop p s b)) (w.reads ∙ ap (framed 0 tag) g))))

@@ -72,11 +72,11 @@ pub since_at : (p : ℕ) {m n : ℕ} {e : Place} → e ≡ At m → n ≡ m - p 
 since_at p h d = rw (h, d)
 
 module _ {p len : ℕ} {t : Bool} (w : Within p 7 len t) where
-  pub body-held : t ≡ true → At (p + 7) ≡ body_place len p
-  body-held h = rw (le-leb (p + 7) len (inside w h))
+  pub body_held : t ≡ true → At (p + 7) ≡ body_place len p
+  body_held h = rw (le-leb (p + 7) len (inside w h))
 
-  pub body-short : t ≡ false → Refused R.Short 0 ≡ body_place len p
-  body-short h = rw (lt-leb (p + 7) len (outside w h))
+  pub body_short : t ≡ false → Refused R.Short 0 ≡ body_place len p
+  body_short h = rw (lt-leb (p + 7) len (outside w h))
 
 -- read where the body begins, and told by the bytes used
 pub from_body : (rows : List Row) (ty at : ℕ) (s : List ℕ) {q : Place} {a : Answer} → q ≡ body_place (length s) at → a ≡ read_body rows ty s q → used_since at a ≡ body_from rows ty s at

@@ -16,8 +16,8 @@ use Rattle.framing.specs.Raising.{raise_value}
 use Rattle.framing.specs.Stretch.{type_in, tag_in, table_for, answer_of, Listing, entry, ends, stops, listing}
 use Rattle.framing.specs.CutLaws.{whole_header}
 use Rattle.framing.specs.Accepted.{body_inv}
-use Rattle.framing.specs.Demand.{Whole, Lengthened, Edited, nothing, grown, added, old_lines, new_lines, grown-frame, old-listed, new-listed}
-use Rattle.framing.specs.Positions.{shows-among}
+use Rattle.framing.specs.Demand.{Whole, Lengthened, Edited, nothing, grown, added, old_lines, new_lines, grown_frame, old_listed, new_listed}
+use Rattle.framing.specs.Positions.{shows_among}
 
 -- what a sound frame shows, wherever it stands and whatever its tail: its type, its tag, and the numbers and bytes of its fields
 pub data Record : Type 0 where
@@ -47,10 +47,10 @@ module _ (ts rs : List Row) where
       ≡ shows (fields_of (lookup (table_for ts rs (type_in f)) (type_in f))) (x ++ (f ++ y)) (map (raise_value (length x)) vs)
   same_shown f g {vs = vs} b c w a l x x' y y' =
       let rows : List Row = table_for ts rs (type_in f) in
-      let G = grown-frame ts rs f g b c a l in
+      let G = grown_frame ts rs f g b c a l in
       let k : lookup rows (type_in f) ≡ some (map kind G.old.items) = ap (lookup rows) (type_is f w a) ∙ G.old.stands.known in
       rw k
-      (shows-among rows g G.new (rw G.items at G.new.stands.known) x' y' ∙ ap (λ i. ok i []) G.items ∙ sym (shows-among rows f G.old G.old.stands.known x y))
+      (shows_among rows g G.new (rw G.items at G.new.stands.known) x' y' ∙ ap (λ i. ok i []) G.items ∙ sym (shows_among rows f G.old G.old.stands.known x y))
 
   -- one frame on, in a stretch that goes on after it
   further : (x f y : List ℕ) → x ++ (f ++ y) ≡ (x ++ f) ++ y
@@ -73,7 +73,7 @@ module _ (ts rs : List Row) where
       ap₂ (λ (z : List ℕ) n. records_in ts rs z (new_lines n e)) (further x' f new) (on x' f) ∙ same_lines e x (x' ++ f) b (bytes_split f new c).1
 
   -- of an edited stretch the same records are shown
-  pub same-records : {old new : List ℕ} → Edited ts rs old new → Bytes old → Bytes new → records_in ts rs new (listing ts rs new) ≡ records_in ts rs old (listing ts rs old)
+  pub same_records : {old new : List ℕ} → Edited ts rs old new → Bytes old → Bytes new → records_in ts rs new (listing ts rs new) ≡ records_in ts rs old (listing ts rs old)
   unfolding listing
-  same-records {old} {new} e b c =
-      ap (records_in ts rs new) (new-listed ts rs e 0 b c) ∙ same_lines e [] [] b c ∙ ap (records_in ts rs old) (sym (old-listed ts rs e 0 b))
+  same_records {old} {new} e b c =
+      ap (records_in ts rs new) (new_listed ts rs e 0 b c) ∙ same_lines e [] [] b c ∙ ap (records_in ts rs old) (sym (old_listed ts rs e 0 b))

@@ -53,8 +53,8 @@ module _ (s : List ℕ) (p : ℕ) {at : ℕ} (m : at ≡ min p (length s)) (g : 
       let f : read_header (drop at s) ≡ bad k 0 = rw (e, to_the_end s at) at h ∙ ap (λ i. bad i 0) (sym (w.is j e)) in
       ap (raise_frame p) (frame_headless (drop at s) rows f ∙ ap (read_frame rows) (same_bytes s p m))
 
-  pub header-there : (rows : List Row) {n ty tag : ℕ} → Bytes s → g ≡ H.Held n ty tag → framed at tag (body_from rows ty (take (at + n) s) at) ≡ read_frame_at rows s p
-  header-there rows {n} {ty} {tag} b e =
+  pub header_there : (rows : List Row) {n ty tag : ℕ} → Bytes s → g ≡ H.Held n ty tag → framed at tag (body_from rows ty (take (at + n) s) at) ≡ read_frame_at rows s p
+  header_there rows {n} {ty} {tag} b e =
       let y = own_held s p m h e in
       let a = y.0 in
       let c = y.1 in

@@ -50,19 +50,19 @@ module _ (rows : List Row) (s : List ℕ) {ty tag used : ℕ} {vs : List Value} 
       omega arith
 
   -- the fields lie within the size
-  pub used-within : used ≤ A.size
-  used-within = let a = whole_length in let b = A.uses in omega arith
+  pub used_within : used ≤ A.size
+  used_within = let a = whole_length in let b = A.uses in omega arith
 
-  pub first-used : take used s ≡ head_bytes A.size ty tag ++ items_bytes A.items
-  first-used =
+  pub first_used : take used s ≡ head_bytes A.size ty tag ++ items_bytes A.items
+  first_used =
       let h : List ℕ = head_bytes A.size ty tag in
       let i : List ℕ = items_bytes A.items in
       let l : length (h ++ i) ≡ used = length-append h i ∙ ap (λ n. n + length i) (head_length A.size ty tag) ∙ sym A.uses in
-      sym (take-take used A.size s used-within) ∙ ap (take used) (A.held ∙ sym (append_assoc h i A.left)) ∙ take_at (h ++ i) A.left used l
+      sym (take-take used A.size s used_within) ∙ ap (take used) (A.held ∙ sym (append_assoc h i A.left)) ∙ take_at (h ++ i) A.left used l
 
-  pub stripped-is : resized used s ≡ head_bytes used ty tag ++ items_bytes A.items
+  pub stripped_is : resized used s ≡ head_bytes used ty tag ++ items_bytes A.items
   unfolding resized
-  stripped-is = ap (λ (x : List ℕ). to_le 4 used ++ drop 4 x) first-used ∙ after_size used A.size ty tag (items_bytes A.items)
+  stripped_is = ap (λ (x : List ℕ). to_le 4 used ++ drop 4 x) first_used ∙ after_size used A.size ty tag (items_bytes A.items)
 
   pub stands_at : (n : ℕ) → n ≤ A.size → Stands rows n ty tag A.items
   stands_at n h = record {
@@ -74,17 +74,17 @@ module _ (rows : List Row) (s : List ℕ) {ty tag used : ℕ} {vs : List Value} 
   }
 
   -- a stripped frame gives the same record
-  pub stripped-read : read_frame rows (resized used s) ≡ framed 0 tag (accepted ty vs used)
-  stripped-read =
+  pub stripped_read : read_frame rows (resized used s) ≡ framed 0 tag (accepted ty vs used)
+  stripped_read =
       let i : List ℕ = items_bytes A.items in
       let e : head_bytes used ty tag ++ i ≡ head_bytes used ty tag ++ (i ++ []) ++ [] = simp append-nil in
       let u = A.uses in
-      ap (read_frame rows) (stripped-is ∙ e) ∙ reads_frame rows used ty tag A.items [] [] (stands_at used used-within) (simp append-nil (omega arith))
+      ap (read_frame rows) (stripped_is ∙ e) ∙ reads_frame rows used ty tag A.items [] [] (stands_at used used_within) (simp append-nil (omega arith))
       ∙ ap₂ (λ v n. framed 0 tag (accepted ty v n)) (sym A.values) (sym u)
 
   -- what the record shows of the frame's bytes
-  pub shows-record : {l : Layout} → lookup rows ty ≡ some l → shows l s vs ≡ ok A.items []
-  shows-record {l} known =
+  pub shows_record : {l : Layout} → lookup rows ty ≡ some l → shows l s vs ≡ ok A.items []
+  shows_record {l} known =
       let h : List ℕ = head_bytes A.size ty tag in
       let i : List ℕ = items_bytes A.items in
       let r : List ℕ = drop A.size s in
@@ -96,18 +96,18 @@ module _ (rows : List Row) (s : List ℕ) {ty tag used : ℕ} {vs : List Value} 
       ∙ shows_items A.items h (A.left ++ r) 7 A.stands.goods (head_length A.size ty tag)
 
   -- and is written back byte for byte
-  pub stripped-written : {l : Layout} → lookup rows ty ≡ some l → (o : List ℕ) → used ≤ length o
+  pub stripped_written : {l : Layout} → lookup rows ty ≡ some l → (o : List ℕ) → used ≤ length o
       → (frame_out ty tag (shows l s vs) o ≡ over o 0 (resized used s)) × (frame_past ty tag (shows l s vs) o ≡ At used)
   unfolding frame_out frame_past frame_bytes
-  stripped-written known o h =
+  stripped_written known o h =
       let u = A.uses in
-      let b : frame_bytes ty tag A.items ≡ resized used s = ap (λ n. head_bytes n ty tag ++ items_bytes A.items) (sym u) ∙ sym stripped-is in
+      let b : frame_bytes ty tag A.items ≡ resized used s = ap (λ n. head_bytes n ty tag ++ items_bytes A.items) (sym u) ∙ sym stripped_is in
       let l = frame_length ty tag A.items in
       let z = A.stands.sized in
-      let w = used-within in
+      let w = used_within in
       let t = lt-ltb (7 + length (items_bytes A.items)) limit (omega arith) in (
-        rw (shows-record known, t) (put_fits (frame_bytes ty tag A.items) o 0 (omega arith) ∙ ap (over o 0) b),
-        rw (shows-record known, t) (past_fits (frame_bytes ty tag A.items) o 0 (omega arith) ∙ ap At (omega arith)),
+        rw (shows_record known, t) (put_fits (frame_bytes ty tag A.items) o 0 (omega arith) ∙ ap (over o 0) b),
+        rw (shows_record known, t) (past_fits (frame_bytes ty tag A.items) o 0 (omega arith) ∙ ap At (omega arith)),
       )
 
 -- ---- a cut frame is refused as short
@@ -140,7 +140,7 @@ module _ (rows : List Row) (s : List ℕ) {ty tag used : ℕ} {vs : List Value} 
   unfolding resized
   first_cut l =
       let e : j ≡ 4 + (j - 4) = omega arith in
-      let t : take j s ≡ take j (to_le 4 A.size ++ rest) = sym (take-take j used s (omega arith)) ∙ ap (take j) (first-used rows s A ∙ (simp append_assoc)) in
+      let t : take j s ≡ take j (to_le 4 A.size ++ rest) = sym (take-take j used s (omega arith)) ∙ ap (take j) (first_used rows s A ∙ (simp append_assoc)) in
       ap (λ (x : List ℕ). to_le 4 j ++ drop 4 x) t ∙ ap (λ n. to_le 4 j ++ drop 4 (take n (to_le 4 A.size ++ rest))) e
       ∙ ap (λ (x : List ℕ). to_le 4 j ++ x) (drop_take 4 (j - 4) (to_le 4 A.size ++ rest) ∙ ap (take (j - 4)) (drop_at (to_le 4 A.size) rest 4 (length_to_le 4 A.size)))
 
@@ -148,7 +148,7 @@ module _ (rows : List Row) (s : List ℕ) {ty tag used : ℕ} {vs : List Value} 
   unfolding read_frame read_header
   fields_cut l =
       let z = A.stands.sized in
-      let w = used-within rows s A in
+      let w = used_within rows s A in
       let u = A.uses in
       let r = rest_length in
       rw (first_cut l, (reads_num 4 j (omega arith)).back (take (j - 4) rest), le-ltb j 4 l, take-take (j - 4) (j - 4) rest (omega arith))

@@ -108,9 +108,9 @@ module _ {fs : Layout} {ty tag : ℕ} {lent : List ℕ} {vs : List Value} {o o1 
         next = h.next ∙ ap (λ z. head_past z o1) b ∙ room ∙ rw (s, f) (sym (past_fits (frame_bytes ty tag is) o 0 (omega arith) ∙ ap At g));
       }
 
-  pub frame-written : FrameWritten fs ty tag lent vs o o2 q
+  pub frame_written : FrameWritten fs ty tag lent vs o o2 q
   unfolding frame_out frame_past
-  frame-written = go (shows fs lent vs) refl w.bytes w.next
+  frame_written = go (shows fs lent vs) refl w.bytes w.next
     where
       go : (m : Result (List Item)) → shows fs lent vs ≡ m → o1 ≡ written_out (shows fs lent vs) o (At 7) → e ≡ written_past (shows fs lent vs) o (At 7) → FrameWritten fs ty tag lent vs o o2 q
       go (bad k at) s x y = nothing k at (rw s at y) (rw s at x) (bad k at) s refl refl
@@ -128,4 +128,4 @@ module _ {fs : Layout} {ty tag : ℕ} {lent : List ℕ} {vs : List Value} {o o1 
 
 pub frame_as : {fs : Layout} {ty ty' tag : ℕ} {lent : List ℕ} {vs : List Value} {o o1 o2 : List ℕ} {e q : Place} → ty' ≡ ty → Written fs lent vs o (At 7) o1 e → HeadPut ty' tag e o1 o2 q
     → FrameWritten fs ty tag lent vs o o2 q
-frame_as f w h = frame-written w (rw f at h)
+frame_as f w h = frame_written w (rw f at h)

@@ -68,29 +68,29 @@ checked_map f (ok x r) (At n) = refl
 checked_map f (bad k at) (At n) = refl
 
 module _ {lent : List ℕ} {x y : ℕ} {p q : Place} where
-  pub str-check : StrCheck lent x y p q → ShowCheck str lent (span x y) p q
+  pub str_check : StrCheck lent x y p q → ShowCheck str lent (span x y) p q
   unfolding show
-  str-check c = record { is = c.is ∙ checked_map string (show_string lent x y) p }
+  str_check c = record { is = c.is ∙ checked_map string (show_string lent x y) p }
 
-  pub dat-check : SpanCheck lent x y p q → ShowCheck dat lent (span x y) p q
+  pub dat_check : SpanCheck lent x y p q → ShowCheck dat lent (span x y) p q
   unfolding show
-  dat-check c = record { is = c.is ∙ checked_map bytes (show_span lent x y) p }
+  dat_check c = record { is = c.is ∙ checked_map bytes (show_span lent x y) p }
 
-  pub quids-outside : {n : ℕ} {k : Refusal} {at : ℕ} → PartCheck lent n x y p q → q ≡ Refused k at → ShowCheck quids lent (part n x y) p q
+  pub quids_outside : {n : ℕ} {k : Refusal} {at : ℕ} → PartCheck lent n x y p q → q ≡ Refused k at → ShowCheck quids lent (part n x y) p q
   unfolding show
-  quids-outside {n} c e = record { is = e ∙ sym (first_refuses (show_part lent n x y) _ p (sym c.is ∙ e)) }
+  quids_outside {n} c e = record { is = e ∙ sym (first_refuses (show_part lent n x y) _ p (sym c.is ∙ e)) }
 
-  pub quids-fine : {n a : ℕ} → PartCheck lent n x y p q → q ≡ At a → y ≡ 13 * n → ShowCheck quids lent (part n x y) p q
+  pub quids_fine : {n a : ℕ} → PartCheck lent n x y p q → q ≡ At a → y ≡ 13 * n → ShowCheck quids lent (part n x y) p q
   unfolding show
-  quids-fine {n} c e h = let k = part_passed c e in record { is = e ∙ rw (k.place, k.shows, eq-eqb y (13 * n) h) }
+  quids_fine {n} c e h = let k = part_passed c e in record { is = e ∙ rw (k.place, k.shows, eq-eqb y (13 * n) h) }
 
-  pub quids-malformed : {n a : ℕ} → PartCheck lent n x y p q → q ≡ At a → (y ≡ 13 * n → ⊥) → ShowCheck quids lent (part n x y) p (Refused R.PartMalformed 0)
+  pub quids_malformed : {n a : ℕ} → PartCheck lent n x y p q → q ≡ At a → (y ≡ 13 * n → ⊥) → ShowCheck quids lent (part n x y) p (Refused R.PartMalformed 0)
   unfolding show
-  quids-malformed {n} c e h = let k = part_passed c e in record { is = rw (k.place, k.shows, ne_eqb y (13 * n) h) }
+  quids_malformed {n} c e h = let k = part_passed c e in record { is = rw (k.place, k.shows, ne_eqb y (13 * n) h) }
 
-  pub strs-outside : {n : ℕ} {k : Refusal} {at : ℕ} → PartCheck lent n x y p q → q ≡ Refused k at → ShowCheck strs lent (part n x y) p q
+  pub strs_outside : {n : ℕ} {k : Refusal} {at : ℕ} → PartCheck lent n x y p q → q ≡ Refused k at → ShowCheck strs lent (part n x y) p q
   unfolding show
-  strs-outside {n} c e = record { is = e ∙ sym (first_refuses (show_part lent n x y) _ p (sym c.is ∙ e)) }
+  strs_outside {n} c e = record { is = e ∙ sym (first_refuses (show_part lent n x y) _ p (sym c.is ∙ e)) }
 
 -- the scan's end tells whether the strings fill the part
 fills : (n a x stop : ℕ) (bs : List ℕ) → length bs ≤ stop → Bytes bs → (m : Result (List (List ℕ))) → read_many n x bs ≡ m
@@ -144,20 +144,20 @@ pub settles_refused : {e : Place} {n : ℕ} {k : Refusal} {at : ℕ} → e ≡ R
 settles_refused e = record { is = rw e }
 
 module _ {e : Place} {n m : ℕ} where
-  pub settles-over : e ≡ At m → limit ≤ m → Settled e n (Refused R.FrameTooLong 0)
-  settles-over f h = record { is = rw (f, le-ltb m limit h) }
+  pub settles_over : e ≡ At m → limit ≤ m → Settled e n (Refused R.FrameTooLong 0)
+  settles_over f h = record { is = rw (f, le-ltb m limit h) }
 
-  pub settles-full : e ≡ At m → m < limit → n < m → Settled e n (Refused R.NoRoom 0)
-  settles-full f h k = record { is = rw (f, lt-ltb m limit h, lt-leb m n k) }
+  pub settles_full : e ≡ At m → m < limit → n < m → Settled e n (Refused R.NoRoom 0)
+  settles_full f h k = record { is = rw (f, lt-ltb m limit h, lt-leb m n k) }
 
-  pub settles-fits : e ≡ At m → m < limit → m ≤ n → Settled e n (At m)
-  settles-fits f h k = record { is = rw (f, lt-ltb m limit h, le-leb m n k) }
+  pub settles_fits : e ≡ At m → m < limit → m ≤ n → Settled e n (At m)
+  settles_fits f h k = record { is = rw (f, lt-ltb m limit h, le-leb m n k) }
 
 -- ---- where putting begins
 
 module _ {p e q : Place} {n : ℕ} where
-  pub begins-not : {k : Refusal} {at : ℕ} → Settled e n q → q ≡ Refused k at → Begun p e n q
-  begins-not s h = record { is = rw (← s.is, h) }
+  pub begins_not : {k : Refusal} {at : ℕ} → Settled e n q → q ≡ Refused k at → Begun p e n q
+  begins_not s h = record { is = rw (← s.is, h) }
 
   pub begins : {m : ℕ} → Settled e n q → q ≡ At m → Begun p e n p
   begins s h = record { is = rw (← s.is, h) }

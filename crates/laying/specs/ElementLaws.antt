@@ -46,17 +46,17 @@ element_one (E.Refused k at) (E.Found s) e f = absurd (let g = one_answer e f in
 -- ---- 17, then 9, then 15
 
 module _ {lent : List ℕ} {c x y i : ℕ} {q : Place} where
-  pub asked-outside : {k : Refusal} {at : ℕ} → PartCheck lent c x y (At 0) q → q ≡ Refused k at → ElementAsked lent (part c x y) i q
+  pub asked_outside : {k : Refusal} {at : ℕ} → PartCheck lent c x y (At 0) q → q ≡ Refused k at → ElementAsked lent (part c x y) i q
   unfolding asked_for
-  asked-outside s e = record { is = e ∙ sym (first_refuses (show_part lent c x y) _ (At 0) (sym s.is ∙ e)) }
+  asked_outside s e = record { is = e ∙ sym (first_refuses (show_part lent c x y) _ (At 0) (sym s.is ∙ e)) }
 
-  pub asked-below : {a : ℕ} → PartCheck lent c x y (At 0) q → q ≡ At a → i < c → ElementAsked lent (part c x y) i q
+  pub asked_below : {a : ℕ} → PartCheck lent c x y (At 0) q → q ≡ At a → i < c → ElementAsked lent (part c x y) i q
   unfolding asked_for
-  asked-below s e h = let p = part_passed s e in record { is = e ∙ sym p.place ∙ rw (p.shows, lt-ltb i c h) }
+  asked_below s e h = let p = part_passed s e in record { is = e ∙ sym p.place ∙ rw (p.shows, lt-ltb i c h) }
 
-  pub asked-past : {a : ℕ} → PartCheck lent c x y (At 0) q → q ≡ At a → c ≤ i → ElementAsked lent (part c x y) i (Refused R.NoSuchElement 0)
+  pub asked_past : {a : ℕ} → PartCheck lent c x y (At 0) q → q ≡ At a → c ≤ i → ElementAsked lent (part c x y) i (Refused R.NoSuchElement 0)
   unfolding asked_for
-  asked-past s e h = let p = part_passed s e in record { is = rw (p.shows, le-ltb i c h) }
+  asked_past s e h = let p = part_passed s e in record { is = rw (p.shows, le-ltb i c h) }
 
 -- ---- any vector
 

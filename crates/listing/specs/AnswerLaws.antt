@@ -17,18 +17,18 @@ use Rattle.stretch.specs.declared.Body.TheVariants as B
 use Rattle.listing.specs.Text.{answer_number}
 
 module _ {c : Body} where
-  pub number-of-request : {b : Tbody} {m : Tmessage} {n : ℕ} → c ≡ B.Request b → b ≡ T.Message m n → 0 ≡ answer_number (view_body c)
+  pub number_of_request : {b : Tbody} {m : Tmessage} {n : ℕ} → c ≡ B.Request b → b ≡ T.Message m n → 0 ≡ answer_number (view_body c)
   unfolding view_body view_t
-  number-of-request e f = rw (e, f)
+  number_of_request e f = rw (e, f)
 
-  pub number-of-no-request : {b : Tbody} {k : Refusal} {at : ℕ} {x : ℕ} → c ≡ B.Request b → b ≡ T.Refused k at → x ≡ number_of k → x ≡ answer_number (view_body c)
+  pub number_of_no_request : {b : Tbody} {k : Refusal} {at : ℕ} {x : ℕ} → c ≡ B.Request b → b ≡ T.Refused k at → x ≡ number_of k → x ≡ answer_number (view_body c)
   unfolding view_body view_t
-  number-of-no-request e f h = rw (e, f) h
+  number_of_no_request e f h = rw (e, f) h
 
-  pub number-of-reply : {b : Rbody} {m : Rmessage} {n : ℕ} → c ≡ B.Reply b → b ≡ Q.Message m n → 0 ≡ answer_number (view_body c)
+  pub number_of_reply : {b : Rbody} {m : Rmessage} {n : ℕ} → c ≡ B.Reply b → b ≡ Q.Message m n → 0 ≡ answer_number (view_body c)
   unfolding view_body view_r
-  number-of-reply e f = rw (e, f)
+  number_of_reply e f = rw (e, f)
 
-  pub number-of-no-reply : {b : Rbody} {k : Refusal} {at : ℕ} {x : ℕ} → c ≡ B.Reply b → b ≡ Q.Refused k at → x ≡ number_of k → x ≡ answer_number (view_body c)
+  pub number_of_no_reply : {b : Rbody} {k : Refusal} {at : ℕ} {x : ℕ} → c ≡ B.Reply b → b ≡ Q.Refused k at → x ≡ number_of k → x ≡ answer_number (view_body c)
   unfolding view_body view_r
-  number-of-no-reply e f h = rw (e, f) h
+  number_of_no_reply e f h = rw (e, f) h

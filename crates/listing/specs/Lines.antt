@@ -6,7 +6,7 @@ use Rattle.numbers.specs.Refusals.{number_of}
 use Rattle.layouts.specs.Tables.{Row, table_t, table_r}
 use Rattle.framing.specs.Stretch.{Listing, entry, ends, stops, listing}
 use Rattle.framing.specs.Damage.{Has, Damaged, EqualBut, there, other}
-use Rattle.framing.specs.DamageLaws.{damaged-listing}
+use Rattle.framing.specs.DamageLaws.{damaged_listing}
 use Rattle.listing.specs.Text.{joined, answer_number, line_pieces, header, end_word, stop_word, last_pieces, lines_from, too_long, report, Reported}
 
 -- ---- lines
@@ -59,11 +59,11 @@ lines_but k (other e) = same (lines_but (suc k) e)
 
 module _ (ts rs : List Row) {p n : ℕ} {s t : List ℕ} (d : Damaged p n s t) where
   -- if the stretch has the frame
-  pub damaged-text : length s ≤ 65536 → Has p n (listing ts rs s) → LinesBut p n (report_lines ts rs s) (report_lines ts rs t)
-  damaged-text l h = let e = d.long in rw (le-ltb 65536 (length s) l, le-ltb 65536 (length t) (omega arith)) (same (lines_but 0 (damaged-listing ts rs d h)))
+  pub damaged_text : length s ≤ 65536 → Has p n (listing ts rs s) → LinesBut p n (report_lines ts rs s) (report_lines ts rs t)
+  damaged_text l h = let e = d.long in rw (le-ltb 65536 (length s) l, le-ltb 65536 (length t) (omega arith)) (same (lines_but 0 (damaged_listing ts rs d h)))
 
-  pub too-long-alike : 65536 < length s → report_lines ts rs t ≡ report_lines ts rs s
-  too-long-alike l = let e = d.long in rw (lt-ltb 65536 (length s) l, lt-ltb 65536 (length t) (omega arith))
+  pub too_long_alike : 65536 < length s → report_lines ts rs t ≡ report_lines ts rs s
+  too_long_alike l = let e = d.long in rw (lt-ltb 65536 (length s) l, lt-ltb 65536 (length t) (omega arith))
 
 -- what the lister leaves at the front of its room is these lines
 pub reported_lines : {s o o' : List ℕ} {k : ℕ} → Reported s o o' k → take k o' ≡ joined (report_lines table_t table_r s)

@@ -11,7 +11,7 @@ use Rattle.numbers.specs.declared.Place.{Place}
 use Rattle.numbers.specs.declared.Place.TheVariants.{At}
 use Rattle.layouts.specs.Tables.{table_t, table_r}
 use Rattle.framing.specs.Stretch.{entry, ends, stops, frame_at, listing}
-use Rattle.framing.specs.ListingLaws.{goes_on, listed, Moved, moves-on}
+use Rattle.framing.specs.ListingLaws.{goes_on, listed, Moved, moves_on}
 use Rattle.stretch.specs.Functions.{answered}
 use Rattle.stretch.specs.Views.{view_body, view_step, Asked}
 use Rattle.stretch.specs.declared.Listed.{Listed}
@@ -26,12 +26,12 @@ pub record Upto (s o : List ℕ) (p₀ : Place) (at n : ℕ) (o1 : List ℕ) (p 
 
 pub moved : {s : List ℕ} {at : ℕ} {r : Step} (l : Listed) → Asked s at r → r ≡ S.Frame l → Moved table_t table_r s at l.size l.next
 unfolding view_step
-moved {s} l a e = moves-on table_t table_r s (sym a.is ∙ ap view_step e)
+moved {s} l a e = moves_on table_t table_r s (sym a.is ∙ ap view_step e)
 
 module _ {s o : List ℕ} {p₀ : Place} where
-  pub upto-none : Upto s o p₀ 0 0 o p₀
+  pub upto_none : Upto s o p₀ 0 0 o p₀
   unfolding listing
-  upto-none = record { on = λ o2 e l. record { is = l } }
+  upto_none = record { on = λ o2 e l. record { is = l } }
 
   pub upto_next : {at n : ℕ} {r : Step} (l : Listed) {o1 o2 : List ℕ} {p q : Place} → at ≤ length s → Asked s at r → r ≡ S.Frame l → Upto s o p₀ at n o1 p → LinePut l o1 p o2 q
       → Upto s o p₀ l.next (n + 1) o2 q
@@ -41,15 +41,15 @@ module _ {s o : List ℕ} {p₀ : Place} where
       let m : n + 1 ≡ suc n = omega arith in
       record { on = λ o3 t w. u.on o3 t (rw g (all_then f.is (rw m at w))) }
 
-  pub upto-end : {at n q : ℕ} {r : Step} {o1 o2 : List ℕ} {p t : Place} → at ≤ length s → Asked s at r → r ≡ S.End q → Upto s o p₀ at n o1 p → LastPut end_word q n o1 p o2 t → LinesPut s o p₀ o2 t
+  pub upto_end : {at n q : ℕ} {r : Step} {o1 o2 : List ℕ} {p t : Place} → at ≤ length s → Asked s at r → r ≡ S.End q → Upto s o p₀ at n o1 p → LastPut end_word q n o1 p o2 t → LinesPut s o p₀ o2 t
   unfolding view_step lines_from
-  upto-end {at} {n} {q} {r} {o1} {o2} {p} {t} h a e u f =
+  upto_end {at} {n} {q} {r} {o1} {o2} {p} {t} h a e u f =
       let g = answered s at r h a ∙ ap (λ x. goes_on (view_step x) (listed table_t table_r s)) e in u.on o2 t (rw g f.is)
 
-  pub upto-stop : {at n q : ℕ} {k : Refusal} {r : Step} {o1 o2 : List ℕ} {p t : Place} → at ≤ length s → Asked s at r → r ≡ S.Refused k q → Upto s o p₀ at n o1 p
+  pub upto_stop : {at n q : ℕ} {k : Refusal} {r : Step} {o1 o2 : List ℕ} {p t : Place} → at ≤ length s → Asked s at r → r ≡ S.Refused k q → Upto s o p₀ at n o1 p
       → LastPut stop_word q (number_of k) o1 p o2 t → LinesPut s o p₀ o2 t
   unfolding view_step lines_from
-  upto-stop {at} {n} {q} {k} {r} {o1} {o2} {p} {t} h a e u f =
+  upto_stop {at} {n} {q} {k} {r} {o1} {o2} {p} {t} h a e u f =
       let g = answered s at r h a ∙ ap (λ x. goes_on (view_step x) (listed table_t table_r s)) e in u.on o2 t (rw g f.is)
 
 -- ---- the report

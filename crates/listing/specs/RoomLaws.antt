@@ -189,15 +189,15 @@ module _ (ts rs : List Row) where
   lines_most zero = λ xs p n h b l m. absurd (omega arith)
   lines_most (suc k) = step k (lines_most k)
 
-  pub listing-narrow : (s : List ℕ) → Bytes s → length s ≤ 65536 → Narrow 0 (length s) (listing ts rs s)
+  pub listing_narrow : (s : List ℕ) → Bytes s → length s ≤ 65536 → Narrow 0 (length s) (listing ts rs s)
   unfolding listing
-  listing-narrow s b h = lines_most (suc (length s)) s 0 0 (omega arith) b (omega arith) (omega arith)
+  listing_narrow s b h = lines_most (suc (length s)) s 0 0 (omega arith) b (omega arith) (omega arith)
 
   -- that much, or the one line of F8.1
   pub text_most : (s : List ℕ) → Bytes s → length (joined (report ts rs s)) ≤ room
   unfolding joined
   text_most s b =
-      or_else (length s) 65536 (λ h. rw (le-ltb 65536 (length s) h) (narrow_most (length s) (listing ts rs s) h (listing-narrow s b h))) (λ h. rw (lt-ltb 65536 (length s) h) (omega arith))
+      or_else (length s) 65536 (λ h. rw (le-ltb 65536 (length s) h) (narrow_most (length s) (listing ts rs s) h (listing_narrow s b h))) (λ h. rw (lt-ltb 65536 (length s) h) (omega arith))
 
 -- ---- the promise
 

@@ -64,11 +64,11 @@ module _ {A B : Type 0} {d : List ℕ → Result A} {x : List ℕ} {a : A} where
   pub reads_then : {b : B} (k : A → List ℕ → Result B) → ((r : List ℕ) → k a r ≡ ok b r) → Reads d x a → Reads (λ xs. after (d xs) k) x b
   reads_then k e R = record { back = λ r. rw (R.back r) (e r); cut = λ j h. rw (R.cut j h) }
 
-  pub reads-map : (f : A → B) → Reads d x a → Reads (λ xs. after (d xs) (λ y r. ok (f y) r)) x (f a)
-  reads-map f R = reads_then (λ y r. ok (f y) r) (λ r. refl) R
+  pub reads_map : (f : A → B) → Reads d x a → Reads (λ xs. after (d xs) (λ y r. ok (f y) r)) x (f a)
+  reads_map f R = reads_then (λ y r. ok (f y) r) (λ r. refl) R
 
-  pub reads-after : {y : List ℕ} {b : B} (k : A → List ℕ → Result B) → Reads d x a → Reads (k a) y b → Reads (λ xs. after (d xs) k) (x ++ y) b
-  reads-after {y} {b} k R S = record { back = back; cut = cut }
+  pub reads_after : {y : List ℕ} {b : B} (k : A → List ℕ → Result B) → Reads d x a → Reads (k a) y b → Reads (λ xs. after (d xs) k) (x ++ y) b
+  reads_after {y} {b} k R S = record { back = back; cut = cut }
     where
       back : (r : List ℕ) → after (d (x ++ y ++ r)) k ≡ ok b r
       back r = rw (append_assoc x y r, R.back (y ++ r)) (S.back r)
@@ -83,7 +83,7 @@ reads_cond e h R = record { back = λ r. rw h (R.back r); cut = λ j k. rw h (R.
 pub reads_num : (w n : ℕ) → n < 256 ^ w → Reads (read_num w) (to_le w n) n
 unfolding read_num
 reads_num w n h =
-    subst (λ (m : ℕ). Reads (read_num w) (to_le w n) m) (from_to w n h) (reads-map from_le (reads_raw w (to_le w n) (length_to_le w n)))
+    subst (λ (m : ℕ). Reads (read_num w) (to_le w n) m) (from_to w n h) (reads_map from_le (reads_raw w (to_le w n) (length_to_le w n)))
 
 -- ---- writing after reading
 

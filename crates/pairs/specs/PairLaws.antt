@@ -36,14 +36,14 @@ module _ (known : Bool) (error ty tag ty' tag' : ℕ) where
   pub other_tag : (tag ≡ tag' → ⊥) → false ≡ paired known error ty tag ty' tag'
   other_tag h = rw (ne_eqb tag tag' h)
 
-  pub an-error : tag ≡ tag' → known ≡ true → ty' ≡ error → true ≡ paired known error ty tag ty' tag'
-  an-error e k h = rw (eq-eqb tag tag' e, k, eq-eqb ty' error h)
+  pub an_error : tag ≡ tag' → known ≡ true → ty' ≡ error → true ≡ paired known error ty tag ty' tag'
+  an_error e k h = rw (eq-eqb tag tag' e, k, eq-eqb ty' error h)
 
   pub by_number : tag ≡ tag' → known ≡ true → (ty' ≡ error → ⊥) → eqb ty' (ty + 1) ≡ paired known error ty tag ty' tag'
   by_number e k h = rw (eq-eqb tag tag' e, k, ne_eqb ty' error h)
 
-  pub no-request : tag ≡ tag' → known ≡ false → false ≡ paired known error ty tag ty' tag'
-  no-request e k = rw (eq-eqb tag tag' e, k)
+  pub no_request : tag ≡ tag' → known ≡ false → false ≡ paired known error ty tag ty' tag'
+  no_request e k = rw (eq-eqb tag tag' e, k)
 
 -- by the table's word on the request
 pub by_table : (rs : List Row) (error ty tag ty' tag' : ℕ) {known r : Bool} → known ≡ knows rs ty → r ≡ paired known error ty tag ty' tag' → r ≡ pairs rs error ty tag ty' tag'

@@ -44,9 +44,9 @@ string_inside s b (P.At a) {e} h = go (read_string a (drop a s)) refl h
         omega arith
 
 module _ (s : List ℕ) where
-  pub added-named : {p : Places} → Sound p → Named s p → (o x y : ℕ) → x + y ≤ length s → Named s (added p o x y).places
+  pub added_named : {p : Places} → Sound p → Named s p → (o x y : ℕ) → x + y ≤ length s → Named s (added p o x y).places
   unfolding added
-  added-named {p} d n o x y h = go (ltb p.used 256) refl
+  added_named {p} d n o x y h = go (ltb p.used 256) refl
     where
       go : (b : Bool) → ltb p.used 256 ≡ b → Named s (cond {A = Reached} b (record { places = rowed p o x y; at = At p.used }) (record { places = p; at = Refused R.TableFull })).places
       go false e = n
@@ -58,13 +58,13 @@ module _ (s : List ℕ) where
           rw (w, get_or-set_same p.starts p.used x 0 (omega arith), get_or-set_same p.lens p.used y 0 (omega arith)) h)
           (λ v. rw (get_or-set_other p.starts p.used i x 0 (λ w. omega arith), get_or-set_other p.lens p.used i y 0 (λ w. omega arith)) (n i v))
 
-  pub step-named : {p : Places} → Sound p → Named s p → (from x y : ℕ) → x + y ≤ length s → Named s (step s p from x y).places
+  pub step_named : {p : Places} → Sound p → Named s p → (from x y : ℕ) → x + y ≤ length s → Named s (step s p from x y).places
   unfolding step
-  step-named {p} d n from x y h = go (is_up (name_in s x y))
+  step_named {p} d n from x y h = go (is_up (name_in s x y))
     where
       go : (b : Bool) → Named s (cond {A = Reached} b (record { places = p; at = At (get_or p.older from 0) }) (child p from x y)).places
       go true = n
-      go false = added-named d n from x y h
+      go false = added_named d n from x y h
 
   module _ (b : Bytes s) where
     onward_named : {p : Places} {r : Reached} → Grown p r → Named s r.places → (q : Place) → Named s (onward s (str_start s q) (str_len s q) (past_str s q) r).places
@@ -74,7 +74,7 @@ module _ (s : List ℕ) where
         go : (t : Spot) → r.at ≡ t → (u : Place) → past_str s q ≡ u → Named s (stepped s (str_start s q) (str_len s q) u r t).places
         go (Refused k) e u f = n
         go (At from) e (P.Refused k j) f = n
-        go (At from) e (P.At j) f = step-named g.sound n from (str_start s q) (str_len s q) (string_inside s b q f)
+        go (At from) e (P.At j) f = step_named g.sound n from (str_start s q) (str_len s q) (string_inside s b q f)
 
     pub walked_named : (m : ℕ) (q : Place) {p : Places} {r : Reached} → Grown p r → Named s r.places → Named s (walked s m q r).places
     unfolding walked

@@ -41,54 +41,54 @@ module _ (s os xs ys : List ℕ) where
       go below false e = rw e
 
   -- a child's is that of its older place, a '/' and the name
-  pub path-child : (i : ℕ) → get_or os i 0 < i → path_in s os xs ys i ≡ path_in s os xs ys (get_or os i 0) ++ (47 ∷ name_in s (get_or xs i 0) (get_or ys i 0))
+  pub path_child : (i : ℕ) → get_or os i 0 < i → path_in s os xs ys i ≡ path_in s os xs ys (get_or os i 0) ++ (47 ∷ name_in s (get_or xs i 0) (get_or ys i 0))
   unfolding path_within
-  path-child i h =
+  path_child i h =
       rw (lt-ltb _ _ h) (ap (λ (l : List ℕ). l ++ (47 ∷ name_in s (get_or xs i 0) (get_or ys i 0))) (enough i (suc (get_or os i 0)) (get_or os i 0) h (lt-suc_self (get_or os i 0))))
 
   -- a root's is empty
-  pub path-root : (i : ℕ) → i ≤ get_or os i 0 → path_in s os xs ys i ≡ []
+  pub path_root : (i : ℕ) → i ≤ get_or os i 0 → path_in s os xs ys i ≡ []
   unfolding path_within
-  path-root i h = rw (le-ltb _ _ h)
+  path_root i h = rw (le-ltb _ _ h)
 
-  pub path-longer : (i : ℕ) → get_or os i 0 < i → length (path_in s os xs ys i) ≡ length (path_in s os xs ys (get_or os i 0)) + suc (length (name_in s (get_or xs i 0) (get_or ys i 0)))
-  path-longer i h = ap length (path-child i h) ∙ length-append (path_in s os xs ys (get_or os i 0)) (47 ∷ name_in s (get_or xs i 0) (get_or ys i 0))
+  pub path_longer : (i : ℕ) → get_or os i 0 < i → length (path_in s os xs ys i) ≡ length (path_in s os xs ys (get_or os i 0)) + suc (length (name_in s (get_or xs i 0) (get_or ys i 0)))
+  path_longer i h = ap length (path_child i h) ∙ length-append (path_in s os xs ys (get_or os i 0)) (47 ∷ name_in s (get_or xs i 0) (get_or ys i 0))
 
   -- ---- whether it fits so many bytes; j is i as an index
 
-  pub fits-root : {i j : ℕ} (l : ℕ) → j ≡ i → i ≤ get_or os j 0 → true ≡ leb (length (path_in s os xs ys i)) l
-  fits-root {i} {j} l e h = let k : i ≤ get_or os i 0 = rw e at h in rw (path-root i k) (sym (le-leb 0 l (omega arith)))
+  pub fits_root : {i j : ℕ} (l : ℕ) → j ≡ i → i ≤ get_or os j 0 → true ≡ leb (length (path_in s os xs ys i)) l
+  fits_root {i} {j} l e h = let k : i ≤ get_or os i 0 = rw e at h in rw (path_root i k) (sym (le-leb 0 l (omega arith)))
 
   module _ {i j : ℕ} {t : List ℕ} (l : ℕ) (e : j ≡ i) (h : get_or os j 0 < i) (f : t ≡ name_in s (get_or xs j 0) (get_or ys j 0)) where
     falls : get_or os i 0 < i
     falls = rw e at h
 
     longer : length (path_in s os xs ys i) ≡ length (path_in s os xs ys (get_or os j 0)) + suc (length t)
-    longer = path-longer i falls ∙ rw (f, e)
+    longer = path_longer i falls ∙ rw (f, e)
 
     pub fits_not : l ≤ length t → false ≡ leb (length (path_in s os xs ys i)) l
     fits_not g = sym (lt-leb (length (path_in s os xs ys i)) l (let k = longer in omega arith))
 
-    pub fits-older : length t < l → leb (length (path_in s os xs ys (get_or os j 0))) (l - length t - 1) ≡ leb (length (path_in s os xs ys i)) l
-    fits-older g = leb_less (length (path_in s os xs ys (get_or os j 0))) (length t) l g ∙ ap (λ (n : ℕ). leb n l) (sym longer)
+    pub fits_older : length t < l → leb (length (path_in s os xs ys (get_or os j 0))) (l - length t - 1) ≡ leb (length (path_in s os xs ys i)) l
+    fits_older g = leb_less (length (path_in s os xs ys (get_or os j 0))) (length t) l g ∙ ap (λ (n : ℕ). leb n l) (sym longer)
 
   -- ---- how it is put
 
-  pub put-root : {i j : ℕ} (o : List ℕ) → j ≡ i → i ≤ get_or os j 0 → (0 ≡ length (path_in s os xs ys i)) × (o ≡ over o 0 (path_in s os xs ys i))
-  put-root {i} {j} o e h = let k : i ≤ get_or os i 0 = rw e at h in (rw (path-root i k), rw (path-root i k))
+  pub put_root : {i j : ℕ} (o : List ℕ) → j ≡ i → i ≤ get_or os j 0 → (0 ≡ length (path_in s os xs ys i)) × (o ≡ over o 0 (path_in s os xs ys i))
+  put_root {i} {j} o e h = let k : i ≤ get_or os i 0 = rw e at h in (rw (path_root i k), rw (path_root i k))
 
   module _ {i j : ℕ} (o : List ℕ) (e : j ≡ i) (h : get_or os j 0 < i) (g : length (path_in s os xs ys i) ≤ length o) where
     put_falls : get_or os i 0 < i
     put_falls = rw e at h
 
-    pub put-longer : length (path_in s os xs ys i) ≡ length (path_in s os xs ys (get_or os j 0)) + suc (length (name_in s (get_or xs j 0) (get_or ys j 0)))
-    put-longer = path-longer i put_falls ∙ rw e
+    pub put_longer : length (path_in s os xs ys i) ≡ length (path_in s os xs ys (get_or os j 0)) + suc (length (name_in s (get_or xs j 0) (get_or ys j 0)))
+    put_longer = path_longer i put_falls ∙ rw e
 
     put_child : path_in s os xs ys i ≡ path_in s os xs ys (get_or os j 0) ++ (47 ∷ name_in s (get_or xs j 0) (get_or ys j 0))
-    put_child = path-child i put_falls ∙ rw e
+    put_child = path_child i put_falls ∙ rw e
 
-    pub put-older : {o1 o2 : List ℕ} {n : ℕ} → n ≡ length (path_in s os xs ys (get_or os j 0)) → o1 ≡ over o 0 (path_in s os xs ys (get_or os j 0)) → o2 ≡ over o1 n (47 ∷ name_in s (get_or xs j 0) (get_or ys j 0)) → o2 ≡ over o 0 (path_in s os xs ys i)
-    put-older {o1} {o2} {n} z w f =
+    pub put_older : {o1 o2 : List ℕ} {n : ℕ} → n ≡ length (path_in s os xs ys (get_or os j 0)) → o1 ≡ over o 0 (path_in s os xs ys (get_or os j 0)) → o2 ≡ over o1 n (47 ∷ name_in s (get_or xs j 0) (get_or ys j 0)) → o2 ≡ over o 0 (path_in s os xs ys i)
+    put_older {o1} {o2} {n} z w f =
         let k : length (path_in s os xs ys (get_or os j 0) ++ (47 ∷ name_in s (get_or xs j 0) (get_or ys j 0))) ≤ length o = rw put_child at g in
         f ∙ rw (z, w) (front_then o (path_in s os xs ys (get_or os j 0)) (47 ∷ name_in s (get_or xs j 0) (get_or ys j 0)) k) ∙ ap (over o 0) (sym put_child)
 
@@ -122,10 +122,10 @@ from_front : (n l : ℕ) {b : Bool} → b ≡ leb n l → leb (0 + n) l ≡ b
 from_front n l e = ap (λ (m : ℕ). leb m l) (zero-add n) ∙ sym e
 
 module _ {bs o : List ℕ} {b : Bool} (e : b ≡ leb (length bs) (length o)) where
-  pub path-put : {o' : List ℕ} {n : ℕ} → b ≡ true → n ≡ length bs → o' ≡ over o 0 bs → Put bs o (At 0) o' (At n)
+  pub path_put : {o' : List ℕ} {n : ℕ} → b ≡ true → n ≡ length bs → o' ≡ over o 0 bs → Put bs o (At 0) o' (At n)
   unfolding put_at past_put
-  path-put h f g = record { bytes = rw (from_front (length bs) (length o) e, h) g; next = rw (from_front (length bs) (length o) e, h, f, zero-add) }
+  path_put h f g = record { bytes = rw (from_front (length bs) (length o) e, h) g; next = rw (from_front (length bs) (length o) e, h, f, zero-add) }
 
-  pub path-no-room : b ≡ false → Put bs o (At 0) o (Refused R.NoRoom 0)
+  pub path_no_room : b ≡ false → Put bs o (At 0) o (Refused R.NoRoom 0)
   unfolding put_at past_put
-  path-no-room h = record { bytes = rw (from_front (length bs) (length o) e, h); next = rw (from_front (length bs) (length o) e, h) }
+  path_no_room h = record { bytes = rw (from_front (length bs) (length o) e, h); next = rw (from_front (length bs) (length o) e, h) }

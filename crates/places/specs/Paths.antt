@@ -13,8 +13,8 @@ use Rattle.strings.specs.SpanLaws.{shown_in}
 use Rattle.places.specs.declared.Places.{Places}
 use Rattle.places.specs.declared.Spot.TheVariants.{At}
 use Rattle.places.specs.Places.{rowed, added, root, child, name_in, is_up, step, path_within, path}
-use Rattle.places.specs.PathLaws.{path-child, path-root}
-use Rattle.places.specs.Sound.{Sound, Kept, rowed-kept}
+use Rattle.places.specs.PathLaws.{path_child, path_root}
+use Rattle.places.specs.Sound.{Sound, Kept, rowed_kept}
 
 -- rows that agree below b, and names that do, give one path
 module _ (s os xs ys s' os' xs' ys' : List ℕ) (b : ℕ) (same : (i : ℕ) → i < b → get_or os' i 0 ≡ get_or os i 0)
@@ -38,11 +38,11 @@ path_kept s {p} {q} k i h =
 -- ---- of a new root, of a new child, of a step up
 
 module _ {p : Places} (d : Sound p) (s : List ℕ) (h : p.used < 256) where
-  pub root-path : path s (root p).places p.used ≡ []
+  pub root_path : path s (root p).places p.used ≡ []
   unfolding added
-  root-path =
+  root_path =
       rw (lt-ltb p.used 256 h)
-      (path-root s (set p.older p.used p.used) (set p.starts p.used 0) (set p.lens p.used 0) p.used (rw (get_or-set_same p.older p.used p.used 0 (let l = d.olders in omega arith)) (omega arith)))
+      (path_root s (set p.older p.used p.used) (set p.starts p.used 0) (set p.lens p.used 0) p.used (rw (get_or-set_same p.older p.used p.used 0 (let l = d.olders in omega arith)) (omega arith)))
 
   module _ (from x y : ℕ) (g : from < p.used) where
     older_is : get_or (rowed p from x y).older p.used 0 ≡ from
@@ -53,21 +53,21 @@ module _ {p : Places} (d : Sound p) (s : List ℕ) (h : p.used < 256) where
 
     row_path : path s (rowed p from x y) p.used ≡ path s (rowed p from x y) from ++ (47 ∷ name_in s x y)
     row_path =
-        path-child s (rowed p from x y).older (rowed p from x y).starts (rowed p from x y).lens p.used (rw older_is g) ∙ rw (older_is, name_is)
+        path_child s (rowed p from x y).older (rowed p from x y).starts (rowed p from x y).lens p.used (rw older_is g) ∙ rw (older_is, name_is)
 
     -- the older place's path, a '/' and the name
-    pub child-path : path s (child p from x y).places p.used ≡ path s p from ++ (47 ∷ name_in s x y)
+    pub child_path : path s (child p from x y).places p.used ≡ path s p from ++ (47 ∷ name_in s x y)
     unfolding added
-    child-path = rw (lt-ltb p.used 256 h) (row_path ∙ ap (λ (l : List ℕ). l ++ (47 ∷ name_in s x y)) (path_kept s (rowed-kept d from x y h) from g))
+    child_path = rw (lt-ltb p.used 256 h) (row_path ∙ ap (λ (l : List ℕ). l ++ (47 ∷ name_in s x y)) (path_kept s (rowed_kept d from x y h) from g))
 
 -- `..` goes to the older place and makes none; a root stays
 module _ (s : List ℕ) (p : Places) (from x y : ℕ) (u : is_up (name_in s x y) ≡ true) where
-  pub up-older : step s p from x y ≡ record { places = p; at = At (get_or p.older from 0) }
+  pub up_older : step s p from x y ≡ record { places = p; at = At (get_or p.older from 0) }
   unfolding step
-  up-older = rw u
+  up_older = rw u
 
   pub up_root : get_or p.older from 0 ≡ from → step s p from x y ≡ record { places = p; at = At from }
-  up_root e = up-older ∙ rw e
+  up_root e = up_older ∙ rw e
 
 -- ---- bytes put after the stretch alter no path
 

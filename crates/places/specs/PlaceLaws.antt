@@ -32,40 +32,40 @@ module _ (p : Places) (o x y : ℕ) where
 -- ---- a step
 
 module _ {t n : List ℕ} (e : t ≡ n) where
-  pub up-short : (length t ≡ 2 → ⊥) → false ≡ is_up n
-  up-short h = rw (← e, ne_eqb (length t) 2 h)
+  pub up_short : (length t ≡ 2 → ⊥) → false ≡ is_up n
+  up_short h = rw (← e, ne_eqb (length t) 2 h)
 
   module _ (h : length t ≡ 2) where
-    pub up-other : (get_or t 0 0 ≡ 46 → ⊥) → false ≡ is_up n
-    up-other g = rw (← e, eq-eqb (length t) 2 h, ne_eqb (get_or t 0 0) 46 g)
+    pub up_other : (get_or t 0 0 ≡ 46 → ⊥) → false ≡ is_up n
+    up_other g = rw (← e, eq-eqb (length t) 2 h, ne_eqb (get_or t 0 0) 46 g)
 
-    pub up-dots : get_or t 0 0 ≡ 46 → eqb (get_or t 1 0) 46 ≡ is_up n
-    up-dots g = rw (← e, eq-eqb (length t) 2 h, eq-eqb (get_or t 0 0) 46 g)
+    pub up_dots : get_or t 0 0 ≡ 46 → eqb (get_or t 1 0) 46 ≡ is_up n
+    up_dots g = rw (← e, eq-eqb (length t) 2 h, eq-eqb (get_or t 0 0) 46 g)
 
 module _ (s : List ℕ) (p : Places) (from x y : ℕ) {b : Bool} (e : b ≡ is_up (name_in s x y)) where
-  pub step-up : {i : ℕ} → b ≡ true → i ≡ from → ◌≡◌ {A = Reached} (record { places = p; at = At (get_or p.older i 0) }) (step s p from x y)
+  pub step_up : {i : ℕ} → b ≡ true → i ≡ from → ◌≡◌ {A = Reached} (record { places = p; at = At (get_or p.older i 0) }) (step s p from x y)
   unfolding step
-  step-up h j = rw (← e, h, j)
+  step_up h j = rw (← e, h, j)
 
-  pub step-on : {r : Reached} → b ≡ false → r ≡ added p from x y → r ≡ step s p from x y
+  pub step_on : {r : Reached} → b ≡ false → r ≡ added p from x y → r ≡ step s p from x y
   unfolding step
-  step-on h j = rw (← e, h) j
+  step_on h j = rw (← e, h) j
 
 -- ---- a walk
 
 module _ (s : List ℕ) (x y : ℕ) (q : Place) (r : Reached) where
-  pub onward-refused : {k : Refusal} → r.at ≡ Refused k → r ≡ onward s x y q r
+  pub onward_refused : {k : Refusal} → r.at ≡ Refused k → r ≡ onward s x y q r
   unfolding onward
-  onward-refused h = rw h
+  onward_refused h = rw h
 
   module _ {from : ℕ} (h : r.at ≡ At from) where
-    pub onward-step : {n : ℕ} {t : Reached} → q ≡ P.At n → t ≡ step s r.places from x y → t ≡ onward s x y q r
+    pub onward_step : {n : ℕ} {t : Reached} → q ≡ P.At n → t ≡ step s r.places from x y → t ≡ onward s x y q r
     unfolding onward
-    onward-step g e = rw (h, g) e
+    onward_step g e = rw (h, g) e
 
-    pub onward-bad : {k : Refusal} {n : ℕ} → q ≡ P.Refused k n → ◌≡◌ {A = Reached} (record { places = r.places; at = Refused k }) (onward s x y q r)
+    pub onward_bad : {k : Refusal} {n : ℕ} → q ≡ P.Refused k n → ◌≡◌ {A = Reached} (record { places = r.places; at = Refused k }) (onward s x y q r)
     unfolding onward
-    onward-bad g = rw (h, g)
+    onward_bad g = rw (h, g)
 
 module _ (s : List ℕ) where
   pub walk_start : (n : ℕ) (q : Place) (r : Reached) → walked s (n - 0) q r ≡ walked s n q r

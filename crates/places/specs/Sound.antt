@@ -66,8 +66,8 @@ below : {i n : ℕ} → i < n → i ≡ n → ⊥
 below h e = omega arith
 
 module _ {p : Places} (s : Sound p) (o x y : ℕ) (h : p.used < 256) where
-  pub rowed-sound : o ≤ p.used → Sound (rowed p o x y)
-  rowed-sound g = record {
+  pub rowed_sound : o ≤ p.used → Sound (rowed p o x y)
+  rowed_sound g = record {
     olders = length-set p.older p.used o ∙ s.olders;
     firsts = length-set p.starts p.used x ∙ s.firsts;
     counts = length-set p.lens p.used y ∙ s.counts;
@@ -75,8 +75,8 @@ module _ {p : Places} (s : Sound p) (o x y : ℕ) (h : p.used < 256) where
     falls = λ i k. or_else p.used i (λ u. let e : i ≡ p.used = omega arith in rw (e, get_or-set_same p.older p.used o 0 (let l = s.olders in omega arith)) g) (λ u. rw (get_or-set_other p.older p.used i o 0 (below u)) (s.falls i u));
   }
 
-  pub rowed-kept : Kept p (rowed p o x y)
-  rowed-kept = record {
+  pub rowed_kept : Kept p (rowed p o x y)
+  rowed_kept = record {
     more = omega arith;
     older = λ i k. get_or-set_other p.older p.used i o 0 (below k);
     start = λ i k. get_or-set_other p.starts p.used i x 0 (below k);
@@ -88,7 +88,7 @@ unfolding added
 added_grown {p} s o x y g = go (ltb p.used 256) refl
   where
     go : (b : Bool) → ltb p.used 256 ≡ b → Grown p (cond b (record { places = rowed p o x y; at = At p.used }) (record { places = p; at = Refused R.TableFull }))
-    go true e = let h = ltb-true p.used 256 e in record { sound = rowed-sound s o x y h g; inside = omega arith; kept = rowed-kept s o x y h }
+    go true e = let h = ltb-true p.used 256 e in record { sound = rowed_sound s o x y h g; inside = omega arith; kept = rowed_kept s o x y h }
     go false e = record { sound = s; inside = tt; kept = kept_same p }
 
 -- ---- a step, and a walk

@@ -12,7 +12,7 @@ use Rattle.framing.specs.Frames.{framed, refused_whole}
 use Rattle.framing.specs.Raising.{read_frame_at, body_place, body_from}
 use Rattle.framing.specs.RaisedLaws.{from_body}
 use Rattle.framing.specs.Headers.{HeadIs}
-use Rattle.framing.specs.Standing.{Why, no_header, header-there}
+use Rattle.framing.specs.Standing.{Why, no_header, header_there}
 use Rattle.framing.specs.declared.Head.{Head}
 use Rattle.framing.specs.declared.Head.TheVariants as H
 use Rattle.plain_requests.specs.Views.{type_t, values_t, view_t}
@@ -31,52 +31,52 @@ use Rattle.plain_frames.specs.declared.ReadRframe.TheVariants as F
 
 module _ (ty at : ℕ) (s : List ℕ) {q : Place} (e : q ≡ body_place (length s) at) where
   module _ (b : Tbody) (v : view_t b ≡ read_body table_t ty s q) where
-    pub request-message : {m : Tmessage} {n used : ℕ} → b ≡ M.Message m n → used ≡ n - at → view_t (M.Message m used) ≡ body_from table_t ty s at
+    pub request_message : {m : Tmessage} {n used : ℕ} → b ≡ M.Message m n → used ≡ n - at → view_t (M.Message m used) ≡ body_from table_t ty s at
     unfolding view_t
-    request-message {m} {n} f g = ap (accepted (type_t m) (values_t m)) g ∙ (rw f at (from_body table_t ty at s e v))
+    request_message {m} {n} f g = ap (accepted (type_t m) (values_t m)) g ∙ (rw f at (from_body table_t ty at s e v))
 
-    pub request-none : {k : Refusal} {i : ℕ} → b ≡ M.Refused k i → view_t (M.Refused k i) ≡ body_from table_t ty s at
+    pub request_none : {k : Refusal} {i : ℕ} → b ≡ M.Refused k i → view_t (M.Refused k i) ≡ body_from table_t ty s at
     unfolding view_t
-    request-none f = rw f at (from_body table_t ty at s e v)
+    request_none f = rw f at (from_body table_t ty at s e v)
 
   module _ (b : Rbody) (v : view_r b ≡ read_body table_r ty s q) where
-    pub reply-message : {m : Rmessage} {n used : ℕ} → b ≡ B.Message m n → used ≡ n - at → view_r (B.Message m used) ≡ body_from table_r ty s at
+    pub reply_message : {m : Rmessage} {n used : ℕ} → b ≡ B.Message m n → used ≡ n - at → view_r (B.Message m used) ≡ body_from table_r ty s at
     unfolding view_r
-    reply-message {m} {n} f g = ap (accepted (type_r m) (values_r m)) g ∙ (rw f at (from_body table_r ty at s e v))
+    reply_message {m} {n} f g = ap (accepted (type_r m) (values_r m)) g ∙ (rw f at (from_body table_r ty at s e v))
 
-    pub reply-none : {k : Refusal} {i : ℕ} → b ≡ B.Refused k i → view_r (B.Refused k i) ≡ body_from table_r ty s at
+    pub reply_none : {k : Refusal} {i : ℕ} → b ≡ B.Refused k i → view_r (B.Refused k i) ≡ body_from table_r ty s at
     unfolding view_r
-    reply-none f = rw f at (from_body table_r ty at s e v)
+    reply_none f = rw f at (from_body table_r ty at s e v)
 
 -- ---- headers
 
 module _ (s : List ℕ) (p : ℕ) {at : ℕ} (m : at ≡ min p (length s)) (g : Head) (h : HeadIs (take (length s - at) (drop at s)) g) where
   -- ---- requests
 
-  pub tframe-no : {j k : Refusal} → g ≡ H.Refused j → Why g k → view_tframe (T.Refused k) ≡ read_frame_at table_t s p
+  pub tframe_no : {j k : Refusal} → g ≡ H.Refused j → Why g k → view_tframe (T.Refused k) ≡ read_frame_at table_t s p
   unfolding view_tframe
-  tframe-no e w = no_header s p m g h table_t e w
+  tframe_no e w = no_header s p m g h table_t e w
 
-  pub tframe-yes : (b : Tbody) {n ty tag : ℕ} → Bytes s → g ≡ H.Held n ty tag → view_t b ≡ body_from table_t ty (take (at + n) s) at
+  pub tframe_yes : (b : Tbody) {n ty tag : ℕ} → Bytes s → g ≡ H.Held n ty tag → view_t b ≡ body_from table_t ty (take (at + n) s) at
       → view_tframe (T.Frame (record { at = at; tag = record { 0 = tag }; msg = b })) ≡ read_frame_at table_t s p
   unfolding view_tframe
-  tframe-yes b {tag = tag} bs e v = ap (framed at tag) v ∙ header-there s p m g h table_t bs e
+  tframe_yes b {tag = tag} bs e v = ap (framed at tag) v ∙ header_there s p m g h table_t bs e
 
   -- ---- replies
 
-  pub rframe-no : {j k : Refusal} → g ≡ H.Refused j → Why g k → view_rframe (F.Refused k 0) ≡ refused_whole (read_frame_at table_r s p)
+  pub rframe_no : {j k : Refusal} → g ≡ H.Refused j → Why g k → view_rframe (F.Refused k 0) ≡ refused_whole (read_frame_at table_r s p)
   unfolding view_rframe
-  rframe-no e w = ap refused_whole (no_header s p m g h table_r e w)
+  rframe_no e w = ap refused_whole (no_header s p m g h table_r e w)
 
   module _ {n ty tag : ℕ} (bs : Bytes s) (e : g ≡ H.Held n ty tag) (b : Rbody) (v : view_r b ≡ body_from table_r ty (take (at + n) s) at) where
     rframe_is : framed at tag (view_r b) ≡ read_frame_at table_r s p
-    rframe_is = ap (framed at tag) v ∙ header-there s p m g h table_r bs e
+    rframe_is = ap (framed at tag) v ∙ header_there s p m g h table_r bs e
 
-    pub rframe-yes : (m : Rmessage) (used : ℕ) → b ≡ B.Message m used
+    pub rframe_yes : (m : Rmessage) (used : ℕ) → b ≡ B.Message m used
         → view_rframe (F.Frame (record { at = at; tag = record { 0 = tag }; msg = m }) used) ≡ refused_whole (read_frame_at table_r s p)
     unfolding view_rframe view_r
-    rframe-yes m used f = ap (λ (x : Rbody). refused_whole (framed at tag (view_r x))) (sym f) ∙ ap refused_whole rframe_is
+    rframe_yes m used f = ap (λ (x : Rbody). refused_whole (framed at tag (view_r x))) (sym f) ∙ ap refused_whole rframe_is
 
-    pub rframe-bad : {k : Refusal} {i : ℕ} → b ≡ B.Refused k i → view_rframe (F.Refused k i) ≡ refused_whole (read_frame_at table_r s p)
+    pub rframe_bad : {k : Refusal} {i : ℕ} → b ≡ B.Refused k i → view_rframe (F.Refused k i) ≡ refused_whole (read_frame_at table_r s p)
     unfolding view_rframe view_r
-    rframe-bad f = ap (λ (x : Rbody). refused_whole (framed at tag (view_r x))) (sym f) ∙ ap refused_whole rframe_is
+    rframe_bad f = ap (λ (x : Rbody). refused_whole (framed at tag (view_r x))) (sym f) ∙ ap refused_whole rframe_is

@@ -47,9 +47,9 @@ use Rattle.framing.specs.Demand.{Whole, Edited, old_lines, new_lines, repeated}
 use Rattle.framing.specs.Shown.{records_in}
 use Rattle.framing.specs.Joining.{joined, Ends}
 use Rattle.framing.specs.Damage.{Has, Damaged, EqualBut}
-use Rattle.framing.specs.Positions.{listed-written}
+use Rattle.framing.specs.Positions.{listed_written}
 use Rattle.framing.specs.Cuts.{between}
-use Rattle.framing.specs.Dialects.{frames, ended, stopped, Lists, listed_by, lists, lists-edited, lists-once, lists-joined, lists-damaged, Direction, stripped, written, written-again, cut, back, local-read}
+use Rattle.framing.specs.Dialects.{frames, ended, stopped, Lists, listed_by, lists, lists_edited, lists_once, lists_joined, lists_damaged, Direction, stripped, written, written_again, cut, back, local_read}
 use Rattle.plain_stretch.specs.declared.Body.TheVariants as B
 use Rattle.plain_stretch.specs.declared.Listed.{Listed}
 use Rattle.plain_stretch.specs.declared.Step.{Step}
@@ -78,7 +78,7 @@ function_lists s a = lists table_t table_r s (seen s a)
 
 -- 1. lengthened and inserted
 pub edited : {old new : List ℕ} {L N : Listing} (e : Edited table_t table_r old new) → Bytes old → Bytes new → Asks old 0 L → Asks new 0 N → (L ≡ old_lines 0 e) × (N ≡ new_lines 0 e) × (records_in table_t table_r new N ≡ records_in table_t table_r old L)
-edited {old} {new} e b c x y = lists-edited table_t table_r e b c (seen old x) (seen new y)
+edited {old} {new} e b c x y = lists_edited table_t table_r e b c (seen old x) (seen new y)
 
 -- ---- the two directions
 
@@ -142,20 +142,20 @@ module _ (s : List ℕ) (f : Tframe) (m : Tmessage) {used : ℕ} (b : Bytes s) (
   request = ap (λ x. framed f.at f.tag.0 (view_t x)) k
 
   -- 2. stripped: the same frame is read
-  pub stripped-request : (r : ReadTframe) → view_tframe r ≡ read_frame table_t (resized used s) → r ≡ T.Frame f
-  stripped-request = stripped requests s (T.Frame f) m f.at f.tag.0 used b request c
+  pub stripped_request : (r : ReadTframe) → view_tframe r ≡ read_frame table_t (resized used s) → r ≡ T.Frame f
+  stripped_request = stripped requests s (T.Frame f) m f.at f.tag.0 used b request c
 
   -- and writing it, given room, gives those bytes
-  pub stripped-request-written : {o o' : List ℕ} {q : Place} → used ≤ length o → TframeWritten s f o o' q → (o' ≡ over o 0 (resized used s)) × (q ≡ At used)
-  stripped-request-written h w = written requests s (T.Frame f) m f.at f.tag.0 used b request c h (sent f m k w)
+  pub stripped_request_written : {o o' : List ℕ} {q : Place} → used ≤ length o → TframeWritten s f o o' q → (o' ≡ over o 0 (resized used s)) × (q ≡ At used)
+  stripped_request_written h w = written requests s (T.Frame f) m f.at f.tag.0 used b request c h (sent f m k w)
 
   -- also when the stripped bytes are lent in place of the frame
-  pub stripped-request-written-again : {o o' : List ℕ} {q : Place} → used ≤ length o → TframeWritten (resized used s) f o o' q → (o' ≡ over o 0 (resized used s)) × (q ≡ At used)
-  stripped-request-written-again h w = written-again requests s (T.Frame f) m f.at f.tag.0 used b request c h (sent f m k w)
+  pub stripped_request_written_again : {o o' : List ℕ} {q : Place} → used ≤ length o → TframeWritten (resized used s) f o o' q → (o' ≡ over o 0 (resized used s)) × (q ≡ At used)
+  stripped_request_written_again h w = written_again requests s (T.Frame f) m f.at f.tag.0 used b request c h (sent f m k w)
 
   -- 4. cut
-  pub cut-request : (j : ℕ) → j < used → (r : ReadTframe) → view_tframe r ≡ read_frame table_t (cut_at j s) → answer_in (view_tframe r) ≡ refused R.Short 0
-  cut-request = cut requests s (T.Frame f) m f.at f.tag.0 used b request c
+  pub cut_request : (j : ℕ) → j < used → (r : ReadTframe) → view_tframe r ≡ read_frame table_t (cut_at j s) → answer_in (view_tframe r) ≡ refused R.Short 0
+  cut_request = cut requests s (T.Frame f) m f.at f.tag.0 used b request c
 
 -- ---- replies
 
@@ -165,22 +165,22 @@ module _ (s : List ℕ) (f : Rframe) {used : ℕ} (b : Bytes s) (c : view_rframe
   reply = refl
 
   -- 2. stripped: the same frame is read
-  pub stripped-reply : (r : ReadRframe) → view_rframe r ≡ refused_whole (read_frame table_r (resized used s)) → r ≡ Q.Frame f used
-  stripped-reply = stripped replies s (Q.Frame f used) f.msg f.at f.tag.0 used b reply c
+  pub stripped_reply : (r : ReadRframe) → view_rframe r ≡ refused_whole (read_frame table_r (resized used s)) → r ≡ Q.Frame f used
+  stripped_reply = stripped replies s (Q.Frame f used) f.msg f.at f.tag.0 used b reply c
 
   -- and writing it, given room, gives those bytes
-  pub stripped-reply-written : {o o' : List ℕ} {q : Place} → used ≤ length o → FrameWritten (layout_r f.msg) (type_r f.msg) f.tag.0 s (values_r f.msg) o o' q
+  pub stripped_reply_written : {o o' : List ℕ} {q : Place} → used ≤ length o → FrameWritten (layout_r f.msg) (type_r f.msg) f.tag.0 s (values_r f.msg) o o' q
       → (o' ≡ over o 0 (resized used s)) × (q ≡ At used)
-  stripped-reply-written = written replies s (Q.Frame f used) f.msg f.at f.tag.0 used b reply c
+  stripped_reply_written = written replies s (Q.Frame f used) f.msg f.at f.tag.0 used b reply c
 
   -- also when the stripped bytes are lent in place of the frame
-  pub stripped-reply-written-again : {o o' : List ℕ} {q : Place} → used ≤ length o → FrameWritten (layout_r f.msg) (type_r f.msg) f.tag.0 (resized used s) (values_r f.msg) o o' q
+  pub stripped_reply_written_again : {o o' : List ℕ} {q : Place} → used ≤ length o → FrameWritten (layout_r f.msg) (type_r f.msg) f.tag.0 (resized used s) (values_r f.msg) o o' q
       → (o' ≡ over o 0 (resized used s)) × (q ≡ At used)
-  stripped-reply-written-again = written-again replies s (Q.Frame f used) f.msg f.at f.tag.0 used b reply c
+  stripped_reply_written_again = written_again replies s (Q.Frame f used) f.msg f.at f.tag.0 used b reply c
 
   -- 4. cut
-  pub cut-reply : (j : ℕ) → j < used → (r : ReadRframe) → view_rframe r ≡ refused_whole (read_frame table_r (cut_at j s)) → answer_in (view_rframe r) ≡ refused R.Short 0
-  cut-reply = cut replies s (Q.Frame f used) f.msg f.at f.tag.0 used b reply c
+  pub cut_reply : (j : ℕ) → j < used → (r : ReadRframe) → view_rframe r ≡ refused_whole (read_frame table_r (cut_at j s)) → answer_in (view_rframe r) ≡ refused R.Short 0
+  cut_reply = cut replies s (Q.Frame f used) f.msg f.at f.tag.0 used b reply c
 
 -- ---- 3. read back
 
@@ -190,54 +190,54 @@ held_request f m k g = let h = rw k at g.1.1.0 in (g.1.0.0.fits, h.1.0)
 
 -- a frame that a program holds is well typed (`WT`), and that says all but that its data is within the reading limit
 module _ {lent o o' : List ℕ} {n : ℕ} (b : Bytes lent) where
-  pub request-back : (f : Tframe) (m : Tmessage) {u : ℕ} → f.msg ≡ M.Message m u → WT (loweredTframe f) → Limited (layout_t m) (values_t m) → TframeWritten lent f o o' (At n)
+  pub request_back : (f : Tframe) (m : Tmessage) {u : ℕ} → f.msg ≡ M.Message m u → WT (loweredTframe f) → Limited (layout_t m) (values_t m) → TframeWritten lent f o o' (At n)
       → Back table_t (layout_t m) (type_t m) f.tag.0 lent (values_t m) o' n
-  request-back f m k g h w = let p = held_request f m k g in back requests m b p.0 (request_fits m p.1 h) (sent f m k w)
+  request_back f m k g h w = let p = held_request f m k g in back requests m b p.0 (request_fits m p.1 h) (sent f m k w)
 
-  pub reply-back : (f : Rframe) → WT (loweredRframe f) → Limited (layout_r f.msg) (values_r f.msg)
+  pub reply_back : (f : Rframe) → WT (loweredRframe f) → Limited (layout_r f.msg) (values_r f.msg)
       → FrameWritten (layout_r f.msg) (type_r f.msg) f.tag.0 lent (values_r f.msg) o o' (At n)
       → Back table_r (layout_r f.msg) (type_r f.msg) f.tag.0 lent (values_r f.msg) o' n
-  reply-back f g h w = back replies f.msg b g.1.0.0.fits (reply_fits f.msg g.1.1.0 h) w
+  reply_back f g h w = back replies f.msg b g.1.0.0.fits (reply_fits f.msg g.1.1.0 h) w
 
 -- ---- 5. local
 
 pub local_request : (s t : List ℕ) (r r' : ReadTframe) → take 4 s ≡ take 4 t → take (size_in s) s ≡ take (size_in s) t → view_tframe r ≡ read_frame table_t s → view_tframe r' ≡ read_frame table_t t → r ≡ r'
-local_request = local-read requests
+local_request = local_read requests
 
 pub local_reply : (s t : List ℕ) (r r' : ReadRframe) → take 4 s ≡ take 4 t → take (size_in s) s ≡ take (size_in s) t → view_rframe r ≡ refused_whole (read_frame table_r s)
     → view_rframe r' ≡ refused_whole (read_frame table_r t) → r ≡ r'
-local_reply = local-read replies
+local_reply = local_read replies
 
 -- ---- 6. positions: what is listed, written with the stretch as the lent bytes, is the frame stripped of its tail
 
 module _ (s : List ℕ) {p used : ℕ} (l : Listed) (b : Bytes s) (a : Asked s p (S.Frame l)) {o o' : List ℕ} {q : Place} (h : used ≤ length o) where
-  pub listed-request-written : (m : Tmessage) → l.body ≡ B.Request (M.Message m used) → TframeWritten s (record { at = l.at; tag = l.tag; msg = M.Message m used }) o o' q
+  pub listed_request_written : (m : Tmessage) → l.body ≡ B.Request (M.Message m used) → TframeWritten s (record { at = l.at; tag = l.tag; msg = M.Message m used }) o o' q
       → (o' ≡ over o 0 (resized used (between p l.next s))) × (q ≡ At used)
   unfolding view_step view_body view_t
-  listed-request-written m e w =
+  listed_request_written m e w =
       let k : lookup (table_for table_t table_r l.ty) (type_t m) ≡ some (layout_t m) = rw (eq-eqb (l.ty % 2) 0 (rw e at a.way)) (row_of_request m) in
       let f = sent (record { at = l.at; tag = l.tag; msg = M.Message m used }) m refl w in
-      let r = listed-written table_t table_r s p b (sym (rw e at a.is)) k o h in (f.bytes ∙ r.0, f.next ∙ r.1)
+      let r = listed_written table_t table_r s p b (sym (rw e at a.is)) k o h in (f.bytes ∙ r.0, f.next ∙ r.1)
 
-  pub listed-reply-written : (m : Rmessage) → l.body ≡ B.Reply (N.Message m used) → FrameWritten (layout_r m) (type_r m) l.tag.0 s (values_r m) o o' q
+  pub listed_reply_written : (m : Rmessage) → l.body ≡ B.Reply (N.Message m used) → FrameWritten (layout_r m) (type_r m) l.tag.0 s (values_r m) o o' q
       → (o' ≡ over o 0 (resized used (between p l.next s))) × (q ≡ At used)
   unfolding view_step view_body view_r
-  listed-reply-written m e w =
+  listed_reply_written m e w =
       let k : lookup (table_for table_t table_r l.ty) (type_r m) ≡ some (layout_r m) = rw (ne_eqb (l.ty % 2) 0 (rw e at a.way)) (row_of_reply m) in
-      let r = listed-written table_t table_r s p b (sym (rw e at a.is)) k o h in (w.bytes ∙ r.0, w.next ∙ r.1)
+      let r = listed_written table_t table_r s p b (sym (rw e at a.is)) k o h in (w.bytes ∙ r.0, w.next ∙ r.1)
 
 -- ---- 7. the accident: a Twrite with a copy of itself after its last field, inside its size, is listed as one Twrite, and the copy is its tail
 
 pub accident_of_the_leap_second : (f : List ℕ) {used : ℕ} {vs : List Value} {L : Listing} → Bytes f → Whole f → length f + length f < 256 ^ 4 → answer_of table_t table_r f ≡ accepted 118 vs used → Asks (repeated f) 0 L
     → L ≡ entry 0 (length f + length f) (type_in f) (tag_in f) (accepted 118 vs used) (length f - used + length f) (ends (length f + length f))
-accident_of_the_leap_second f b w h a x = lists-once table_t table_r f b w h a (seen (repeated f) x)
+accident_of_the_leap_second f b w h a x = lists_once table_t table_r f b w h a (seen (repeated f) x)
 
 -- ---- 8. joined: if the first stretch reads to its end, that is its length, and both are listed as the first is, and then as the second is, later by so much
 
 pub both_listed : (s t : List ℕ) {L M N : Listing} → Asks s 0 L → Asks t 0 M → Asks (s ++ t) 0 N → Ends L → (stops_at L ≡ length s) × (N ≡ joined L M)
-both_listed s t x y z e = lists-joined table_t table_r s t (seen s x) (seen t y) (seen (s ++ t) z) e
+both_listed s t x y z e = lists_joined table_t table_r s t (seen s x) (seen t y) (seen (s ++ t) z) e
 
 -- ---- 9. damaged: what is done to a frame after its four size bytes changes its own line and no other
 
 pub one_harmed : {p n : ℕ} {s t : List ℕ} {L M : Listing} → Damaged p n s t → Asks s 0 L → Asks t 0 M → Has p n L → EqualBut p n L M
-one_harmed {s = s} {t = t} d x y h = lists-damaged table_t table_r d (seen s x) (seen t y) h
+one_harmed {s = s} {t = t} d x y h = lists_damaged table_t table_r d (seen s x) (seen t y) h

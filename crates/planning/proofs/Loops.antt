@@ -10,7 +10,7 @@ use borrow.Author.Tests.{eq-eqb, ne_eqb, eqb-true, eqb-false}
 use lib.Seq.{sets, sets-eq, drop-cons}
 use native.Mathlib.Numerals.{add-one}
 use Rattle.planning.specs.Plans.{cut, runs_on, most_data, offset, size}
-use Rattle.planning.specs.PlanLaws.{length_cut, Follows, runs-step, runs-stop}
+use Rattle.planning.specs.PlanLaws.{length_cut, Follows, runs_step, runs_stop}
 
 -- ---- putting
 
@@ -45,15 +45,15 @@ module _ (msize : ℕ) (h : 24 ≤ msize) (most : ℕ) (is : most ≡ most_data 
   abbrev next : Bool → Type 0
   next r = Follows (offset row) (size row) at left most r
 
-  pub look-turn : {r : Bool} → i < length ps → next r → r ≡ true → runs_on msize (at + size row) end (drop (i + 1) ps) ≡ runs_on msize at end (drop i ps)
-  look-turn l f t = let g = (rw (t, is) at f).is in rw (add-one, drop-cons ps i [] l) (sym (runs-step msize h at end row (drop (suc i) ps) g.0 g.1 g.2))
+  pub look_turn : {r : Bool} → i < length ps → next r → r ≡ true → runs_on msize (at + size row) end (drop (i + 1) ps) ≡ runs_on msize at end (drop i ps)
+  look_turn l f t = let g = (rw (t, is) at f).is in rw (add-one, drop-cons ps i [] l) (sym (runs_step msize h at end row (drop (suc i) ps) g.0 g.1 g.2))
 
   pub look_stop : {r : Bool} → i < length ps → next r → r ≡ false → false ≡ runs_on msize at end (drop i ps)
-  look_stop l f t = let g = (rw (t, is) at f).is in rw (drop-cons ps i [] l) (runs-stop msize h at end row (drop (suc i) ps) (λ a b c. let k = g a b c in omega arith))
+  look_stop l f t = let g = (rw (t, is) at f).is in rw (drop-cons ps i [] l) (runs_stop msize h at end row (drop (suc i) ps) (λ a b c. let k = g a b c in omega arith))
 
-  pub look-ends : length ps ≤ i → eqb left 0 ≡ runs_on msize at end (drop i ps)
+  pub look_ends : length ps ≤ i → eqb left 0 ≡ runs_on msize at end (drop i ps)
   unfolding runs_on
-  look-ends l = rw (drop_of_length-le ps l) (go (eqb left 0) refl)
+  look_ends l = rw (drop_of_length-le ps l) (go (eqb left 0) refl)
     where
       go : (b : Bool) → eqb left 0 ≡ b → b ≡ eqb at end
       go true t = let k = eqb-true left 0 t in sym (eq-eqb at end (omega arith))

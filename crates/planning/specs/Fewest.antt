@@ -12,7 +12,7 @@ use Rattle.numbers.specs.declared.Refusal.TheVariants as R
 use Rattle.numbers.specs.declared.Place.{Place}
 use Rattle.numbers.specs.declared.Place.TheVariants.{At, Refused}
 use Rattle.planning.specs.Plans.{runs_on, greatest, agreed, accepted, most_data, fewest, cut, room_for, laid, planned, table_of, Planned}
-use Rattle.planning.specs.PlanLaws.{most-some, fewest-least, fewest-none, runs-within, cut-runs, length_cut, small, far, neither, Good, good, accepted-refused, accepted-runs, planned-full, planned-fits}
+use Rattle.planning.specs.PlanLaws.{most_some, fewest_least, fewest_none, runs_within, cut_runs, length_cut, small, far, neither, Good, good, accepted_refused, accepted_runs, planned_full, planned_fits}
 
 -- ---- an accepted plan is of a write that is neither 26 nor 27, and it has enough pieces
 
@@ -22,23 +22,23 @@ module _ (first len msize : ℕ) (ps : List (List ℕ)) (e : accepted ps first l
     where
       go : (q : Place) → agreed first len msize ≡ q → Good first len msize
       go (At n) a = good first len msize (sym a)
-      go (Refused k n) a = let f = accepted-refused first len msize ps (sym a) in absurd (let z : ◌≡◌ {A = ℕ} 0 1 = cc in omega arith)
+      go (Refused k n) a = let f = accepted_refused first len msize ps (sym a) in absurd (let z : ◌≡◌ {A = ℕ} 0 1 = cc in omega arith)
 
-  pub every-accepted : fewest (most_data msize) len ≤ length ps
-  every-accepted =
+  pub every_accepted : fewest (most_data msize) len ≤ length ps
+  every_accepted =
       let g = accepted_good in
-      let r = accepted-runs first len msize ps (neither first len msize g.msize-is g.end_is) ∙ e in
-      let w = (runs-within msize first (first + len) ps r).1 in
-      (fewest-least (most_data msize) (most-some msize g.msize-is) len).least (length ps) (omega arith)
+      let r = accepted_runs first len msize ps (neither first len msize g.msize_is g.end_is) ∙ e in
+      let w = (runs_within msize first (first + len) ps r).1 in
+      (fewest_least (most_data msize) (most_some msize g.msize_is) len).least (length ps) (omega arith)
 
 -- ---- what is planned is accepted
 
 pub cut_accepted : (first len msize : ℕ) → Good first len msize → accepted (cut (most_data msize) (fewest (most_data msize) len) first len) first len msize ≡ true
 cut_accepted first len msize g =
-    let h = g.msize-is in
+    let h = g.msize_is in
     let n = fewest (most_data msize) len in
-    sym (accepted-runs first len msize (cut (most_data msize) n first len) (neither first len msize h g.end_is))
-    ∙ cut-runs msize h n first len (first + len) (fewest-least (most_data msize) (most-some msize h) len) refl
+    sym (accepted_runs first len msize (cut (most_data msize) n first len) (neither first len msize h g.end_is))
+    ∙ cut_runs msize h n first len (first + len) (fewest_least (most_data msize) (most_some msize h) len) refl
 
 -- ---- the answers that are a plan, and those that are 24
 
@@ -79,8 +79,8 @@ module _ (room first len msize : ℕ) where
 -- ---- what is promised comes to this
 
 module _ {t : List (List ℕ)} {first len msize : ℕ} {t' : List (List ℕ)} {r : Place} (p : Planned t first len msize t' r) where
-  pub planned-one : {u : List (List ℕ)} {q : Place} → Planned t first len msize u q → (t' ≡ u) × (r ≡ q)
-  planned-one o = (one_answer p.table o.table, one_answer p.answer o.answer)
+  pub planned_one : {u : List (List ℕ)} {q : Place} → Planned t first len msize u q → (t' ≡ u) × (r ≡ q)
+  planned_one o = (one_answer p.table o.table, one_answer p.answer o.answer)
 
   -- refused, the table is as it was
   pub untouched : {k : Refusal} {n : ℕ} → r ≡ Refused k n → t' ≡ t
@@ -96,37 +96,37 @@ module _ {t : List (List ℕ)} {first len msize : ℕ} {t' : List (List ℕ)} {r
     unfolding table_of
     rows = p.table ∙ rw (← p.answer, e)
 
-    pub rows-after : drop n t' ≡ drop n t
-    rows-after = rw rows (drop_at (cut (most_data msize) n first len) (drop n t) n (length_cut (most_data msize) n first len))
+    pub rows_after : drop n t' ≡ drop n t
+    rows_after = rw rows (drop_at (cut (most_data msize) n first len) (drop n t) n (length_cut (most_data msize) n first len))
 
     -- its plan is accepted
-    pub plan-accepted : accepted (take n t') first len msize ≡ true
-    plan-accepted =
+    pub plan_accepted : accepted (take n t') first len msize ≡ true
+    plan_accepted =
         let f = as_planned in
         let c = cut_accepted first len msize f.is_good in
         rw (rows, take_at (cut (most_data msize) n first len) (drop n t) n (length_cut (most_data msize) n first len), f.is_fewest) c
 
     -- every accepted plan has at least as many pieces
-    pub plan-fewest : (ps : List (List ℕ)) → accepted ps first len msize ≡ true → n ≤ length ps
-    plan-fewest ps a = let f = as_planned.is_fewest in let l = every-accepted first len msize ps a in omega arith
+    pub plan_fewest : (ps : List (List ℕ)) → accepted ps first len msize ≡ true → n ≤ length ps
+    plan_fewest ps a = let f = as_planned.is_fewest in let l = every_accepted first len msize ps a in omega arith
 
   -- 24: every accepted plan is longer than the table
   pub full : {n : ℕ} → r ≡ Refused R.TableFull n → (ps : List (List ℕ)) → accepted ps first len msize ≡ true → length t < length ps
-  full e ps a = let f = full_is (length t) first len msize (sym e ∙ p.answer) in let l = every-accepted first len msize ps a in omega arith
+  full e ps a = let f = full_is (length t) first len msize (sym e ∙ p.answer) in let l = every_accepted first len msize ps a in omega arith
 
   module _ (h : 24 ≤ msize) (l : first + len ≤ greatest) where
     -- and where every one is longer, it is 24: else the plan that is made would be one that fits
-    pub full-only : ((ps : List (List ℕ)) → accepted ps first len msize ≡ true → length t < length ps) → r ≡ Refused R.TableFull 0
-    full-only f =
-        let c = cut_accepted first len msize record { msize-is = h; end_is = l } in
+    pub full_only : ((ps : List (List ℕ)) → accepted ps first len msize ≡ true → length t < length ps) → r ≡ Refused R.TableFull 0
+    full_only f =
+        let c = cut_accepted first len msize record { msize_is = h; end_is = l } in
         let e = neither first len msize h l in
         let m = length_cut (most_data msize) (fewest (most_data msize) len) first len in
-        (planned-one (planned-full first len msize t e refl refl (let k = f _ c in omega arith))).1
+        (planned_one (planned_full first len msize t e refl refl (let k = f _ c in omega arith))).1
 
     -- nothing to write is the empty plan
     pub nothing : len ≡ 0 → (r ≡ At 0) × (t' ≡ t)
     unfolding cut
     nothing z =
         let e = neither first len msize h l in
-        let o = planned-one (planned-fits first len msize t e refl (fewest-none (most_data msize) (most-some msize h) len z) (omega arith) refl) in
+        let o = planned_one (planned_fits first len msize t e refl (fewest_none (most_data msize) (most_some msize h) len z) (omega arith) refl) in
         (o.1, o.0)

@@ -58,16 +58,16 @@ pair hex i l =
     rw (drop-cons hex (i * 2) 0 (omega arith), e, drop-cons hex (i * 2 + 1) 0 l, f)
 
 module _ (hex : List ℕ) (n i : ℕ) {a b : ℕ} (l : i * 2 + 1 < length hex) (m : i < n) (d : a ≡ value (get_or hex (i * 2) 0)) (e : b ≡ value (get_or hex (i * 2 + 1) 0)) where
-  pub rest-turn : a * 16 + b ≤ 255 → rest hex n i ≡ (a * 16 + b) ∷ rest hex n (i + 1)
+  pub rest_turn : a * 16 + b ≤ 255 → rest hex n i ≡ (a * 16 + b) ∷ rest hex n (i + 1)
   unfolding spelt
-  rest-turn h =
+  rest_turn h =
       let f : n - i ≡ suc (n - (i + 1)) = omega arith in
       let g = le-ltb 255 (a * 16 + b) h in
       rw (pair hex i l, f, ← d, ← e, g)
 
-  pub rest-stops : 255 < a * 16 + b → rest hex n i ≡ []
+  pub rest_stops : 255 < a * 16 + b → rest hex n i ≡ []
   unfolding spelt
-  rest-stops h =
+  rest_stops h =
       let f : n - i ≡ suc (n - (i + 1)) = omega arith in
       let g = lt-ltb 255 (a * 16 + b) h in
       rw (pair hex i l, f, ← d, ← e, g)

@@ -25,7 +25,7 @@ use Rattle.stretch.specs.declared.Step.{Step}
 use Rattle.stretch.specs.declared.Step.TheVariants as S
 use Rattle.listing.specs.Text.{decimal, PiecesPut, joined, answer_number, header, end_word, stop_word, last_pieces, lines_from, too_long, FramePut, LastPut, position_of, room}
 use Rattle.listing.specs.TextLaws.{all_none, all_put, all_then, all_fits}
-use Rattle.listing.specs.RoomLaws.{Narrow, narrow_most, listing-narrow}
+use Rattle.listing.specs.RoomLaws.{Narrow, narrow_most, listing_narrow}
 use Rattle.sealing.specs.Trailers.{stretch_in, sealed}
 use Rattle.session.specs.Rules.{fresh, stepped}
 use Rattle.session.specs.declared.Session.{Session}
@@ -55,9 +55,9 @@ pub record Upto (bs o : List ℕ) (p₀ : Place) (s : Session) (at n : ℕ) (o1 
   pub on : (o2 : List ℕ) (e : Place) → PiecesPut (lines_from n (replayed bs s (listed table_t table_r bs at))) o1 p o2 e → LinesPut bs o p₀ o2 e
 
 module _ {bs o : List ℕ} {p₀ : Place} where
-  pub upto-none : {s : Session} → s ≡ fresh → Upto bs o p₀ s 0 0 o p₀
+  pub upto_none : {s : Session} → s ≡ fresh → Upto bs o p₀ s 0 0 o p₀
   unfolding listing
-  upto-none e = rw e (record { on = λ o2 e l. record { is = l } })
+  upto_none e = rw e (record { on = λ o2 e l. record { is = l } })
 
   pub upto_next : {s : Session} {at n m : ℕ} {r : Step} (l : Listed) {v : Event} {d : Stepped} {o1 o2 : List ℕ} {p q : Place} → at ≤ length bs → Asked bs at r → r ≡ S.Frame l
       → v ≡ event_of l.ty l.tag.0 (view_body l.body) → d ≡ stepped bs s v → m ≡ answer_of d.answer → Upto bs o p₀ s at n o1 p → FramePut l m o1 p o2 q
@@ -71,29 +71,29 @@ module _ {bs o : List ℕ} {p₀ : Place} where
       = me ∙ ap (λ (x : Stepped). answer_of x.answer) w ∙ number_same bs s l.ty l.tag.0 (view_body l.body) in
       record { on = λ o3 t y. u.on o3 t (rw g (all_then (rw z at f.is) (rw (k, w) at y))) }
 
-  pub upto-end : {s : Session} {at n q : ℕ} {r : Step} {o1 o2 : List ℕ} {p t : Place} → at ≤ length bs → Asked bs at r → r ≡ S.End q → Upto bs o p₀ s at n o1 p → LastPut end_word q n o1 p o2 t → LinesPut bs o p₀ o2 t
+  pub upto_end : {s : Session} {at n q : ℕ} {r : Step} {o1 o2 : List ℕ} {p t : Place} → at ≤ length bs → Asked bs at r → r ≡ S.End q → Upto bs o p₀ s at n o1 p → LastPut end_word q n o1 p o2 t → LinesPut bs o p₀ o2 t
   unfolding view_step lines_from replayed
-  upto-end {s} {at} {n} {q} {r} {o1} {o2} {p} {t} h a e u f =
+  upto_end {s} {at} {n} {q} {r} {o1} {o2} {p} {t} h a e u f =
       let g = answered bs at r h a ∙ ap (λ x. goes_on (view_step x) (listed table_t table_r bs)) e in u.on o2 t (rw g f.is)
 
-  pub upto-stop : {s : Session} {at n q : ℕ} {k : Refusal} {r : Step} {o1 o2 : List ℕ} {p t : Place} → at ≤ length bs → Asked bs at r → r ≡ S.Refused k q
+  pub upto_stop : {s : Session} {at n q : ℕ} {k : Refusal} {r : Step} {o1 o2 : List ℕ} {p t : Place} → at ≤ length bs → Asked bs at r → r ≡ S.Refused k q
       → Upto bs o p₀ s at n o1 p → LastPut stop_word q (number_of k) o1 p o2 t → LinesPut bs o p₀ o2 t
   unfolding view_step lines_from replayed
-  upto-stop {s} {at} {n} {q} {k} {r} {o1} {o2} {p} {t} h a e u f =
+  upto_stop {s} {at} {n} {q} {k} {r} {o1} {o2} {p} {t} h a e u f =
       let g = answered bs at r h a ∙ ap (λ x. goes_on (view_step x) (listed table_t table_r bs)) e in u.on o2 t (rw g f.is)
 
 -- ---- the text
 
 module _ {file o : List ℕ} where
-  pub text-long : {o1 : List ℕ} {p : Place} → 65536 < length file → Put too_long o (At 0) o1 p → ReplayPut file o o1 p
-  text-long h a = record { is = rw (lt-ltb 65536 (length file) h) (all_put a all_none) }
+  pub text_long : {o1 : List ℕ} {p : Place} → 65536 < length file → Put too_long o (At 0) o1 p → ReplayPut file o o1 p
+  text_long h a = record { is = rw (lt-ltb 65536 (length file) h) (all_put a all_none) }
 
   module _ (h : length file ≤ 65536) {b : Bool} (e : b ≡ sealed file) where
-    pub text-followed : {o1 o2 : List ℕ} {p q : Place} {n : ℕ} → b ≡ true → n ≡ length file - 12 → Put header o (At 0) o1 p → LinesPut (take n file) o1 p o2 q → ReplayPut file o o2 q
-    text-followed t f a l = record { is = rw (le-ltb 65536 (length file) h, ← e, t) (all_put a (rw f at l.is)) }
+    pub text_followed : {o1 o2 : List ℕ} {p q : Place} {n : ℕ} → b ≡ true → n ≡ length file - 12 → Put header o (At 0) o1 p → LinesPut (take n file) o1 p o2 q → ReplayPut file o o2 q
+    text_followed t f a l = record { is = rw (le-ltb 65536 (length file) h, ← e, t) (all_put a (rw f at l.is)) }
 
-    pub text-unsealed : {o1 : List ℕ} {p : Place} → b ≡ false → LastPut stop_word 0 (number_of R.Trailer) o (At 0) o1 p → ReplayPut file o o1 p
-    text-unsealed t l = record { is = rw (le-ltb 65536 (length file) h, ← e, t) l.is }
+    pub text_unsealed : {o1 : List ℕ} {p : Place} → b ≡ false → LastPut stop_word 0 (number_of R.Trailer) o (At 0) o1 p → ReplayPut file o o1 p
+    text_unsealed t l = record { is = rw (le-ltb 65536 (length file) h, ← e, t) l.is }
 
 -- ---- it fits the room
 
@@ -118,7 +118,7 @@ text_most file b =
     go : length file ≤ 65536 → (t : Bool) → length (joined (cond t (header ∷ lines_from 0 (replay (stretch_in file))) (last_pieces stop_word 0 (number_of R.Trailer)))) ≤ room
     go h true =
         let l : length (stretch_in file) ≤ 65536 = (let k = length-take-le (length file - 12) file (omega arith) in omega arith) in
-        narrow_most (length (stretch_in file)) (replay (stretch_in file)) l (replayed_narrow (stretch_in file) fresh 0 (length (stretch_in file)) (listing table_t table_r (stretch_in file)) (listing-narrow table_t table_r (stretch_in file) (bytes_take (length file - 12) file b) l))
+        narrow_most (length (stretch_in file)) (replay (stretch_in file)) l (replayed_narrow (stretch_in file) fresh 0 (length (stretch_in file)) (listing table_t table_r (stretch_in file)) (listing_narrow table_t table_r (stretch_in file) (bytes_take (length file - 12) file b) l))
     go h false = nineteen
 
 pub replay_reported : {file o o' : List ℕ} {q : Place} {n : ℕ} → Bytes file → room ≡ length o → ReplayPut file o o' q → n ≡ position_of q → Replayed file o o' n

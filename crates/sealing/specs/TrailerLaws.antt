@@ -17,10 +17,10 @@ use Rattle.numbers.specs.declared.Place.{Place}
 use Rattle.numbers.specs.declared.Place.TheVariants.{At, Refused}
 use Rattle.layouts.specs.Tables.{table_t, table_r}
 use Rattle.framing.specs.Stretch.{Listing, entry, ends, stops, list_from, listing}
-use Rattle.framing.specs.ListingLaws.{front_case, list-frame, list_stop, goes_on, listed, list-step}
+use Rattle.framing.specs.ListingLaws.{front_case, list_frame, list_stop, goes_on, listed, list_step}
 use Rattle.framing.specs.Joining.{Ends}
 use Rattle.framing.specs.Cuts.{between, CutAt}
-use Rattle.framing.specs.CutLaws.{length_whole, cut-whole, cut-end, cut-stop}
+use Rattle.framing.specs.CutLaws.{length_whole, cut_whole, cut_end, cut_stop}
 use Rattle.framing.specs.declared.Cut.{Cut}
 use Rattle.framing.specs.declared.Cut.TheVariants as C
 use Rattle.sealing.specs.Trailers.{extent_from, extent_of, tells, stretch_in, sealed, trailer_bytes, told, trailer_of, start_of, ExtentPut, TrailerPut}
@@ -31,53 +31,53 @@ use Rattle.sealing.specs.declared.Measured.TheVariants as M
 -- ---- one frame on
 
 module _ (s : List ℕ) where
-  pub extent-start : extent_from 0 0 (listed table_t table_r s 0) ≡ extent_of (listing table_t table_r s)
+  pub extent_start : extent_from 0 0 (listed table_t table_r s 0) ≡ extent_of (listing table_t table_r s)
   unfolding listing
-  extent-start = refl
+  extent_start = refl
 
   module _ {p : ℕ} {g : Cut} (h : p ≤ length s) (c : CutAt s p g) (n b : ℕ) where
-    pub extent-on : {ty tag e : ℕ} → g ≡ C.Whole ty tag e → extent_from (n + 1) p (listed table_t table_r s e) ≡ extent_from n b (listed table_t table_r s p)
+    pub extent_on : {ty tag e : ℕ} → g ≡ C.Whole ty tag e → extent_from (n + 1) p (listed table_t table_r s e) ≡ extent_from n b (listed table_t table_r s p)
     unfolding extent_from
-    extent-on {ty} {tag} {e} f =
-        let w = cut-whole s p c f in
+    extent_on {ty} {tag} {e} f =
+        let w = cut_whole s p c f in
         let z = length_whole w in
         let v = w.seven in
         let m : e ≡ p + length (between p e s) = omega arith in
         ap (λ q. extent_from (n + 1) p (listed table_t table_r s q)) m
-        ∙ sym (ap (extent_from n b) (list-step table_t table_r s p h ∙ ap (λ x. goes_on x (listed table_t table_r s)) (sym (w.is table_t table_r))))
+        ∙ sym (ap (extent_from n b) (list_step table_t table_r s p h ∙ ap (λ x. goes_on x (listed table_t table_r s)) (sym (w.is table_t table_r))))
 
-    pub extent-end : g ≡ C.End → M.Whole (record { bytes = p; frames = n; last = b }) ≡ extent_from n b (listed table_t table_r s p)
+    pub extent_end : g ≡ C.End → M.Whole (record { bytes = p; frames = n; last = b }) ≡ extent_from n b (listed table_t table_r s p)
     unfolding extent_from
-    extent-end f = sym (ap (extent_from n b) (list-step table_t table_r s p h ∙ ap (λ x. goes_on x (listed table_t table_r s)) (sym (cut-end s p c f table_t table_r))))
+    extent_end f = sym (ap (extent_from n b) (list_step table_t table_r s p h ∙ ap (λ x. goes_on x (listed table_t table_r s)) (sym (cut_end s p c f table_t table_r))))
 
-    pub extent-stop : {k : Refusal} → g ≡ C.Refused k → M.Refused k p ≡ extent_from n b (listed table_t table_r s p)
+    pub extent_stop : {k : Refusal} → g ≡ C.Refused k → M.Refused k p ≡ extent_from n b (listed table_t table_r s p)
     unfolding extent_from
-    extent-stop f = sym (ap (extent_from n b) (list-step table_t table_r s p h ∙ ap (λ x. goes_on x (listed table_t table_r s)) (sym (cut-stop s p c f table_t table_r))))
+    extent_stop f = sym (ap (extent_from n b) (list_step table_t table_r s p h ∙ ap (λ x. goes_on x (listed table_t table_r s)) (sym (cut_stop s p c f table_t table_r))))
 
 -- ---- a trailer that is read
 
 module _ (bytes frames last : ℕ) {m : Measured} where
-  pub tells-bytes : {e : Extent} → m ≡ M.Whole e → (e.bytes ≡ bytes → ⊥) → false ≡ tells bytes frames last m
-  tells-bytes {e} f h = rw (f, ne_eqb e.bytes bytes h)
+  pub tells_bytes : {e : Extent} → m ≡ M.Whole e → (e.bytes ≡ bytes → ⊥) → false ≡ tells bytes frames last m
+  tells_bytes {e} f h = rw (f, ne_eqb e.bytes bytes h)
 
-  pub tells-frames : {e : Extent} → m ≡ M.Whole e → e.bytes ≡ bytes → (e.frames ≡ frames → ⊥) → false ≡ tells bytes frames last m
-  tells-frames {e} f g h = rw (f, eq-eqb e.bytes bytes g, ne_eqb e.frames frames h)
+  pub tells_frames : {e : Extent} → m ≡ M.Whole e → e.bytes ≡ bytes → (e.frames ≡ frames → ⊥) → false ≡ tells bytes frames last m
+  tells_frames {e} f g h = rw (f, eq-eqb e.bytes bytes g, ne_eqb e.frames frames h)
 
-  pub tells-last : {e : Extent} → m ≡ M.Whole e → e.bytes ≡ bytes → e.frames ≡ frames → eqb e.last last ≡ tells bytes frames last m
-  tells-last {e} f g h = rw (f, eq-eqb e.bytes bytes g, eq-eqb e.frames frames h)
+  pub tells_last : {e : Extent} → m ≡ M.Whole e → e.bytes ≡ bytes → e.frames ≡ frames → eqb e.last last ≡ tells bytes frames last m
+  tells_last {e} f g h = rw (f, eq-eqb e.bytes bytes g, eq-eqb e.frames frames h)
 
   pub tells_none : {k : Refusal} {p : ℕ} → m ≡ M.Refused k p → false ≡ tells bytes frames last m
   tells_none f = rw f
 
 module _ (file : List ℕ) where
-  pub sealed-short : length file < 12 → false ≡ sealed file
+  pub sealed_short : length file < 12 → false ≡ sealed file
   unfolding sealed
-  sealed-short h = rw (lt-ltb (length file) 12 h)
+  sealed_short h = rw (lt-ltb (length file) 12 h)
 
-  pub sealed-reads : {a b c : ℕ} {p q r : Place} {m : Measured} {t : Bool} → 12 ≤ length file → NumRead 4 file (At (length file - 12)) a p → NumRead 4 file (At (length file - 12 + 4)) b q
+  pub sealed_reads : {a b c : ℕ} {p q r : Place} {m : Measured} {t : Bool} → 12 ≤ length file → NumRead 4 file (At (length file - 12)) a p → NumRead 4 file (At (length file - 12 + 4)) b q
       → NumRead 4 file (At (length file - 12 + 8)) c r → m ≡ extent_of (listing table_t table_r (stretch_in file)) → t ≡ tells a b c m → t ≡ sealed file
   unfolding sealed
-  sealed-reads h x y z f e = rw (le-ltb (length file) 12 h, ← x.value, ← y.value, ← z.value, ← f) e
+  sealed_reads h x y z f e = rw (le-ltb (length file) 12 h, ← x.value, ← y.value, ← z.value, ← f) e
 
 -- a sealed file reads to its end
 extent_ends : (bytes frames last n at : ℕ) (l : Listing) → tells bytes frames last (extent_from n at l) ≡ true → Ends l
@@ -102,11 +102,11 @@ pub trailer_length : (e : Extent) → length (trailer_bytes e) ≡ 12
 trailer_length e = simp (length-append, length_to_le)
 
 module _ (e : Extent) {o : List ℕ} where
-  pub put-long : 4294967295 < e.bytes → ExtentPut e o o (Refused R.Trailer 0)
-  put-long h = rw (lt-ltb 4294967295 e.bytes h) (put_stays refl)
+  pub put_long : 4294967295 < e.bytes → ExtentPut e o o (Refused R.Trailer 0)
+  put_long h = rw (lt-ltb 4294967295 e.bytes h) (put_stays refl)
 
-  pub put-crowded : e.bytes ≤ 4294967295 → length o < 12 → ExtentPut e o o (Refused R.NoRoom 0)
-  put-crowded h l =
+  pub put_crowded : e.bytes ≤ 4294967295 → length o < 12 → ExtentPut e o o (Refused R.NoRoom 0)
+  put_crowded h l =
       let w : Within 0 12 (length o) false = record { is = omega arith } in
       rw (le-ltb 4294967295 e.bytes h) (put_full (trailer_length e) refl w refl)
 
@@ -144,7 +144,7 @@ bounded (x ∷ xs) p zero n b h u v = go (λ k l. bounded xs (suc p) k (n + 1) p
         let z : m ≡ size = length-take-le size (x ∷ xs) f.held in
         let s = f.seven in
         let w = f.held in
-        rw (list-frame table_t table_r p x xs e) (ih (pred m) (omega arith)))
+        rw (list_frame table_t table_r p x xs e) (ih (pred m) (omega arith)))
         (λ k e. rw (list_stop table_t table_r p x xs e) tt)
 
 -- a number of four bytes where it was put
@@ -180,9 +180,9 @@ module _ (bs : List ℕ) (e : Extent) (f : extent_of (listing table_t table_r bs
       let m = most.1 in
       rw x (num_there (bs ++ to_le 4 e.bytes ++ to_le 4 e.frames) [] e.last (length bs + 8) (omega arith) (simp (length-append, length_to_le) (omega arith)))
 
-  pub sealed-own : sealed file ≡ true
+  pub sealed_own : sealed file ≡ true
   unfolding sealed
-  sealed-own =
+  sealed_own =
       let l = file_length in
       let n : length file - 12 ≡ length bs = omega arith in
       let s : take (length bs) file ≡ bs = take-append_seam bs (trailer_bytes e) in

@@ -7,29 +7,29 @@ use Rattle.std.proofs.lemmas.List.{length-replicate, get_or-replicate}
 use Rattle.std.proofs.Math.Seq.{get_or-set_same}
 use Rattle.std.proofs.Math.Dec.{eqb}
 use borrow.Author.Tests.{eq-eqb, ne_eqb, eqb-true, eqb-false, ltb-true, ltb-false, lt-ltb}
-use Rattle.session.specs.Rows.{row_from, row_of, has, row_has, row-all}
+use Rattle.session.specs.Rows.{row_from, row_of, has, row_has, row_all}
 use Rattle.session.specs.Rules.{free}
 
 -- ---- whether a key is there
 
 module _ (k : ℕ) (xs : List ℕ) where
-  pub has-row : has k xs ≡ true → row_of k xs < 64
-  has-row h = ltb-true (row_of k xs) 64 h
+  pub has_row : has k xs ≡ true → row_of k xs < 64
+  has_row h = ltb-true (row_of k xs) 64 h
 
   pub has_key : has k xs ≡ true → get_or xs (row_of k xs) 0 ≡ k
-  has_key h = row_has k xs (has-row h)
+  has_key h = row_has k xs (has_row h)
 
-  pub has-not : has k xs ≡ false → (j : ℕ) → j < 64 → get_or xs j 0 ≡ k → ⊥
-  has-not h j l e = let a = row-all k xs j l e in let b = ltb-false (row_of k xs) 64 h in omega arith
+  pub has_not : has k xs ≡ false → (j : ℕ) → j < 64 → get_or xs j 0 ≡ k → ⊥
+  has_not h j l e = let a = row_all k xs j l e in let b = ltb-false (row_of k xs) 64 h in omega arith
 
   pub there_has : (j : ℕ) → j < 64 → get_or xs j 0 ≡ k → has k xs ≡ true
-  there_has j l e = lt-ltb (row_of k xs) 64 (row-all k xs j l e)
+  there_has j l e = lt-ltb (row_of k xs) 64 (row_all k xs j l e)
 
   pub none_has : ((j : ℕ) → j < 64 → get_or xs j 0 ≡ k → ⊥) → has k xs ≡ false
   none_has f = go (has k xs) refl
     where
       go : (b : Bool) → has k xs ≡ b → b ≡ false
-      go true h = absurd (f (row_of k xs) (has-row h) (has_key h))
+      go true h = absurd (f (row_of k xs) (has_row h) (has_key h))
       go false h = refl
 
 -- ---- after a row is set
@@ -63,7 +63,7 @@ module _ (k : ℕ) (xs : List ℕ) (i v : ℕ) where
 pub row_new : (xs : List ℕ) (i v : ℕ) → i < 64 → length xs ≡ 64 → ((j : ℕ) → j < 64 → (j ≡ i → ⊥) → get_or xs j 0 ≡ v → ⊥) → row_of v (set xs i v) ≡ i
 row_new xs i v h l f =
     let s : get_or (set xs i v) i 0 ≡ v = get_or-set_same xs i v 0 (omega arith) in
-    let r = row-all v (set xs i v) i h s in
+    let r = row_all v (set xs i v) i h s in
     let e = row_has v (set xs i v) r in
     go (eqb (row_of v (set xs i v)) i) refl r e
   where

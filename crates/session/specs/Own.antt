@@ -24,8 +24,8 @@ use Rattle.session.specs.declared.What.TheVariants as W
 use Rattle.session.specs.declared.Event.{Event}
 use Rattle.session.specs.Rows.{row_of, has}
 use Rattle.session.specs.Rules.{free, none, accepts, refuses, unless, unfit, opened, asked, effect_of, dropped, place_of, reached, held, given_at, given, done, closing, finished, request_of, replied, answered, happened, stepped}
-use Rattle.session.specs.Keys.{has-row, has_key}
-use Rattle.session.specs.Sound.{FitFor, FitEffect, effect-fit, Sound, not_free}
+use Rattle.session.specs.Keys.{has_row, has_key}
+use Rattle.session.specs.Sound.{FitFor, FitEffect, effect_fit, Sound, not_free}
 
 abbrev pub Own : Answer → Type 0
 Own Accepted = Unit {0}
@@ -98,8 +98,8 @@ answered_own {bs} {s} d tag ty n l = go (has tag s.tags) refl
         → Own (cond {A = Stepped} t (cond (pairs table_t rlerror r.ty tag ty tag) (closing s tag (done bs s e r).session (done bs s e r).answer) (refuses s R.NoRequest)) (refuses s R.NoRequest)).answer
     go false h = (omega arith, omega arith)
     go true h =
-        let f = d.fair (row_of tag s.tags) (has-row tag s.tags h) (λ z. not_free l (sym (has_key tag s.tags h) ∙ z)) in
-        either (pairs table_t rlerror r.ty tag ty tag) (closing s tag (done bs s e r).session (done bs s e r).answer) (refuses s R.NoRequest) (closing_own s tag (done bs s e r).session (done bs s e r).answer (done_own bs s e r (effect-fit f ty (eqb n r.count)).is)) (omega arith, omega arith)
+        let f = d.fair (row_of tag s.tags) (has_row tag s.tags h) (λ z. not_free l (sym (has_key tag s.tags h) ∙ z)) in
+        either (pairs table_t rlerror r.ty tag ty tag) (closing s tag (done bs s e r).session (done bs s e r).answer) (refuses s R.NoRequest) (closing_own s tag (done bs s e r).session (done bs s e r).answer (done_own bs s e r (effect_fit f ty (eqb n r.count)).is)) (omega arith, omega arith)
 
 -- the answer to a frame that was read; one that was not is refused as the codec refuses it
 abbrev pub OwnOf : What → Answer → Type 0

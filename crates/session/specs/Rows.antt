@@ -26,9 +26,9 @@ later : {i j : ℕ} → i ≤ j → (j ≡ i → ⊥) → i + 1 ≤ j
 later a z = omega arith
 
 module _ (k : ℕ) (xs : List ℕ) where
-  pub row-start : row_from k xs 0 (64 - 0) ≡ row_of k xs
+  pub row_start : row_from k xs 0 (64 - 0) ≡ row_of k xs
   unfolding row_of
-  row-start = refl
+  row_start = refl
 
   pub row_here : (i : ℕ) → i < 64 → get_or xs i 0 ≡ k → i ≡ row_from k xs i (64 - i)
   unfolding row_from
@@ -38,9 +38,9 @@ module _ (k : ℕ) (xs : List ℕ) where
   unfolding row_from
   row_on i h e = let m : 64 - i ≡ suc (64 - (i + 1)) = omega arith in rw (m, row_from, ne_eqb _ _ e)
 
-  pub row-none : (i : ℕ) → 64 ≤ i → i ≡ row_from k xs i (64 - i)
+  pub row_none : (i : ℕ) → 64 ≤ i → i ≡ row_from k xs i (64 - i)
   unfolding row_from
-  row-none i h = let m : 64 - i ≡ 0 = omega arith in rw (m, row_from)
+  row_none i h = let m : 64 - i ≡ 0 = omega arith in rw (m, row_from)
 
   -- ---- what it is: a row that has the key, and no row that has it is left out
 
@@ -58,6 +58,6 @@ module _ (k : ℕ) (xs : List ℕ) where
   unfolding row_of
   row_has h = (there 64 0).0 h
 
-  pub row-all : (j : ℕ) → j < 64 → get_or xs j 0 ≡ k → row_of k xs < 64
+  pub row_all : (j : ℕ) → j < 64 → get_or xs j 0 ≡ k → row_of k xs < 64
   unfolding row_of
-  row-all j h e = (there 64 0).1 j (omega arith) h e
+  row_all j h e = (there 64 0).1 j (omega arith) h e

@@ -19,7 +19,7 @@ use Rattle.places.specs.declared.Reached.{Reached}
 use Rattle.places.specs.Sound.{Sound as SoundPlaces, Inside, Grown, unused_sound, kept_same, added_grown, walked_grown}
 use Rattle.places.specs.Reads.{NamesRead}
 use Rattle.places.specs.Paths.{Named}
-use Rattle.places.specs.Names.{added-named, walked_named}
+use Rattle.places.specs.Names.{added_named, walked_named}
 use Rattle.session.specs.declared.Request.{Request}
 use Rattle.session.specs.declared.Session.{Session}
 use Rattle.session.specs.declared.Answer.{Answer}
@@ -34,7 +34,7 @@ use Rattle.session.specs.declared.What.TheVariants as W
 use Rattle.session.specs.declared.Event.{Event}
 use Rattle.session.specs.Rows.{row_of, has}
 use Rattle.session.specs.Rules.{free, none, blank, fresh, accepts, refuses, unless, unfit, opened, asked, on_clunk, effect_of, closed, dropped, place_of, reached, held, given_at, given, done, closing, finished, replied, answered, happened, stepped}
-use Rattle.session.specs.Keys.{has-row, has_key, has-not, Distinct, free_distinct, set_distinct}
+use Rattle.session.specs.Keys.{has_row, has_key, has_not, Distinct, free_distinct, set_distinct}
 
 -- what a request that was read asks: a walk, a creation and a copy begin at a fid that is to be known; the name of a file that is made lies within the
 -- stretch, and the names of a walk are read there
@@ -89,11 +89,11 @@ module _ {bs : List ℕ} {s : Session} (d : Sound bs s) where
   opened_sound : (tag : ℕ) (r : Request) → Fair bs r → has tag s.tags ≡ false → has free s.tags ≡ true → Sound bs (opened s tag r)
   opened_sound tag r f n h =
       let i = row_of free s.tags in
-      let l : row_of free s.tags < 64 = has-row free s.tags h in
+      let l : row_of free s.tags < 64 = has_row free s.tags h in
       let m = d.asks in
       let o = d.tags.rows in
       record {
-        tags = set_distinct d.tags (row_of free s.tags) tag l (λ j a b e. absurd (has-not tag s.tags n j a e));
+        tags = set_distinct d.tags (row_of free s.tags) tag l (λ j a b e. absurd (has_not tag s.tags n j a e));
         fids = d.fids;
         asks = length-set s.requests (row_of free s.tags) r ∙ d.asks;
         ats = d.ats;
@@ -105,14 +105,14 @@ module _ {bs : List ℕ} {s : Session} (d : Sound bs s) where
         names = d.names;
       }
 
-  pub closed-sound : (tag : ℕ) → Sound bs (closed s tag)
+  pub closed_sound : (tag : ℕ) → Sound bs (closed s tag)
   unfolding closed
-  closed-sound tag = go (has tag s.tags) refl
+  closed_sound tag = go (has tag s.tags) refl
     where
       go : (b : Bool) → has tag s.tags ≡ b → Sound bs (cond b (record { tags = set s.tags (row_of tag s.tags) free; requests = s.requests; fids = s.fids; at = s.at; places = s.places }) s)
       go false h = d
       go true h =
-          let l = has-row tag s.tags h in
+          let l = has_row tag s.tags h in
           let o = d.tags.rows in
           record {
             tags = set_distinct d.tags (row_of tag s.tags) free l (λ j a b e. refl);
@@ -134,7 +134,7 @@ module _ {bs : List ℕ} {s : Session} (d : Sound bs s) where
       go : (b : Bool) → has fid s.fids ≡ b → Sound bs (cond b (record { tags = s.tags; requests = s.requests; fids = set s.fids (row_of fid s.fids) free; at = s.at; places = s.places }) s)
       go false h = d
       go true h =
-          let l = has-row fid s.fids h in
+          let l = has_row fid s.fids h in
           let o = d.fids.rows in
           record {
             tags = d.tags;
@@ -177,9 +177,9 @@ module _ {bs : List ℕ} {s : Session} (d : Sound bs s) where
         row : (i : ℕ) → r.at ≡ S.At i → (b c : Bool) → has fid s.fids ≡ b → has free s.fids ≡ c
             → Sound bs (cond {A = Stepped} b (accepts (held s (row_of fid s.fids) fid i r.places)) (cond c (accepts (held s (row_of free s.fids) fid i r.places)) (refuses s R.TableFull))).session
         row i e true c h k =
-            held_sound (row_of fid s.fids) fid i (has-row fid s.fids h) e
-            (λ j a b f. differ fid free (λ z. z) (λ z. absurd (b (d.fids.one j (row_of fid s.fids) a (has-row fid s.fids h) (f ∙ sym (has_key fid s.fids h)) (λ y. z (sym f ∙ y))))))
-        row i e false true h k = held_sound (row_of free s.fids) fid i (has-row free s.fids k) e (λ j a b f. absurd (has-not fid s.fids h j a f))
+            held_sound (row_of fid s.fids) fid i (has_row fid s.fids h) e
+            (λ j a b f. differ fid free (λ z. z) (λ z. absurd (b (d.fids.one j (row_of fid s.fids) a (has_row fid s.fids h) (f ∙ sym (has_key fid s.fids h)) (λ y. z (sym f ∙ y))))))
+        row i e false true h k = held_sound (row_of free s.fids) fid i (has_row free s.fids k) e (λ j a b f. absurd (has_not fid s.fids h j a f))
         row i e false false h k = d
 
         go : (t : Spot) → r.at ≡ t → Sound bs (given_at s fid r.places t).session
@@ -190,7 +190,7 @@ module _ {bs : List ℕ} {s : Session} (d : Sound bs s) where
 
   pub place_inside : (fid : ℕ) → has fid s.fids ≡ true → fid < free → place_of s fid < s.places.used
   unfolding place_of
-  place_inside fid h l = rw h (d.inside (row_of fid s.fids) (has-row fid s.fids h) (λ z. let k = has_key fid s.fids h in not_free l (sym k ∙ z)))
+  place_inside fid h l = rw h (d.inside (row_of fid s.fids) (has_row fid s.fids h) (λ z. let k = has_key fid s.fids h in not_free l (sym k ∙ z)))
 
 -- what a way asks of a request
 abbrev pub FitFor : List ℕ → Request → Way → Type 0
@@ -223,12 +223,12 @@ module _ {bs : List ℕ} (b : Bytes bs) {s : Session} (d : Sound bs s) (r : Requ
 
   reached_grown : (w : Way) → FitFor bs r w → (r.known < free → has r.known s.fids ≡ true) → Grown s.places (reached bs s w r) × Named bs (reached bs s w r).places
   unfolding reached
-  reached_grown Y.Root f k = (added_grown d.places s.places.used 0 0 (omega arith), added-named bs d.places d.names s.places.used 0 0 (omega arith))
+  reached_grown Y.Root f k = (added_grown d.places s.places.used 0 0 (omega arith), added_named bs d.places d.names s.places.used 0 0 (omega arith))
   reached_grown Y.Walk f k =
       (walked_grown bs r.count (P.At r.start) (stays f.0 (k f.0)), walked_named bs b r.count (P.At r.start) (stays f.0 (k f.0)) d.names)
   reached_grown Y.Child f k =
       let i = place_inside d r.known (k f.0) f.0 in
-      (added_grown d.places (place_of s r.known) r.start r.len (omega arith), added-named bs d.places d.names (place_of s r.known) r.start r.len f.1)
+      (added_grown d.places (place_of s r.known) r.start r.len (omega arith), added_named bs d.places d.names (place_of s r.known) r.start r.len f.1)
   reached_grown Y.Copy f k = (stays f (k f), d.names)
 
   -- ---- a reply
@@ -241,7 +241,7 @@ module _ {bs : List ℕ} (b : Bytes bs) {s : Session} (d : Sound bs s) (r : Requ
   unfolding done
   done_sound E.Nothing f = d
   done_sound E.Empties f = fresh_sound bs
-  done_sound E.Flushes f = closed-sound d r.old
+  done_sound E.Flushes f = closed_sound d r.old
   done_sound E.Drops f = unless_sound (unfit s.fids r) (accepts (dropped s r.to)) (λ e. dropped_sound d r.to)
   done_sound (E.Gives w) f =
       unless_sound (unfit s.fids r) (given s r.to (reached bs s w r))
@@ -260,9 +260,9 @@ module _ {bs : List ℕ} {r : Request} (f : Fair bs r) where
   clunk_fit : Fitting bs r (on_clunk r.ty E.Nothing)
   clunk_fit = fit_cond (eqb r.ty 120) (λ e. record { is = tt }) (λ e. fit_cond (eqb r.ty 122) (λ e. record { is = tt }) (λ e. record { is = tt }))
 
-  pub effect-fit : (reply : ℕ) (whole : Bool) → Fitting bs r (effect_of r.ty reply whole)
+  pub effect_fit : (reply : ℕ) (whole : Bool) → Fitting bs r (effect_of r.ty reply whole)
   unfolding effect_of
-  effect-fit reply whole =
+  effect_fit reply whole =
       fit_cond (eqb reply rlerror) (λ e. clunk_fit)
       (λ e. fit_cond (eqb r.ty 100) (λ e. record { is = tt })
       (λ e. fit_cond (eqb r.ty 108) (λ e. record { is = tt })
@@ -290,7 +290,7 @@ module _ {bs : List ℕ} (b : Bytes bs) {s : Session} (d : Sound bs s) where
   finished_sound tag t e = go t.answer
     where
       go : (a : Answer) → Sound bs (closing s tag t.session a).session
-      go Accepted = closed-sound e tag
+      go Accepted = closed_sound e tag
       go (Refused k) = d
 
   answered_sound : (tag ty n : ℕ) → tag < free → Sound bs (answered bs s tag ty n).session
@@ -301,18 +301,18 @@ module _ {bs : List ℕ} (b : Bytes bs) {s : Session} (d : Sound bs s) where
       r = get_or s.requests (row_of tag s.tags) blank
 
       known : (t : Bool) → Fair bs r → Sound bs (cond {A = Stepped} t (finished s tag (done bs s (effect_of r.ty ty (eqb n r.count)) r)) (refuses s R.NoRequest)).session
-      known true f = finished_sound tag (done bs s (effect_of r.ty ty (eqb n r.count)) r) (done_sound b d r (effect_of r.ty ty (eqb n r.count)) (effect-fit f ty (eqb n r.count)).is)
+      known true f = finished_sound tag (done bs s (effect_of r.ty ty (eqb n r.count)) r) (done_sound b d r (effect_of r.ty ty (eqb n r.count)) (effect_fit f ty (eqb n r.count)).is)
       known false f = d
 
       go : (t : Bool) → has tag s.tags ≡ t → Sound bs (cond {A = Stepped} t (cond (pairs table_t rlerror r.ty tag ty tag) (finished s tag (done bs s (effect_of r.ty ty (eqb n r.count)) r)) (refuses s R.NoRequest)) (refuses s R.NoRequest)).session
       go false e = d
-      go true e = known (pairs table_t rlerror r.ty tag ty tag) (d.fair (row_of tag s.tags) (has-row tag s.tags e) (λ z. not_free l (sym (has_key tag s.tags e) ∙ z)))
+      go true e = known (pairs table_t rlerror r.ty tag ty tag) (d.fair (row_of tag s.tags) (has_row tag s.tags e) (λ z. not_free l (sym (has_key tag s.tags e) ∙ z)))
 
   happened_sound : (ty tag : ℕ) (w : What) → tag < free → FairEvent bs w → Sound bs (happened bs s ty tag w).session
   happened_sound ty tag (W.Asks r) l f = asked_sound tag r f
   happened_sound ty tag (W.Answers n) l f = answered_sound tag ty n l
   happened_sound ty tag (W.Refused k) l f = d
 
-  pub step-sound : (e : Event) → e.tag < free → FairEvent bs e.what → Sound bs (stepped bs s e).session
+  pub step_sound : (e : Event) → e.tag < free → FairEvent bs e.what → Sound bs (stepped bs s e).session
   unfolding stepped
-  step-sound e l f = happened_sound e.ty e.tag e.what l f
+  step_sound e l f = happened_sound e.ty e.tag e.what l f

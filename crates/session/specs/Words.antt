@@ -20,30 +20,30 @@ use Rattle.session.specs.declared.Answer.TheVariants.{Accepted, Refused}
 use Rattle.session.specs.declared.Effect.TheVariants as E
 use Rattle.session.specs.Rows.{row_of, has}
 use Rattle.session.specs.Rules.{free, blank, fresh, accepts, refuses, unfit, opened, asked, closed, dropped, place_of, held, given, done, request_of}
-use Rattle.session.specs.Keys.{has-row, has_key, has-not, none_has, row_other, row_new, Distinct}
+use Rattle.session.specs.Keys.{has_row, has_key, has_not, none_has, row_other, row_new, Distinct}
 use Rattle.session.specs.Sound.{Sound, not_free, differ, place_inside}
 
 -- ---- a request: 20, then 22 or 23, then 24, and else it is opened
 
 module _ (s : Session) (tag : ℕ) (r : Request) where
-  pub asked-tag-open : has tag s.tags ≡ true → asked s tag r ≡ refuses s R.TagOpen
+  pub asked_tag_open : has tag s.tags ≡ true → asked s tag r ≡ refuses s R.TagOpen
   unfolding asked
-  asked-tag-open h = rw h
+  asked_tag_open h = rw h
 
   module _ (h : has tag s.tags ≡ false) where
-    pub asked-not-fit : {k : Refusal} → unfit s.fids r ≡ Refused k → asked s tag r ≡ refuses s k
+    pub asked_not_fit : {k : Refusal} → unfit s.fids r ≡ Refused k → asked s tag r ≡ refuses s k
     unfolding asked
-    asked-not-fit f = rw (h, f)
+    asked_not_fit f = rw (h, f)
 
     module _ (f : unfit s.fids r ≡ Accepted) where
       -- exactly where no row is free
-      pub asked-no-row : has free s.tags ≡ false → asked s tag r ≡ refuses s R.TableFull
+      pub asked_no_row : has free s.tags ≡ false → asked s tag r ≡ refuses s R.TableFull
       unfolding asked
-      asked-no-row g = rw (h, f, g)
+      asked_no_row g = rw (h, f, g)
 
-      pub asked-a-row : has free s.tags ≡ true → asked s tag r ≡ accepts (opened s tag r)
+      pub asked_a_row : has free s.tags ≡ true → asked s tag r ≡ accepts (opened s tag r)
       unfolding asked
-      asked-a-row g = rw (h, f, g)
+      asked_a_row g = rw (h, f, g)
 
 -- ---- the tag is open, and under it the request; all else is as it was
 
@@ -51,7 +51,7 @@ pub record Opens (s : Session) (tag : ℕ) (r : Request) (t : Session) : Type 0 
   pub is_open : has tag t.tags ≡ true
   pub request : request_of t tag ≡ r
   pub others : (k : ℕ) → (k ≡ tag → ⊥) → (k ≡ free → ⊥) → row_of k t.tags ≡ row_of k s.tags
-  pub other-requests : (k : ℕ) → (k ≡ tag → ⊥) → (k ≡ free → ⊥) → has k s.tags ≡ true → request_of t k ≡ request_of s k
+  pub other_requests : (k : ℕ) → (k ≡ tag → ⊥) → (k ≡ free → ⊥) → has k s.tags ≡ true → request_of t k ≡ request_of s k
   pub fids : t.fids ≡ s.fids
   pub at : t.at ≡ s.at
   pub places : t.places ≡ s.places
@@ -60,23 +60,23 @@ module _ {bs : List ℕ} {s : Session} (d : Sound bs s) where
   pub opens : (tag : ℕ) (r : Request) → has tag s.tags ≡ false → has free s.tags ≡ true → Opens s tag r (opened s tag r)
   opens tag r n h = record {
     is_open = lt_has;
-    request = rw new (get_or-set_same s.requests (row_of free s.tags) r blank (let m = d.asks in let q = has-row free s.tags h in omega arith));
+    request = rw new (get_or-set_same s.requests (row_of free s.tags) r blank (let m = d.asks in let q = has_row free s.tags h in omega arith));
     others = λ k a b. keeps k a b;
-    other-requests = λ k a b c. rw (keeps k a b) (get_or-set_other s.requests (row_of free s.tags) (row_of k s.tags) r blank (apart k b c));
+    other_requests = λ k a b c. rw (keeps k a b) (get_or-set_other s.requests (row_of free s.tags) (row_of k s.tags) r blank (apart k b c));
     fids = refl;
     at = refl;
     places = refl;
   }
     where
       new : row_of tag (set s.tags (row_of free s.tags) tag) ≡ row_of free s.tags
-      new = row_new s.tags (row_of free s.tags) tag (has-row free s.tags h) d.tags.rows (λ j a b e. has-not tag s.tags n j a e)
+      new = row_new s.tags (row_of free s.tags) tag (has_row free s.tags h) d.tags.rows (λ j a b e. has_not tag s.tags n j a e)
 
       lt_has : has tag (set s.tags (row_of free s.tags) tag) ≡ true
-      lt_has = rw (row_new s.tags (row_of free s.tags) tag (has-row free s.tags h) d.tags.rows (λ j a b e. has-not tag s.tags n j a e)) h
+      lt_has = rw (row_new s.tags (row_of free s.tags) tag (has_row free s.tags h) d.tags.rows (λ j a b e. has_not tag s.tags n j a e)) h
 
       keeps : (k : ℕ) → (k ≡ tag → ⊥) → (k ≡ free → ⊥) → row_of k (set s.tags (row_of free s.tags) tag) ≡ row_of k s.tags
       keeps k a b =
-          row_other k s.tags (row_of free s.tags) tag (λ e. b (sym e ∙ has_key free s.tags h)) (λ e. a (sym e)) (let m = d.tags.rows in let q = has-row free s.tags h in omega arith)
+          row_other k s.tags (row_of free s.tags) tag (λ e. b (sym e ∙ has_key free s.tags h)) (λ e. a (sym e)) (let m = d.tags.rows in let q = has_row free s.tags h in omega arith)
 
       apart : (k : ℕ) → (k ≡ free → ⊥) → has k s.tags ≡ true → row_of k s.tags ≡ row_of free s.tags → ⊥
       apart k b c e = b (sym (has_key k s.tags c) ∙ ap (λ (i : ℕ). get_or s.tags i 0) e ∙ has_key free s.tags h)
@@ -86,11 +86,11 @@ module _ {bs : List ℕ} {s : Session} (d : Sound bs s) where
 gone : {xs : List ℕ} → Distinct xs → (k : ℕ) → k < free → has k xs ≡ true → has k (set xs (row_of k xs) free) ≡ false
 gone {xs} d k l h =
     none_has k (set xs (row_of k xs) free) (λ j a e. differ j (row_of k xs)
-    (λ z. not_free l (sym e ∙ ap (λ (i : ℕ). get_or (set xs (row_of k xs) free) i 0) z ∙ get_or-set_same xs (row_of k xs) free 0 (let m = d.rows in let q = has-row k xs h in omega arith)))
-    (λ z. let f : get_or xs j 0 ≡ k = sym (get_or-set_other xs (row_of k xs) j free 0 z) ∙ e in z (d.one j (row_of k xs) a (has-row k xs h) (f ∙ sym (has_key k xs h)) (λ y. not_free l (sym f ∙ y)))))
+    (λ z. not_free l (sym e ∙ ap (λ (i : ℕ). get_or (set xs (row_of k xs) free) i 0) z ∙ get_or-set_same xs (row_of k xs) free 0 (let m = d.rows in let q = has_row k xs h in omega arith)))
+    (λ z. let f : get_or xs j 0 ≡ k = sym (get_or-set_other xs (row_of k xs) j free 0 z) ∙ e in z (d.one j (row_of k xs) a (has_row k xs h) (f ∙ sym (has_key k xs h)) (λ y. not_free l (sym f ∙ y)))))
 
 stay : {xs : List ℕ} → Distinct xs → (k j : ℕ) → has k xs ≡ true → (j ≡ k → ⊥) → (j ≡ free → ⊥) → row_of j (set xs (row_of k xs) free) ≡ row_of j xs
-stay {xs} d k j h a b = row_other j xs (row_of k xs) free (λ e. a (sym e ∙ has_key k xs h)) (λ e. b (sym e)) (let m = d.rows in let q = has-row k xs h in omega arith)
+stay {xs} d k j h a b = row_other j xs (row_of k xs) free (λ e. a (sym e ∙ has_key k xs h)) (λ e. b (sym e)) (let m = d.rows in let q = has_row k xs h in omega arith)
 
 module _ {bs : List ℕ} {s : Session} (d : Sound bs s) (k : ℕ) where
   pub closes : k < free → has k (closed s k).tags ≡ false
@@ -101,9 +101,9 @@ module _ {bs : List ℕ} {s : Session} (d : Sound bs s) (k : ℕ) where
       go true h = gone d.tags k l h
       go false h = h
 
-  pub closes-no-other : (j : ℕ) → (j ≡ k → ⊥) → (j ≡ free → ⊥) → row_of j (closed s k).tags ≡ row_of j s.tags
+  pub closes_no_other : (j : ℕ) → (j ≡ k → ⊥) → (j ≡ free → ⊥) → row_of j (closed s k).tags ≡ row_of j s.tags
   unfolding closed
-  closes-no-other j a b = go (has k s.tags) refl
+  closes_no_other j a b = go (has k s.tags) refl
     where
       go : (b' : Bool) → has k s.tags ≡ b' → row_of j (cond {A = Session} b' (record { tags = set s.tags (row_of k s.tags) free; requests = s.requests; fids = s.fids; at = s.at; places = s.places }) s).tags ≡ row_of j s.tags
       go true h = stay d.tags k j h a b
@@ -117,9 +117,9 @@ module _ {bs : List ℕ} {s : Session} (d : Sound bs s) (k : ℕ) where
       go true h = gone d.fids k l h
       go false h = h
 
-  pub drops-no-other : (j : ℕ) → (j ≡ k → ⊥) → (j ≡ free → ⊥) → place_of (dropped s k) j ≡ place_of s j
+  pub drops_no_other : (j : ℕ) → (j ≡ k → ⊥) → (j ≡ free → ⊥) → place_of (dropped s k) j ≡ place_of s j
   unfolding dropped place_of
-  drops-no-other j a b = go (has k s.fids) refl
+  drops_no_other j a b = go (has k s.fids) refl
     where
       go : (b' : Bool) → has k s.fids ≡ b' → place_of (cond b' (record { tags = s.tags; requests = s.requests; fids = set s.fids (row_of k s.fids) free; at = s.at; places = s.places }) s) j ≡ place_of s j
       go true h = rw (stay d.fids k j h a b)
@@ -167,18 +167,18 @@ module _ {bs : List ℕ} {s : Session} (d : Sound bs s) {r : Reached} (g : Grown
 
 -- a known fid keeps its row; a new one takes a free row, and 24 is answered exactly where there is none
 module _ {bs : List ℕ} {s : Session} (d : Sound bs s) {r : Reached} (g : Grown s.places r) (fid : ℕ) (l : fid < free) {i : ℕ} (e : r.at ≡ S.At i) where
-  pub gives-known : has fid s.fids ≡ true → (given s fid r ≡ accepts (held s (row_of fid s.fids) fid i r.places)) × Gives bs s fid i (given s fid r).session
+  pub gives_known : has fid s.fids ≡ true → (given s fid r ≡ accepts (held s (row_of fid s.fids) fid i r.places)) × Gives bs s fid i (given s fid r).session
   unfolding given
-  gives-known h = (rw (e, h), rw (e, h) (held_gives d g fid i (row_of fid s.fids) (has-row fid s.fids h) (λ j a b f. b (d.fids.one j (row_of fid s.fids) a (has-row fid s.fids h) (f ∙ sym (has_key fid s.fids h)) (λ z. not_free l (sym f ∙ z)))) (inl (has_key fid s.fids h))))
+  gives_known h = (rw (e, h), rw (e, h) (held_gives d g fid i (row_of fid s.fids) (has_row fid s.fids h) (λ j a b f. b (d.fids.one j (row_of fid s.fids) a (has_row fid s.fids h) (f ∙ sym (has_key fid s.fids h)) (λ z. not_free l (sym f ∙ z)))) (inl (has_key fid s.fids h))))
 
   module _ (n : has fid s.fids ≡ false) where
-    pub gives-new : has free s.fids ≡ true → (given s fid r ≡ accepts (held s (row_of free s.fids) fid i r.places)) × Gives bs s fid i (given s fid r).session
+    pub gives_new : has free s.fids ≡ true → (given s fid r ≡ accepts (held s (row_of free s.fids) fid i r.places)) × Gives bs s fid i (given s fid r).session
     unfolding given
-    gives-new h = (rw (e, n, h), rw (e, n, h) (held_gives d g fid i (row_of free s.fids) (has-row free s.fids h) (λ j a b f. has-not fid s.fids n j a f) (inr (has_key free s.fids h))))
+    gives_new h = (rw (e, n, h), rw (e, n, h) (held_gives d g fid i (row_of free s.fids) (has_row free s.fids h) (λ j a b f. has_not fid s.fids n j a f) (inr (has_key free s.fids h))))
 
-    pub gives-no-row : has free s.fids ≡ false → given s fid r ≡ refuses s R.TableFull
+    pub gives_no_row : has free s.fids ≡ false → given s fid r ≡ refuses s R.TableFull
     unfolding given
-    gives-no-row h = rw (e, n, h)
+    gives_no_row h = rw (e, n, h)
 
 -- ---- an Rversion empties all
 

@@ -62,12 +62,12 @@ pub record TrailerMade (bs o o' : List ℕ) (r : Outcome) : Type 0 where
 -- ---- the ways through a step
 
 module _ (ty tag next tail fid : ℕ) {a : Reply} where
-  pub told-accepted : a ≡ Accepted → told_of ty tag next tail fid Accepted ≡ told_of ty tag next tail fid a
-  told-accepted e = rw e
+  pub told_accepted : a ≡ Accepted → told_of ty tag next tail fid Accepted ≡ told_of ty tag next tail fid a
+  told_accepted e = rw e
 
-  pub told-refused : {k : Refusal} {n : ℕ} → a ≡ Refused k → n ≡ number_of k
+  pub told_refused : {k : Refusal} {n : ℕ} → a ≡ Refused k → n ≡ number_of k
       → ◌≡◌ {A = Told} (record { refusal = n; ty = ty; tag = tag; held = true; place = next; tail = 0; fid = none }) (told_of ty tag next tail fid a)
-  told-refused e f = rw (e, f)
+  told_refused e f = rw (e, f)
 
 pub followed_by_lem : (bs : List ℕ) (s : Session) (ty tag tail next : ℕ) (a : Answer) {e : Event} {fid : ℕ} {d : Stepped} {t : Told} → e ≡ event_of ty tag a → fid ≡ fid_of s e → d ≡ stepped bs s e
     → t ≡ told_of ty tag next tail fid d.answer → ◌≡◌ {A = Followed} (record { session = d.session; told = t }) (followed_by bs s ty tag a tail next)
@@ -75,18 +75,18 @@ unfolding followed_by
 followed_by_lem bs s ty tag tail next a e f g h = rw (h, f, g, e)
 
 module _ (bs : List ℕ) (s : Session) (p : ℕ) {r : Answered} (a : Asked bs p r) where
-  pub followed-frame : {l : Listed} {f : Followed} → r ≡ S.Frame l → f ≡ followed_by bs s l.ty l.tag.0 (view_body l.body) l.tail l.next → f ≡ followed_at bs s (frame_at table_t table_r bs p)
+  pub followed_frame : {l : Listed} {f : Followed} → r ≡ S.Frame l → f ≡ followed_by bs s l.ty l.tag.0 (view_body l.body) l.tail l.next → f ≡ followed_at bs s (frame_at table_t table_r bs p)
   unfolding view_step followed_at
-  followed-frame e f = f ∙ ap (followed_at bs s) (sym (ap view_step e) ∙ a.is)
+  followed_frame e f = f ∙ ap (followed_at bs s) (sym (ap view_step e) ∙ a.is)
 
-  pub followed-end : {q : ℕ} {t : Told} → r ≡ S.End q → t ≡ passed 0 q → ◌≡◌ {A = Followed} (record { session = s; told = t }) (followed_at bs s (frame_at table_t table_r bs p))
+  pub followed_end : {q : ℕ} {t : Told} → r ≡ S.End q → t ≡ passed 0 q → ◌≡◌ {A = Followed} (record { session = s; told = t }) (followed_at bs s (frame_at table_t table_r bs p))
   unfolding view_step followed_at
-  followed-end e f = ap (λ (x : Told). record { session = s; told = x }) f ∙ ap (followed_at bs s) (sym (ap view_step e) ∙ a.is)
+  followed_end e f = ap (λ (x : Told). record { session = s; told = x }) f ∙ ap (followed_at bs s) (sym (ap view_step e) ∙ a.is)
 
-  pub followed-stop : {k : Refusal} {q n : ℕ} {t : Told} → r ≡ S.Refused k q → n ≡ number_of k → t ≡ passed n q
+  pub followed_stop : {k : Refusal} {q n : ℕ} {t : Told} → r ≡ S.Refused k q → n ≡ number_of k → t ≡ passed n q
       → ◌≡◌ {A = Followed} (record { session = s; told = t }) (followed_at bs s (frame_at table_t table_r bs p))
   unfolding view_step followed_at
-  followed-stop {q = q} e g f = ap (λ (x : Told). record { session = s; told = x }) (f ∙ ap (λ m. passed m q) g) ∙ ap (followed_at bs s) (sym (ap view_step e) ∙ a.is)
+  followed_stop {q = q} e g f = ap (λ (x : Told). record { session = s; told = x }) (f ∙ ap (λ m. passed m q) g) ∙ ap (followed_at bs s) (sym (ap view_step e) ∙ a.is)
 
 -- ---- any two answers that a promise allows are equal
 

@@ -125,36 +125,36 @@ pub pass_refused : {fs : List Shape} {s : List ℕ} {p : Place} {k : Refusal} {a
 pass_refused e = record { is = rw e }
 
 module _ {n a : ℕ} {s : List ℕ} {p : Place} (e : p ≡ At a) {t : Bool} (i : Within a n (length s) t) where
-  pub skip-held : t ≡ true → Followed (fixed n ∷ []) s p (At (a + n))
+  pub skip_held : t ≡ true → Followed (fixed n ∷ []) s p (At (a + n))
   unfolding follow
-  skip-held h = let l = inside i h in let d = length-drop (a + n) s in record { is = rw (e, held_num n a s l) (ap At (omega arith)) }
+  skip_held h = let l = inside i h in let d = length-drop (a + n) s in record { is = rw (e, held_num n a s l) (ap At (omega arith)) }
 
-  pub skip-short : 0 < n → t ≡ false → Followed (fixed n ∷ []) s p (Refused R.Short 0)
+  pub skip_short : 0 < n → t ≡ false → Followed (fixed n ∷ []) s p (Refused R.Short 0)
   unfolding follow
-  skip-short o h = record { is = rw (e, short_num n a s o (outside i h)) }
+  skip_short o h = record { is = rw (e, short_num n a s o (outside i h)) }
 
 module _ {s : List ℕ} {p q : Place} {x : ℕ} (r : NumRead 2 s p x q) where
-  pub pass-cut : {k : Refusal} {at : ℕ} → q ≡ Refused k at → Followed (worded ∷ []) s p q
+  pub pass_cut : {k : Refusal} {at : ℕ} → q ≡ Refused k at → Followed (worded ∷ []) s p q
   unfolding follow
-  pass-cut {k} {at} f = record { is = f ∙ go p (num_refused r f).reads }
+  pass_cut {k} {at} f = record { is = f ∙ go p (num_refused r f).reads }
     where
       go : (z : Place) → read_at (read_num 2) s z ≡ bad k at → Refused k at ≡ rest_at (length s) (read_at (follow (worded ∷ [])) s z)
       go (At a) g = rw g
       go (Refused j b) g = let h : j ≡ k = cc g in let i : b ≡ at = cc g in ap₂ Refused (sym h) (sym i)
 
   module _ {b : ℕ} (f : q ≡ At b) {u : Bool} (j : Within b x (length s) u) where
-    pub pass-end : u ≡ true → Followed (worded ∷ []) s p (At (b + x))
+    pub pass_end : u ≡ true → Followed (worded ∷ []) s p (At (b + x))
     unfolding follow raw
-    pass-end g =
+    pass_end g =
         let H = num_holds (omega arith) r f in
         let l = inside j g in
         let d = length-drop b s in
         let c = length-drop (b + x) s in
         record { is = rw (H.place, H.reads, le-leb x (length (drop b s)) (omega arith), drop-drop x b s) (ap At (omega arith)) }
 
-    pub pass-out : u ≡ false → Followed (worded ∷ []) s p (Refused R.Short 0)
+    pub pass_out : u ≡ false → Followed (worded ∷ []) s p (Refused R.Short 0)
     unfolding follow
-    pass-out g =
+    pass_out g =
         let H = num_holds (omega arith) r f in
         let l = outside j g in
         let y = H.fits in

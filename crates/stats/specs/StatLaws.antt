@@ -34,10 +34,10 @@ use Rattle.stats.specs.Following.{length_follow, then_follow, merged}
 -- the size that stands there: where the fields begin after it, and what it says
 record Size (s : List ℕ) (start x first : ℕ) : Type 0 where
   pub two : start + 2 ≤ length s
-  pub first-is : first ≡ start + 2
+  pub first_is : first ≡ start + 2
   pub value : x ≡ from_le (take 2 (drop start s))
   pub inner : drop 2 (drop start s) ≡ drop first s
-  pub length-is : length (drop start s) - 2 ≡ length s - first
+  pub length_is : length (drop start s) - 2 ≡ length s - first
 
 size : {s : List ℕ} {start x first : ℕ} {p : Place} → NumRead 2 s (At start) x p → p ≡ At first → Size s start x first
 size {s} {start} {x} {first} r e =
@@ -49,28 +49,28 @@ size {s} {start} {x} {first} r e =
     let h : start + 2 ≤ length s = omega arith in
     let i : first ≡ start + 2 = omega arith in
     let v = sym (rw (← k) at H.reads) ∙ held_num 2 start s h in
-    record { two = h; first-is = i; value = cc v; inner = drop-drop 2 start s ∙ ap (λ n. drop n s) (sym i); length-is = omega arith }
+    record { two = h; first_is = i; value = cc v; inner = drop-drop 2 start s ∙ ap (λ n. drop n s) (sym i); length_is = omega arith }
 
 pub first_within : {s : List ℕ} {start x first : ℕ} {p : Place} → NumRead 2 s (At start) x p → p ≡ At first → first ≤ length s
-first_within r e = let S = size r e in let a = S.two in let b = S.first-is in omega arith
+first_within r e = let S = size r e in let a = S.two in let b = S.first_is in omega arith
 
 module _ (fs : List Shape) {s : List ℕ} {start x : ℕ} {p : Place} (l : start ≤ length s) (r : NumRead 2 s (At start) x p) where
-  pub agree-short : {k : Refusal} {at : ℕ} → p ≡ Refused k at → false ≡ agrees fs (drop start s)
+  pub agree_short : {k : Refusal} {at : ℕ} → p ≡ Refused k at → false ≡ agrees fs (drop start s)
   unfolding agrees
-  agree-short e =
+  agree_short e =
       let d = length-drop start s in
       or_else (start + 2) (length s)
       (λ h. absurd (let f = sym (num_refused r e).reads ∙ held_num 2 start s h in let z : ◌≡◌ {A = ℕ} 0 1 = cc f in omega arith))
       (λ h. rw (lt-leb 2 (length (drop start s)) (omega arith)))
 
   module _ {first : ℕ} (e : p ≡ At first) where
-    pub agree-size : (x ≡ length s - first → ⊥) → false ≡ agrees fs (drop start s)
+    pub agree_size : (x ≡ length s - first → ⊥) → false ≡ agrees fs (drop start s)
     unfolding agrees
-    agree-size n =
+    agree_size n =
         let S = size r e in
         let d = length-drop start s in
         let a = S.two in
-        rw (le-leb 2 (length (drop start s)) (omega arith), ← S.value, S.length-is, ne_eqb x (length s - first) n)
+        rw (le-leb 2 (length (drop start s)) (omega arith), ← S.value, S.length_is, ne_eqb x (length s - first) n)
 
     module _ (n : x ≡ length s - first) {q : Place} (f : Followed fs s (At first) q) where
       told : agrees fs (drop start s) ≡ at_end (follow fs (drop first s))
@@ -79,17 +79,17 @@ module _ (fs : List Shape) {s : List ℕ} {start x : ℕ} {p : Place} (l : start
           let S = size r e in
           let d = length-drop start s in
           let a = S.two in
-          rw (le-leb 2 (length (drop start s)) (omega arith), ← S.value, S.length-is, eq-eqb x (length s - first) n, S.inner)
+          rw (le-leb 2 (length (drop start s)) (omega arith), ← S.value, S.length_is, eq-eqb x (length s - first) n, S.inner)
 
-      pub agree-refused : {k : Refusal} {at : ℕ} → q ≡ Refused k at → false ≡ agrees fs (drop start s)
-      agree-refused {k} {at} h = sym (told ∙ go (follow fs (drop first s)) (sym f.is ∙ h))
+      pub agree_refused : {k : Refusal} {at : ℕ} → q ≡ Refused k at → false ≡ agrees fs (drop start s)
+      agree_refused {k} {at} h = sym (told ∙ go (follow fs (drop first s)) (sym f.is ∙ h))
         where
           go : (m : Result ℕ) → rest_at (length s) m ≡ Refused k at → at_end m ≡ false
           go (ok a t) g = absurd (let z : ◌≡◌ {A = ℕ} 0 1 = cc g in omega arith)
           go (bad j b) g = refl
 
-      pub agree-end : {end : ℕ} {t : Bool} → q ≡ At end → t ≡ eqb end (length s) → t ≡ agrees fs (drop start s)
-      agree-end {end} {t} h u = u ∙ sym (told ∙ go (follow fs (drop first s)) refl (sym f.is ∙ h))
+      pub agree_end : {end : ℕ} {t : Bool} → q ≡ At end → t ≡ eqb end (length s) → t ≡ agrees fs (drop start s)
+      agree_end {end} {t} h u = u ∙ sym (told ∙ go (follow fs (drop first s)) refl (sym f.is ∙ h))
         where
           go : (m : Result ℕ) → follow fs (drop first s) ≡ m → rest_at (length s) m ≡ At end → at_end m ≡ eqb end (length s)
           go (ok a []) i g = let w : length s - 0 ≡ end = cc g in sym (eq-eqb end (length s) (omega arith))
@@ -130,8 +130,8 @@ module _ (fs : List Shape) {s : List ℕ} {p : Place} {n start : ℕ} (H : Held 
   past_is = rw (H.place, H.reads)
 
   -- its bytes are cut off
-  pub open-short : {t : Bool} → Within start n (length s) t → t ≡ false → Opened fs s p (Refused R.Short 0) (length s)
-  open-short i h =
+  pub open_short : {t : Bool} → Within start n (length s) t → t ≡ false → Opened fs s p (Refused R.Short 0) (length s)
+  open_short i h =
       let a = H.fits in
       let b = H.ends in
       let c = outside i h in
@@ -154,15 +154,15 @@ module _ (fs : List Shape) {s : List ℕ} {p : Place} {n start : ℕ} (H : Held 
     agreeing = g ∙ ap (agrees fs) bytes_are
 
     -- its counts do not agree
-    pub open-wrong : b ≡ false → Opened fs s p (Refused R.StatMalformed 0) (length s)
-    open-wrong w = record {
+    pub open_wrong : b ≡ false → Opened fs s p (Refused R.StatMalformed 0) (length s)
+    open_wrong w = record {
       lies = omega arith;
       refuses = λ k at f. past_is ∙ rw (held, sym agreeing ∙ w) f;
       opens = λ m f. absurd (let z : ◌≡◌ {A = ℕ} 0 1 = cc f in omega arith);
     }
 
-    pub open-well : b ≡ true → Opened fs s p (At (start + 2)) (start + n)
-    open-well w =
+    pub open_well : b ≡ true → Opened fs s p (At (start + 2)) (start + n)
+    open_well w =
         let two = (agreed fs (take n (drop start s)) (sym agreeing ∙ w)).two in
         let len = length-take-le n (drop start s) (let d = length-drop start s in omega arith) in
         let x = H.fits in

@@ -14,8 +14,8 @@ use Rattle.frames.specs.contracts.Rframe.{the_type as type_r, the_row as rowR}
 use Rattle.frames.proofs.Rframe.TheLaws.{the_laws as lawsR, lowered as loweredR, lowers as lowersR}
 
 module _ {M : Type 1} {𝓤 : Ura M} (𝓛 : Logic 𝓤) where
-  pub request-held : (f : Tframe) (vs : List Val) → Is rowT f vs → WT (loweredT f)
-  request-held = typed_low 𝓛 rowT lowersT (lawful type_t lawsT 𝓛)
+  pub request_held : (f : Tframe) (vs : List Val) → Is rowT f vs → WT (loweredT f)
+  request_held = typed_low 𝓛 rowT lowersT (lawful type_t lawsT 𝓛)
 
-  pub reply-held : (f : Rframe) (vs : List Val) → Is rowR f vs → WT (loweredR f)
-  reply-held = typed_low 𝓛 rowR lowersR (lawful type_r lawsR 𝓛)
+  pub reply_held : (f : Rframe) (vs : List Val) → Is rowR f vs → WT (loweredR f)
+  reply_held = typed_low 𝓛 rowR lowersR (lawful type_r lawsR 𝓛)

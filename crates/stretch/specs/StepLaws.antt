@@ -48,21 +48,21 @@ unfolding view_body
 reply_body {ty = ty} b e h = record { is = rw (ne_eqb (ty % 2) 0 e) h; way = e }
 
 module _ {size : ℕ} {c : Body} where
-  pub leaves-request : {b : Tbody} {m : Tmessage} {n : ℕ} → c ≡ B.Request b → b ≡ T.Message m n → Leaves size (view_body c) n
+  pub leaves_request : {b : Tbody} {m : Tmessage} {n : ℕ} → c ≡ B.Request b → b ≡ T.Message m n → Leaves size (view_body c) n
   unfolding view_body view_t
-  leaves-request e f = record { is = rw (e, f) }
+  leaves_request e f = record { is = rw (e, f) }
 
-  pub leaves-no-request : {b : Tbody} {k : Refusal} {at : ℕ} → c ≡ B.Request b → b ≡ T.Refused k at → Leaves size (view_body c) size
+  pub leaves_no_request : {b : Tbody} {k : Refusal} {at : ℕ} → c ≡ B.Request b → b ≡ T.Refused k at → Leaves size (view_body c) size
   unfolding view_body view_t
-  leaves-no-request e f = record { is = rw (e, f) (omega arith) }
+  leaves_no_request e f = record { is = rw (e, f) (omega arith) }
 
-  pub leaves-reply : {b : Rbody} {m : Rmessage} {n : ℕ} → c ≡ B.Reply b → b ≡ Q.Message m n → Leaves size (view_body c) n
+  pub leaves_reply : {b : Rbody} {m : Rmessage} {n : ℕ} → c ≡ B.Reply b → b ≡ Q.Message m n → Leaves size (view_body c) n
   unfolding view_body view_r
-  leaves-reply e f = record { is = rw (e, f) }
+  leaves_reply e f = record { is = rw (e, f) }
 
-  pub leaves-no-reply : {b : Rbody} {k : Refusal} {at : ℕ} → c ≡ B.Reply b → b ≡ Q.Refused k at → Leaves size (view_body c) size
+  pub leaves_no_reply : {b : Rbody} {k : Refusal} {at : ℕ} → c ≡ B.Reply b → b ≡ Q.Refused k at → Leaves size (view_body c) size
   unfolding view_body view_r
-  leaves-no-reply e f = record { is = rw (e, f) (omega arith) }
+  leaves_no_reply e f = record { is = rw (e, f) (omega arith) }
 
 -- ---- what is answered where there is no frame
 

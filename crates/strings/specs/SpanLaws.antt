@@ -134,8 +134,8 @@ module _ {s : List ℕ} {x y n : ℕ} {q : Place} (c : TextCheck s x y (At n) q)
   abbrev text : List ℕ
   text = take y (drop x s)
 
-  pub text-refused : {k : Refusal} {at : ℕ} (r : List ℕ) → q ≡ Refused k at → ok_text x text r ≡ bad k at
-  text-refused {k} {at} r e = go (utf8 text) (no_zero text) (x + zero_at text) (x + sound_start text) (sym c.is ∙ e)
+  pub text_refused : {k : Refusal} {at : ℕ} (r : List ℕ) → q ≡ Refused k at → ok_text x text r ≡ bad k at
+  text_refused {k} {at} r e = go (utf8 text) (no_zero text) (x + zero_at text) (x + sound_start text) (sym c.is ∙ e)
     where
       go : (u z : Bool) (i j : ℕ) → check_at (cond u (cond z (ok text []) (bad R.ZeroByte i)) (bad R.NotUtf8 j)) (At n) ≡ Refused k at
           → cond u (cond z (ok text r) (bad R.ZeroByte i)) (bad R.NotUtf8 j) ≡ bad k at
@@ -143,13 +143,13 @@ module _ {s : List ℕ} {x y n : ℕ} {q : Place} (c : TextCheck s x y (At n) q)
       go true false i j f = let g : R.ZeroByte ≡ k = cc f in let h : i ≡ at = cc f in ap₂ bad g h
       go false z i j f = let g : R.NotUtf8 ≡ k = cc f in let h : j ≡ at = cc f in ap₂ bad g h
 
-  pub text-good : {a : ℕ} → q ≡ At a → (utf8 text ≡ true) × (no_zero text ≡ true)
-  text-good {a} e = go (utf8 text) (no_zero text) (x + zero_at text) (x + sound_start text) (sym c.is ∙ e)
+  pub text_good : {a : ℕ} → q ≡ At a → (utf8 text ≡ true) × (no_zero text ≡ true)
+  text_good {a} e = go (utf8 text) (no_zero text) (x + zero_at text) (x + sound_start text) (sym c.is ∙ e)
     where
       go : (u z : Bool) (i j : ℕ) → check_at (cond u (cond z (ok text []) (bad R.ZeroByte i)) (bad R.NotUtf8 j)) (At n) ≡ At a → (u ≡ true) × (z ≡ true)
       go true true i j f = (refl, refl)
       go true false i j f = absurd (let z : ◌≡◌ {A = ℕ} 0 1 = cc f in omega arith)
       go false z i j f = absurd (let z : ◌≡◌ {A = ℕ} 0 1 = cc f in omega arith)
 
-  pub text-passed : {a : ℕ} (r : List ℕ) → q ≡ At a → (ok_text x text r ≡ ok text r) × (q ≡ At n)
-  text-passed r e = let g = text-good e in (rw (g.0, g.1), c.is ∙ rw (g.0, g.1))
+  pub text_passed : {a : ℕ} (r : List ℕ) → q ≡ At a → (ok_text x text r ≡ ok text r) × (q ≡ At n)
+  text_passed r e = let g = text_good e in (rw (g.0, g.1), c.is ∙ rw (g.0, g.1))

@@ -3,7 +3,7 @@ use Rattle.std.specs.Prelude.{ℕ, ◌+◌, ◌<◌, ◌≡◌, refl, List, leng
 use Rattle.std.proofs.Common.{arith}
 use Rattle.numbers.specs.Numbers.{Bytes}
 use Rattle.numbers.specs.Reading.{ok, after, raw, read_num}
-use Rattle.numbers.specs.ReadingLaws.{Reads, reads_raw, reads_then, reads-after, reads_num, Took, took_then, took_raw, took_num, after_inv, cond_inv}
+use Rattle.numbers.specs.ReadingLaws.{Reads, reads_raw, reads_then, reads_after, reads_num, Took, took_then, took_raw, took_num, after_inv, cond_inv}
 use Rattle.numbers.specs.PlaceLaws.{one_answer}
 use Rattle.numbers.specs.declared.Refusal.TheVariants as R
 use Rattle.numbers.specs.declared.Place.{Place}
@@ -15,7 +15,7 @@ use Rattle.strings.specs.Spans.{TextCheck, Shown, SpanCheck, StrCheck, StrRead}
 pub reads_string : (a : ℕ) (bs : List ℕ) → GoodText bs → Reads (read_string a) (string_bytes bs) bs
 unfolding read_string string_bytes
 reads_string a bs g =
-    reads-after _ (reads_num 2 (length bs) g.short) (reads_then (ok_text (a + 2)) (λ r. rw (g.form, g.full)) (reads_raw (length bs) bs refl))
+    reads_after _ (reads_num 2 (length bs) g.short) (reads_then (ok_text (a + 2)) (λ r. rw (g.form, g.full)) (reads_raw (length bs) bs refl))
 
 -- put after read
 pub took_string : (a : ℕ) (xs : List ℕ) {bs r : List ℕ} → Bytes xs → read_string a xs ≡ ok bs r → Took xs (string_bytes bs) r (GoodText bs)
@@ -42,14 +42,14 @@ pub text_one : {s : List ℕ} {x y : ℕ} {p q q' : Place} → TextCheck s x y p
 text_one a b = one_answer a.is b.is
 
 module _ {lent : List ℕ} {x y : ℕ} where
-  pub shown-one : {bs bs' : List ℕ} → Shown lent x y bs → Shown lent x y bs' → bs ≡ bs'
-  shown-one a b = one_answer a.is b.is
+  pub shown_one : {bs bs' : List ℕ} → Shown lent x y bs → Shown lent x y bs' → bs ≡ bs'
+  shown_one a b = one_answer a.is b.is
 
-  pub span-one : {p q q' : Place} → SpanCheck lent x y p q → SpanCheck lent x y p q' → q ≡ q'
-  span-one a b = one_answer a.is b.is
+  pub span_one : {p q q' : Place} → SpanCheck lent x y p q → SpanCheck lent x y p q' → q ≡ q'
+  span_one a b = one_answer a.is b.is
 
-  pub check-one : {p q q' : Place} → StrCheck lent x y p q → StrCheck lent x y p q' → q ≡ q'
-  check-one a b = one_answer a.is b.is
+  pub check_one : {p q q' : Place} → StrCheck lent x y p q → StrCheck lent x y p q' → q ≡ q'
+  check_one a b = one_answer a.is b.is
 
 pub str_one : {s : List ℕ} {p q q' : Place} {x x' y y' : ℕ} → StrRead s p x y q → StrRead s p x' y' q' → (x ≡ x') × (y ≡ y') × (q ≡ q')
 str_one a b = (one_answer a.start b.start, one_answer a.len b.len, one_answer a.next b.next)

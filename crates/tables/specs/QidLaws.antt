@@ -112,8 +112,8 @@ module _ (room n : ℕ) {p : Place} {a : ℕ} (c : CountCheck n (At 9) p) (e : p
   pub past_head : (n ≤ 16) × (9 ≡ a)
   past_head = let h = count_passed c e in (h.0, cc h.1)
 
-  pub past-full : room < a + 13 * n → Refused R.NoRoom 0 ≡ rwalk_past room n
-  past-full l = let h = past_head in rw (le-leb n 16 h.0, lt-ltb room (9 + 13 * n) (rw (← h.1) at l))
+  pub past_full : room < a + 13 * n → Refused R.NoRoom 0 ≡ rwalk_past room n
+  past_full l = let h = past_head in rw (le-leb n 16 h.0, lt-ltb room (9 + 13 * n) (rw (← h.1) at l))
 
   pub past_room : a + 13 * n ≤ room → At (a + 13 * n) ≡ rwalk_past room n
   past_room l = let h = past_head in rw (← h.1) (rw (le-leb n 16 h.0, le-ltb room (9 + 13 * n) (rw (← h.1) at l)))
@@ -172,9 +172,9 @@ module _ (tag : ℕ) (t : List Qid) (o : List ℕ) {r : Place} (e : r ≡ rwalk_
   below : n ≤ 16 → ltb (7 + length (items_bytes items)) limit ≡ true
   below h = lt-ltb (7 + length (items_bytes items)) limit (let a = body_length in omega arith)
 
-  pub rwalk-written : RwalkWritten tag t o (placed (headed o tag n) 9 t (to_follow (length o) n)) r
+  pub rwalk_written : RwalkWritten tag t o (placed (headed o tag n) 9 t (to_follow (length o) n)) r
   unfolding frame_out frame_past
-  rwalk-written =
+  rwalk_written =
       or_else n 16
       (λ h.
       let f = le-leb n 16 h in

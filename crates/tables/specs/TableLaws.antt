@@ -20,7 +20,7 @@ use Rattle.laying.specs.Laying.{FieldMeasured, Measured, PutAll, Advanced, Begun
 use Rattle.laying.specs.LayingLaws.{measured_none, measure, measure_numbers, put_done, put_number, put_counted}
 use Rattle.laying.specs.WritingLaws.{written}
 use Rattle.framing.specs.Writing.{frame_out, frame_past, FrameWritten, HeadPut}
-use Rattle.framing.specs.WritingLaws.{frame-written}
+use Rattle.framing.specs.WritingLaws.{frame_written}
 use Rattle.tables.specs.Tables.{TableWritten, name_fields, name_values, walk_fields, walk_values, TwalkWritten}
 
 -- ---- the names, one after another
@@ -33,27 +33,27 @@ pub record PutTo (t : List (List ℕ)) (lent : List ℕ) (o : List ℕ) (p : Pla
   pub on : (o2 : List ℕ) (e : Place) → PutAll (name_fields (drop i t)) lent (name_values (drop i t)) o1 q o2 e → PutAll (name_fields t) lent (name_values t) o p o2 e
 
 module _ {t : List (List ℕ)} {lent : List ℕ} {p : Place} where
-  pub measured-to-none : MeasuredTo t lent p 0 p
-  measured-to-none = record { on = λ e l. l }
+  pub measured_to_none : MeasuredTo t lent p 0 p
+  measured_to_none = record { on = λ e l. l }
 
-  pub measured-to-next : {i : ℕ} {q r : Place} → i < length t → MeasuredTo t lent p i q
+  pub measured_to_next : {i : ℕ} {q r : Place} → i < length t → MeasuredTo t lent p i q
       → FieldMeasured str lent (span (get_or (get_or t i []) 0 0) (get_or (get_or t i []) 1 0)) q r → MeasuredTo t lent p (i + 1) r
-  measured-to-next {i} h u f = let n : i + 1 ≡ suc i = omega arith in record { on = λ e l. u.on e (rw (drop-cons t i [] h) (measure f (rw n at l))) }
+  measured_to_next {i} h u f = let n : i + 1 ≡ suc i = omega arith in record { on = λ e l. u.on e (rw (drop-cons t i [] h) (measure f (rw n at l))) }
 
-  pub measured-to-all : {i : ℕ} {q : Place} → i ≡ length t → MeasuredTo t lent p i q → Measured (name_fields t) lent (name_values t) p q
-  measured-to-all {i} {q} e u = u.on q (rw (e, drop-length t) measured_none)
+  pub measured_to_all : {i : ℕ} {q : Place} → i ≡ length t → MeasuredTo t lent p i q → Measured (name_fields t) lent (name_values t) p q
+  measured_to_all {i} {q} e u = u.on q (rw (e, drop-length t) measured_none)
 
 module _ {t : List (List ℕ)} {lent : List ℕ} {o : List ℕ} {p : Place} where
-  pub put-to-none : PutTo t lent o p 0 o p
-  put-to-none = record { on = λ o2 e l. l }
+  pub put_to_none : PutTo t lent o p 0 o p
+  put_to_none = record { on = λ o2 e l. l }
 
-  pub put-to-next : {i : ℕ} {o1 o2 o3 : List ℕ} {q r s : Place} → i < length t → PutTo t lent o p i o1 q → Put (to_le 2 (get_or (get_or t i []) 1 0)) o1 q o2 r
+  pub put_to_next : {i : ℕ} {o1 o2 o3 : List ℕ} {q r s : Place} → i < length t → PutTo t lent o p i o1 q → Put (to_le 2 (get_or (get_or t i []) 1 0)) o1 q o2 r
       → SpanPut lent (get_or (get_or t i []) 0 0) (get_or (get_or t i []) 1 0) o2 r o3 s → PutTo t lent o p (i + 1) o3 s
-  put-to-next {i} h u f g =
+  put_to_next {i} h u f g =
       let n : i + 1 ≡ suc i = omega arith in record { on = λ o4 e l. u.on o4 e (rw (drop-cons t i [] h) (put_counted str tt f g (rw n at l))) }
 
-  pub put-to-all : {i : ℕ} {o1 : List ℕ} {q : Place} → i ≡ length t → PutTo t lent o p i o1 q → PutAll (name_fields t) lent (name_values t) o p o1 q
-  put-to-all {i} {o1} {q} e u = u.on o1 q (rw (e, drop-length t) put_done)
+  pub put_to_all : {i : ℕ} {o1 : List ℕ} {q : Place} → i ≡ length t → PutTo t lent o p i o1 q → PutAll (name_fields t) lent (name_values t) o p o1 q
+  put_to_all {i} {o1} {q} e u = u.on o1 q (rw (e, drop-length t) put_done)
 
 pub walk_measured : (t : List (List ℕ)) {lent : List ℕ} {p a e : Place} {fid newfid n : ℕ} → Advanced 10 p a → Measured (name_fields t) lent (name_values t) a e
     → Measured (walk_fields t) lent (walk_values fid newfid n t) p e
@@ -66,9 +66,9 @@ walk_put t f g h l = put_number f (put_number g (put_number h l))
 -- ---- the frame
 
 module _ {tag fid newfid : ℕ} {lent : List ℕ} {t : List (List ℕ)} {o : List ℕ} where
-  pub twalk-long : {p : Place} {k : Refusal} {at : ℕ} → CountCheck (length t) (At 7) p → p ≡ Refused k at → TwalkWritten tag fid newfid lent t o o p
+  pub twalk_long : {p : Place} {k : Refusal} {at : ℕ} → CountCheck (length t) (At 7) p → p ≡ Refused k at → TwalkWritten tag fid newfid lent t o o p
   unfolding frame_out frame_past
-  twalk-long c e =
+  twalk_long c e =
       let f = lt-leb (length t) 16 (count_refused c e) in
       let g = rw f at c.is in
       record { is = record { bytes = rw f; next = rw f g } }
@@ -77,14 +77,14 @@ module _ {tag fid newfid : ℕ} {lent : List ℕ} {t : List (List ℕ)} {o : Lis
       → TwalkWritten tag fid newfid lent t o o' q
   in_table h e w = let f = le-leb (length t) 16 h in record { is = record { bytes = rw (f, ← e) w.bytes; next = rw (f, ← e) w.next } }
 
-  pub twalk-put : {n : ℕ} {o2 o3 : List ℕ} {a : ℕ} {p d e q r z : Place} → Bytes lent → CountCheck (length t) (At 7) p → p ≡ At a → n ≡ length t
+  pub twalk_put : {n : ℕ} {o2 o3 : List ℕ} {a : ℕ} {p d e q r z : Place} → Bytes lent → CountCheck (length t) (At 7) p → p ≡ At a → n ≡ length t
       → Advanced 10 p d → Measured (name_fields t) lent (name_values t) d e → Begun p e (length o) q → PutAll (walk_fields t) lent (walk_values fid newfid n t) o q o2 r
       → HeadPut 110 tag r o2 o3 z → TwalkWritten tag fid newfid lent t o o3 z
-  twalk-put {n} {p = p} {e = e} b k f m v c s l d =
+  twalk_put {n} {p = p} {e = e} b k f m v c s l d =
       let i = count_passed k f in
       let g = f ∙ sym i.1 in
       let w : Measured (walk_fields t) lent (walk_values fid newfid n t) p e = walk_measured t v c in
-      in_table i.0 m (frame-written (written b (rw g at w) (rw g at s) l) d)
+      in_table i.0 m (frame_written (written b (rw g at w) (rw g at s) l) d)
 
 -- ---- one answer
 

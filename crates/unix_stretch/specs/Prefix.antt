@@ -114,9 +114,9 @@ pub record Shorter (rows : List Row) (f : Field) (s : List ℕ) (ty tag : ℕ) (
 
 -- a table by which the type has a layout, and another by which it has one more field
 module _ (short long : List Row) (s : List ℕ) (b : Bytes s) {ty : ℕ} (l : Layout) (f : Field) (knows : lookup short ty ≡ some l) (knows' : lookup long ty ≡ some (l ++ (f ∷ []))) where
-  pub read-longer : {p tag used : ℕ} {vs : List Value} → read_frame short s ≡ framed p tag (accepted ty vs used) → Longer long f s ty tag vs used
+  pub read_longer : {p tag used : ℕ} {vs : List Value} → read_frame short s ≡ framed p tag (accepted ty vs used) → Longer long f s ty tag vs used
   unfolding read_frame
-  read-longer {p} {tag} {used} {vs} e =
+  read_longer {p} {tag} {used} {vs} e =
       frame_inv short (read_header s) e
       (λ h d e1 e2 e3. body_inv h.ty 7 (lookup short h.ty) d e3
       (λ m is r e4 e5 e6 e7 e8.
@@ -132,9 +132,9 @@ module _ (short long : List Row) (s : List ℕ) (b : Bytes s) {ty : ℕ} (l : La
         answer = rw (e1, e6, knows', e2, e7, e8) (ap (framed 0 tag) (body_more l f ty 7 d (rw k at e5)));
       }))
 
-  pub read-shorter : {p tag used : ℕ} {ws : List Value} → read_frame long s ≡ framed p tag (accepted ty ws used) → Shorter short f s ty tag ws used
+  pub read_shorter : {p tag used : ℕ} {ws : List Value} → read_frame long s ≡ framed p tag (accepted ty ws used) → Shorter short f s ty tag ws used
   unfolding read_frame
-  read-shorter {p} {tag} {used} {ws} e =
+  read_shorter {p} {tag} {used} {ws} e =
       frame_inv long (read_header s) e
       (λ h d e1 e2 e3. body_inv h.ty 7 (lookup long h.ty) d e3
       (λ m is r e4 e5 e6 e7 e8.
@@ -177,14 +177,14 @@ module _ (short long : List Row) (s : List ℕ) (b : Bytes s) {ty : ℕ} (l : La
   -- with a tail of fewer than w bytes, or none, it is short
   pub number_short : {p tag used : ℕ} {vs : List Value} → read_frame short s ≡ framed p tag (accepted ty vs used) → length (take (size_in s) s) < used + w → read_frame long s ≡ framed 0 tag (refused R.Short 0)
   number_short {p} {tag} {used} {vs} e h =
-      let L = read-longer short long s b l (num w) knows knows' e in
+      let L = read_longer short long s b l (num w) knows knows' e in
       let i = L.held in
       L.answer ∙ ap (λ m. framed 0 tag (last_of ty vs used m)) (number_cut w used L.left (omega arith))
 
-  pub number-fewer : {p tag used : ℕ} {ws : List Value} → read_frame long s ≡ framed p tag (accepted ty ws used) → Fewer short w s ty tag ws used
+  pub number_fewer : {p tag used : ℕ} {ws : List Value} → read_frame long s ≡ framed p tag (accepted ty ws used) → Fewer short w s ty tag ws used
   unfolding read_field item_bytes
-  number-fewer {p} {tag} {used} {ws} e =
-      let S = read-shorter short long s b l (num w) knows knows' e in
+  number_fewer {p} {tag} {used} {ws} e =
+      let S = read_shorter short long s b l (num w) knows knows' e in
       after_inv (read_num w S.from) _ S.reads
       (λ x r e1 e2.
       let i : number w x ≡ S.last = cc e2 in
@@ -219,14 +219,14 @@ module _ (short long : List Row) (s : List ℕ) (b : Bytes s) {ty : ℕ} (l : La
   -- with a tail of one byte, or none, not even its count is there
   pub string_short : {p tag used : ℕ} {vs : List Value} → read_frame short s ≡ framed p tag (accepted ty vs used) → length (take (size_in s) s) < used + 2 → read_frame long s ≡ framed 0 tag (refused R.Short 0)
   string_short {p} {tag} {used} {vs} e h =
-      let L = read-longer short long s b l str knows knows' e in
+      let L = read_longer short long s b l str knows knows' e in
       let i = L.held in
       L.answer ∙ ap (λ m. framed 0 tag (last_of ty vs used m)) (string_cut used L.left (omega arith))
 
-  pub string-without : {p tag used : ℕ} {ws : List Value} → read_frame long s ≡ framed p tag (accepted ty ws used) → Without short s ty tag ws used
+  pub string_without : {p tag used : ℕ} {ws : List Value} → read_frame long s ≡ framed p tag (accepted ty ws used) → Without short s ty tag ws used
   unfolding read_field item_bytes string_bytes
-  string-without {p} {tag} {used} {ws} e =
-      let S = read-shorter short long s b l str knows knows' e in
+  string_without {p} {tag} {used} {ws} e =
+      let S = read_shorter short long s b l str knows knows' e in
       after_inv (read_string S.before S.from) _ S.reads
       (λ bs r e1 e2.
       let i : string bs ≡ S.last = cc e2 in

@@ -123,9 +123,9 @@ module _ {s : List ℕ} {i : ℕ} where
   unfolding char
   in_row n h l p q r = record { is = r.is ∙ rw (drop-cons s i 0 h, add-one) (sym (begun (get_or s i 0) (drop (suc i) s) rows refl n l p q)) }
 
-  pub in-gap : (n h k : ℕ) → i < length s → h < get_or s i 0 → get_or s i 0 ≤ k → below h (take n rows) ≡ true → above k (drop n rows) ≡ true → CharAt s i 0
+  pub in_gap : (n h k : ℕ) → i < length s → h < get_or s i 0 → get_or s i 0 ≤ k → below h (take n rows) ≡ true → above k (drop n rows) ≡ true → CharAt s i 0
   unfolding char
-  in-gap n h k l p q e f = record {
+  in_gap n h k l p q e f = record {
     is =
         rw (drop-cons s i 0 l)
         (sym (ap (λ (rs : List (List Range)). char_in rs (get_or s i 0 ∷ drop (suc i) s)) (sym (take-append-drop n rows))

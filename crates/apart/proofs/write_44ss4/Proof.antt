@@ -4,7 +4,7 @@ use mathlib.Core.List.{[], ◌∷◌}
 use Rattle.numbers.specs.Numbers.{bytes_all}
 use Rattle.laying.specs.LayingLaws.{measure, measure_numbers, measured_none, put_number, put_done}
 use Rattle.apart.specs.SecondLaws.{first_passed}
-use Rattle.apart.specs.ApartLaws.{measure-first, put_first, put_second, apart-written, apart_length}
+use Rattle.apart.specs.ApartLaws.{measure_first, put_first, put_second, apart_written, apart_length}
 use Rattle.apart.proofs.write_44ss4.Statement.{statement}
 use Rattle.apart.proofs.write_44ss4.Tie as tie
 
@@ -37,8 +37,8 @@ returns c =
     let a = k.before.before.args in
     let x = a.first.now in
     let y = a.second.now in
-    apart-written x y (bytes_all x (λ i. (k.shared-slice-known.given i).fits)) (bytes_all y (λ i. (l.shared-slice-known2.given i).fits))
-    (measure_numbers 4 (4 ∷ []) p1.advanced.ensures (measure-first x y p2.measure.ensures (measure p3.measure-second.ensures (measure_numbers 4 [] end.advanced2.ensures measured_none))))
+    apart_written x y (bytes_all x (λ i. (k.shared-slice-known.given i).fits)) (bytes_all y (λ i. (l.shared-slice-known2.given i).fits))
+    (measure_numbers 4 (4 ∷ []) p1.advanced.ensures (measure_first x y p2.measure.ensures (measure p3.measure-second.ensures (measure_numbers 4 [] end.advanced2.ensures measured_none))))
     start.begun.ensures
     (put_number q1.put_low.ensures (put_number q2.put-low2.ensures (put_first x y q3.put.ensures (put_second x y q4.put2.ensures (put_number q5.put-low3.ensures put_done)))))
 

@@ -4,7 +4,7 @@ use native.Mathlib.Omega.{arith}
 use borrow.Author.Rules.{rules}
 use mathlib.Core.List.{[]}
 use lib.ListN.{length, get_or}
-use Rattle.blocks.specs.PackLaws.{FitTo, fit_none, fit_next, fit-full, fit-bad, fit_all, entry_passes, entry_fails}
+use Rattle.blocks.specs.PackLaws.{FitTo, fit_none, fit_next, fit_full, fit_bad, fit_all, entry_passes, entry_fails}
 use Rattle.blocks.proofs.fitting.Statement.{statement}
 use Rattle.blocks.proofs.fitting.Tie as tie
 
@@ -44,7 +44,7 @@ returns c =
     let t = n.before.before.before in
     let l = t.before in
     let a = l.before.before.args in
-    fit-bad t.loop-test.true l.loop.invariant (entry_fails a.names.now (get_or a.entries.now l.loop.i []) n.check-name.ensures c.before.q.given.1)
+    fit_bad t.loop-test.true l.loop.invariant (entry_fails a.names.now (get_or a.entries.now l.loop.i []) n.check-name.ensures c.before.q.given.1)
 
 enum_told : tie.Need-enum-told invariant-loop decreases-loop
 enum_told c = search rules
@@ -67,7 +67,7 @@ returns-2 c =
     let t = n.before.before.before in
     let l = t.before in
     let a = l.before.before.args in
-    fit-full t.loop-test.true l.loop.invariant (entry_passes a.names.now (get_or a.entries.now l.loop.i []) n.check-name.ensures e.enum_told.given.1) c.if1.true
+    fit_full t.loop-test.true l.loop.invariant (entry_passes a.names.now (get_or a.entries.now l.loop.i []) n.check-name.ensures e.enum_told.given.1) c.if1.true
 
 add-used : tie.Need-overflow-add-used invariant-loop decreases-loop
 add-used c = omega (arith, c.before.before.before.before.before.before.before.before.loop.invariant.held)

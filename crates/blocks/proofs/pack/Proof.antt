@@ -1,6 +1,6 @@
 -- How many fit, and then these are put.
 use borrow.Author.Rules.{rules}
-use Rattle.blocks.specs.PackLaws.{pack-ready, pack-put, pack-refused}
+use Rattle.blocks.specs.PackLaws.{pack_ready, pack_put, pack_refused}
 use Rattle.blocks.proofs.pack.Statement.{statement}
 use Rattle.blocks.proofs.pack.Tie as tie
 
@@ -15,7 +15,7 @@ returns c =
     let f = c.before.before in
     let m = f.before in
     let a = m.before.before.before.args in
-    pack-refused a.count a.out.now m.min.ensures f.fitting.ensures c.enum_told.given.1
+    pack_refused a.count a.out.now m.min.ensures f.fitting.ensures c.enum_told.given.1
 
 put-entries-requires : tie.Need-put-entries-requires
 put-entries-requires c κs =
@@ -23,7 +23,7 @@ put-entries-requires c κs =
     let f = k.before.before in
     let m = f.before in
     let a = m.before.before.before.args in
-    pack-ready a.count a.out.now m.min.ensures f.fitting.ensures k.fit.given.1
+    pack_ready a.count a.out.now m.min.ensures f.fitting.ensures k.fit.given.1
 
 same_length : tie.Need-same-length
 same_length c = search rules
@@ -35,7 +35,7 @@ returns-2 c =
     let f = k.before.before in
     let m = f.before in
     let a = m.before.before.before.args in
-    pack-put a.count a.out.now m.min.ensures f.fitting.ensures k.fit.given.1 p.put_entries.ensures
+    pack_put a.count a.out.now m.min.ensures f.fitting.ensures k.fit.given.1 p.put_entries.ensures
 
 pub pack-spec : {M : Type 1} → statement M
 pack-spec = tie.close (tie.spec (λ _ _. tt) (λ _ _. tt) enum-known-fit enum_told returns put-entries-requires same_length returns-2)

@@ -4,7 +4,7 @@ use native.Mathlib.Omega.{arith}
 use mathlib.Core.Path.{◌≡◌, refl}
 use borrow.Author.Rules.{rules}
 use lib.ListN.{length}
-use Rattle.blocks.specs.PackLaws.{PutTo, put_none, put-room, put_fit, put_length, put_next, put_all}
+use Rattle.blocks.specs.PackLaws.{PutTo, put_none, put_room, put_fit, put_length, put_next, put_all}
 use Rattle.blocks.proofs.put_entries.Statement.{statement}
 use Rattle.blocks.proofs.put_entries.Tie as tie
 
@@ -27,7 +27,7 @@ put-entry-requires : tie.Need-put-entry-requires invariant-loop decreases-loop
 put-entry-requires c κs =
     let t = c.before.before in
     let l = t.before in
-    put-room l.before.before.before.requires t.loop-test.true l.loop.invariant.2 l.loop.invariant.1
+    put_room l.before.before.before.requires t.loop-test.true l.loop.invariant.2 l.loop.invariant.1
 
 add_at : tie.Need-overflow-add-at invariant-loop decreases-loop
 add_at c =

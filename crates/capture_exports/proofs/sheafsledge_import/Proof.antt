@@ -1,5 +1,5 @@
 -- What the importer leaves and answers; how many frames only where it is not refused.
-use Rattle.capture_exports.specs.Captures.{import-held, import-refused}
+use Rattle.capture_exports.specs.Captures.{import_held, import_refused}
 use borrow.Author.Rules.{rules}
 use Rattle.capture_exports.proofs.sheafsledge_import.Statement.{statement}
 use Rattle.capture_exports.proofs.sheafsledge_import.Tie as tie
@@ -29,7 +29,7 @@ same-length-2 : tie.Need-same-length-2
 same-length-2 c = search rules
 
 returns : tie.Need-returns
-returns c = import-held c.before.before.before.before.before.before.before.before.before.before.before.before.args.frames.now c.before.before.before.before.before.before.before.import.ensures c.before.before.made.given.1 c.ended.ensures
+returns c = import_held c.before.before.before.before.before.before.before.before.before.before.before.before.args.frames.now c.before.before.before.before.before.before.before.import.ensures c.before.before.made.given.1 c.ended.ensures
 
 same-length-3 : tie.Need-same-length-3
 same-length-3 c = search rules
@@ -38,7 +38,7 @@ same-length-4 : tie.Need-same-length-4
 same-length-4 c = search rules
 
 returns-2 : tie.Need-returns-2
-returns-2 c = import-refused c.before.before.before.before.before.before.before.before.before.before.before.before.args.frames.now c.before.before.before.before.before.before.before.import.ensures c.before.before.made2.given.1 c.ended2.ensures
+returns-2 c = import_refused c.before.before.before.before.before.before.before.before.before.before.before.before.args.frames.now c.before.before.before.before.before.before.before.import.ensures c.before.before.made2.given.1 c.ended2.ensures
 
 pub sheafsledge-import-spec : {M : Type 1} → statement M
 sheafsledge-import-spec =

@@ -5,7 +5,7 @@ use mathlib.Core.Path.{◌≡◌, refl, sym, ◌∙◌}
 use lib.ListN.{length}
 use Rattle.captures.specs.Captures.{counted, cut_up}
 use Rattle.captures.specs.Steps.{rest}
-use Rattle.captures.specs.StretchLaws.{next, stopped, at_end_lem, starts, count_turn, count-stop, count-end}
+use Rattle.captures.specs.StretchLaws.{next, stopped, at_end_lem, starts, count_turn, count_stop, count_end}
 use mathlib.Core.Path.{ap}
 use borrow.Author.Rules.{rules}
 use Rattle.captures.proofs.count.Statement.{statement}
@@ -35,7 +35,7 @@ returns c =
     let l = c.before.before.before.before.loop in
     let e = c.enum_told.given.1 in
     let x = stopped a.stretch.now l.at c.before.before.before.loop-test.true c.before.before.frame-end.ensures e in
-    e ∙ count-stop a.stretch.now l.at x l.n ∙ l.invariant.2
+    e ∙ count_stop a.stretch.now l.at x l.n ∙ l.invariant.2
 
 add-n : tie.Need-overflow-add-n invariant-loop decreases-loop
 add-n c =
@@ -66,7 +66,7 @@ returns-2 : tie.Need-returns-2 invariant-loop decreases-loop
 returns-2 c =
     let a = c.before.before.before.args in
     let l = c.before.loop in
-    count-end a.stretch.now l.at (at_end_lem a.stretch.now l.at (omega arith)) l.n ∙ l.invariant.2
+    count_end a.stretch.now l.at (at_end_lem a.stretch.now l.at (omega arith)) l.n ∙ l.invariant.2
 
 pub count_spec : {M : Type 1} → statement M
 count_spec =

@@ -5,7 +5,7 @@ use mathlib.Core.Path.{◌≡◌, refl, sym, ◌∙◌}
 use lib.ListN.{length}
 use Rattle.captures.specs.Captures.{fits, cut_up}
 use Rattle.captures.specs.Steps.{rest}
-use Rattle.captures.specs.StretchLaws.{next, stopped, at_end_lem, starts, fit-turn, fit-long, fit-stop, fit-end}
+use Rattle.captures.specs.StretchLaws.{next, stopped, at_end_lem, starts, fit_turn, fit_long, fit_stop, fit_end}
 use mathlib.Core.Path.{ap}
 use borrow.Author.Rules.{rules}
 use Rattle.captures.proofs.fit.Statement.{statement}
@@ -35,7 +35,7 @@ returns c =
     let l = c.before.before.before.before.loop in
     let e = c.enum_told.given.1 in
     let x = stopped a.stretch.now l.at c.before.before.before.loop-test.true c.before.before.frame-end.ensures e in
-    e ∙ fit-stop a.stretch.now l.at x ∙ l.invariant.1
+    e ∙ fit_stop a.stretch.now l.at x ∙ l.invariant.1
 
 cast-if1 : tie.Need-overflow-cast-if1 invariant-loop decreases-loop
 cast-if1 c = search rules
@@ -52,7 +52,7 @@ returns-2 c =
     let a = c.before.before.before.before.before.before.before.before.args in
     let l = c.before.before.before.before.before.before.loop in
     let x = next a.stretch.now l.at l.invariant.0 c.before.before.before.before.frame-end.ensures c.before.before.p.given.1 in
-    fit-long x c.if1.true ∙ l.invariant.1
+    fit_long x c.if1.true ∙ l.invariant.1
 
 loop-less : tie.Need-loop-smaller invariant-loop decreases-loop
 loop-less c =
@@ -67,13 +67,13 @@ loop-again c =
     let l = c.before.before.before.before.before.before.loop in
     let x = next a.stretch.now l.at l.invariant.0 c.before.before.before.before.frame-end.ensures c.before.before.p.given.1 in
     let h = x.held in
-    (omega arith, fit-turn x c.if1.false ∙ l.invariant.1)
+    (omega arith, fit_turn x c.if1.false ∙ l.invariant.1)
 
 returns-3 : tie.Need-returns-3 invariant-loop decreases-loop
 returns-3 c =
     let a = c.before.before.before.args in
     let l = c.before.loop in
-    fit-end a.stretch.now l.at (at_end_lem a.stretch.now l.at (omega arith)) ∙ l.invariant.1
+    fit_end a.stretch.now l.at (at_end_lem a.stretch.now l.at (omega arith)) ∙ l.invariant.1
 
 pub fit_spec : {M : Type 1} → statement M
 fit_spec =

@@ -1,5 +1,5 @@
 -- A whole frame, the end, a refusal.
-use Rattle.captures.specs.StretchLaws.{end_whole, end-end, end-stop}
+use Rattle.captures.specs.StretchLaws.{end_whole, end_end, end_stop}
 use borrow.Author.Rules.{rules}
 use Rattle.captures.proofs.frame_end.Statement.{statement}
 use Rattle.captures.proofs.frame_end.Tie as tie
@@ -24,12 +24,12 @@ returns c =
 returns-2 : tie.Need-returns-2
 returns-2 c =
     let a = c.before.before.before.before.args in
-    end-end a.stretch.now a.at c.before.before.cut_at.ensures c.enum_told.given.1
+    end_end a.stretch.now a.at c.before.before.cut_at.ensures c.enum_told.given.1
 
 returns-3 : tie.Need-returns-3
 returns-3 c =
     let a = c.before.before.before.before.before.args in
-    end-stop a.stretch.now a.at c.before.before.before.cut_at.ensures c.before.cut2.given.1
+    end_stop a.stretch.now a.at c.before.before.before.cut_at.ensures c.before.cut2.given.1
 
 pub frame-end-spec : {M : Type 1} → statement M
 frame-end-spec =

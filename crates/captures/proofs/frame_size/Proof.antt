@@ -2,7 +2,7 @@
 use native.Mathlib.Omega.{arith}
 use borrow.Author.Tests.{not-true, not-false}
 use Rattle.numbers.specs.PlaceLaws.{inside, outside}
-use Rattle.captures.specs.FileLaws.{size_cut, size-unlike, size_small, size-large, size-long, size-other, size_held}
+use Rattle.captures.specs.FileLaws.{size_cut, size_unlike, size_small, size_large, size_long, size_other, size_held}
 use borrow.Author.Rules.{rules}
 use Rattle.captures.proofs.frame_size.Statement.{statement}
 use Rattle.captures.proofs.frame_size.Tie as tie
@@ -28,7 +28,7 @@ number-requires-2 c κs = omega (arith, inside c.before.before.within.ensures (n
 returns-2 : tie.Need-returns-2
 returns-2 c =
     let a = c.before.before.before.before.before.before.args in
-    size-unlike a.big a.file.now a.at (inside c.before.before.before.before.within.ensures (not-false _ c.before.before.before.if1.false)) c.before.before.number.ensures c.before.number2.ensures c.if2.true
+    size_unlike a.big a.file.now a.at (inside c.before.before.before.before.within.ensures (not-false _ c.before.before.before.if1.false)) c.before.before.number.ensures c.before.number2.ensures c.if2.true
 
 returns-3 : tie.Need-returns-3
 returns-3 c =
@@ -38,7 +38,7 @@ returns-3 c =
 returns-4 : tie.Need-returns-4
 returns-4 c =
     let a = c.before.before.before.before.before.before.before.before.args in
-    size-large a.big a.file.now a.at (inside c.before.before.before.before.before.before.within.ensures (not-false _ c.before.before.before.before.before.if1.false)) c.before.before.before.before.number.ensures c.before.before.before.number2.ensures c.before.before.if2.false (omega arith) (omega arith)
+    size_large a.big a.file.now a.at (inside c.before.before.before.before.before.before.within.ensures (not-false _ c.before.before.before.before.before.if1.false)) c.before.before.before.before.number.ensures c.before.before.before.number2.ensures c.before.before.if2.false (omega arith) (omega arith)
 
 add_start : tie.Need-overflow-add-start
 add_start c = omega (arith, inside c.before.before.before.before.before.before.within.ensures (not-false _ c.before.before.before.before.before.if1.false))
@@ -52,7 +52,7 @@ within-requires-2 c κs = search rules
 returns-5 : tie.Need-returns-5
 returns-5 c =
     let a = c.before.before.before.before.before.before.before.before.before.before.args in
-    size-long a.big a.file.now a.at (inside c.before.before.before.before.before.before.before.before.within.ensures (not-false _ c.before.before.before.before.before.before.before.if1.false)) c.before.before.before.before.before.before.number.ensures c.before.before.before.before.before.number2.ensures c.before.before.before.before.if2.false (omega arith) (omega arith) (outside c.before.within2.ensures (not-true _ c.if5.true))
+    size_long a.big a.file.now a.at (inside c.before.before.before.before.before.before.before.before.within.ensures (not-false _ c.before.before.before.before.before.before.before.if1.false)) c.before.before.before.before.before.before.number.ensures c.before.before.before.before.before.number2.ensures c.before.before.before.before.if2.false (omega arith) (omega arith) (outside c.before.within2.ensures (not-true _ c.if5.true))
 
 number-requires-3 : tie.Need-number-requires-3
 number-requires-3 c κs = omega (arith, inside c.before.within2.ensures (not-false _ c.if5.false))
@@ -60,7 +60,7 @@ number-requires-3 c κs = omega (arith, inside c.before.within2.ensures (not-fal
 returns-6 : tie.Need-returns-6
 returns-6 c =
     let a = c.before.before.before.before.before.before.before.before.before.before.before.before.args in
-    size-other a.big a.file.now a.at (inside c.before.before.before.before.before.before.before.before.before.before.within.ensures (not-false _ c.before.before.before.before.before.before.before.before.before.if1.false)) c.before.before.before.before.before.before.before.before.number.ensures c.before.before.before.before.before.before.before.number2.ensures c.before.before.before.before.before.before.if2.false (omega arith) (omega arith) (inside c.before.before.before.within2.ensures (not-false _ c.before.before.if5.false)) c.before.number3.ensures c.if6.true
+    size_other a.big a.file.now a.at (inside c.before.before.before.before.before.before.before.before.before.before.within.ensures (not-false _ c.before.before.before.before.before.before.before.before.before.if1.false)) c.before.before.before.before.before.before.before.before.number.ensures c.before.before.before.before.before.before.before.number2.ensures c.before.before.before.before.before.before.if2.false (omega arith) (omega arith) (inside c.before.before.before.within2.ensures (not-false _ c.before.before.if5.false)) c.before.number3.ensures c.if6.true
 
 cast-t12 : tie.Need-overflow-cast-t12
 cast-t12 c = search rules

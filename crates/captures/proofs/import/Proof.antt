@@ -1,6 +1,6 @@
 -- The header in one order, in the other, or in none.
 use borrow.Author.Tests.{not-true, not-false}
-use Rattle.captures.specs.WayLaws.{order-little, order-big, order-none, import-none}
+use Rattle.captures.specs.WayLaws.{order_little, order_big, order_none, import_none}
 use borrow.Author.Rules.{rules}
 use Rattle.captures.proofs.import.Statement.{statement}
 use Rattle.captures.proofs.import.Tie as tie
@@ -11,7 +11,7 @@ headed-requires c κs = search rules
 import-in-requires : tie.Need-import-in-requires
 import-in-requires c κs =
     let a = c.before.before.before.before.before.before.args in
-    order-little a.file.now c.before.before.before.headed.ensures c.before.before.if1.true
+    order_little a.file.now c.before.before.before.headed.ensures c.before.before.if1.true
 
 same_length : tie.Need-same-length
 same_length c = search rules
@@ -28,7 +28,7 @@ headed-requires-2 c κs = search rules
 import-in-requires-2 : tie.Need-import-in-requires-2
 import-in-requires-2 c κs =
     let a = c.before.before.before.before.before.before.before.before.args in
-    order-big a.file.now c.before.before.before.before.before.headed.ensures c.before.before.before.before.if1.false c.before.before.before.headed2.ensures c.before.before.if2.true
+    order_big a.file.now c.before.before.before.before.before.headed.ensures c.before.before.before.before.if1.false c.before.before.before.headed2.ensures c.before.before.if2.true
 
 same-length-3 : tie.Need-same-length-3
 same-length-3 c = search rules
@@ -42,7 +42,7 @@ returns-2 c = search rules
 returns-3 : tie.Need-returns-3
 returns-3 c =
     let a = c.before.before.before.before.before.before.args in
-    import-none a.file.now a.out.now a.times.now (order-none a.file.now c.before.before.before.headed.ensures c.before.before.if1.false c.before.headed2.ensures c.if2.false)
+    import_none a.file.now a.out.now a.times.now (order_none a.file.now c.before.before.before.headed.ensures c.before.before.if1.false c.before.headed2.ensures c.if2.false)
 
 pub import-spec : {M : Type 1} → statement M
 import-spec =

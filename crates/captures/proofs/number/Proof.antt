@@ -1,7 +1,7 @@
 -- Two and two bytes, in both orders.
 use native.Mathlib.Omega.{arith}
 use mathlib.Core.Path.{◌≡◌, sym, ap, ◌∙◌}
-use Rattle.captures.specs.FileLaws.{number-big, number-little}
+use Rattle.captures.specs.FileLaws.{number_big, number_little}
 use borrow.Author.Rules.{rules}
 use Rattle.captures.proofs.number.Statement.{statement}
 use Rattle.captures.proofs.number.Tie as tie
@@ -31,7 +31,7 @@ returns : tie.Need-returns
 returns c =
     let a = c.before.before.before.before.args in
     let e = c.if1.true in
-    rw e (number-big a.file.now a.at _ _ (omega arith) (rw e at c.before.before.short.ensures) (rw e at c.before.short2.ensures))
+    rw e (number_big a.file.now a.at _ _ (omega arith) (rw e at c.before.before.short.ensures) (rw e at c.before.short2.ensures))
 
 mul-result-2 : tie.Need-overflow-mul-result-2
 mul-result-2 c = search rules
@@ -43,7 +43,7 @@ returns-2 : tie.Need-returns-2
 returns-2 c =
     let a = c.before.before.before.before.args in
     let e = c.if1.false in
-    rw e (number-little a.file.now a.at _ _ (omega arith) (rw e at c.before.before.short.ensures) (rw e at c.before.short2.ensures))
+    rw e (number_little a.file.now a.at _ _ (omega arith) (rw e at c.before.before.short.ensures) (rw e at c.before.short2.ensures))
 
 pub number-spec : {M : Type 1} → statement M
 number-spec =

@@ -3,8 +3,8 @@ use Prim.Native.Nat.{◌≤◌, ◌<◌, ◌+◌, ◌-◌}
 use native.Mathlib.Omega.{arith}
 use mathlib.Core.Path.{◌≡◌, refl, sym, ◌∙◌}
 use lib.ListN.{length}
-use Rattle.captures.specs.StretchLaws.{next, stopped, at_end_lem, frames-stop, frames-end}
-use Rattle.captures.proofs.Loops.{Putting, put_begins, row-there, room-there, put_turn, put_ends}
+use Rattle.captures.specs.StretchLaws.{next, stopped, at_end_lem, frames_stop, frames_end}
+use Rattle.captures.proofs.Loops.{Putting, put_begins, row_there, room_there, put_turn, put_ends}
 use borrow.Author.Rules.{rules}
 use Rattle.captures.proofs.put_records.Statement.{statement}
 use Rattle.captures.proofs.put_records.Tie as tie
@@ -37,7 +37,7 @@ returns c =
     let a = c.before.before.before.before.before.before.before.args in
     let l = c.before.before.before.before.loop in
     let x = stopped a.stretch.now l.at c.before.before.before.loop-test.true c.before.before.frame-end.ensures c.enum_told.given.1 in
-    put_ends a.stretch.now a.times.now a.out.now l.out l.at l.to l.i l.invariant (frames-stop a.stretch.now l.at x)
+    put_ends a.stretch.now a.times.now a.out.now l.out l.at l.to l.i l.invariant (frames_stop a.stretch.now l.at x)
 
 sub-len : tie.Need-overflow-sub-len invariant-loop decreases-loop
 sub-len c =
@@ -54,7 +54,7 @@ index-1-seconds c =
     let a = c.before.before.before.before.before.before.before.before.args in
     let l = c.before.before.before.before.before.loop in
     let x = next a.stretch.now l.at l.invariant.within c.before.before.before.frame-end.ensures c.before.next.given.1 in
-    omega (arith, row-there a.stretch.now a.times.now a.out.now l.out l.at l.to l.i l.invariant x)
+    omega (arith, row_there a.stretch.now a.times.now a.out.now l.out l.at l.to l.i l.invariant x)
 
 index-2-seconds : tie.Need-bounds-2-seconds invariant-loop decreases-loop
 index-2-seconds c = search rules
@@ -67,7 +67,7 @@ index-1-micros c =
     let a = c.before.before.before.before.before.before.before.before.before.args in
     let l = c.before.before.before.before.before.before.loop in
     let x = next a.stretch.now l.at l.invariant.within c.before.before.before.before.frame-end.ensures c.before.before.next.given.1 in
-    omega (arith, row-there a.stretch.now a.times.now a.out.now l.out l.at l.to l.i l.invariant x)
+    omega (arith, row_there a.stretch.now a.times.now a.out.now l.out l.at l.to l.i l.invariant x)
 
 index-2-micros : tie.Need-bounds-2-micros invariant-loop decreases-loop
 index-2-micros c = search rules
@@ -77,28 +77,28 @@ put-record-requires c κs =
     let a = c.before.before.before.before.before.before.before.before.before.before.before.args in
     let l = c.before.before.before.before.before.before.before.before.loop in
     let x = next a.stretch.now l.at l.invariant.within c.before.before.before.before.before.before.frame-end.ensures c.before.before.before.before.next.given.1 in
-    (omega (arith, x.held, x.on), room-there a.stretch.now a.times.now a.out.now l.out l.at l.to l.i l.invariant x)
+    (omega (arith, x.held, x.on), room_there a.stretch.now a.times.now a.out.now l.out l.at l.to l.i l.invariant x)
 
 add-to : tie.Need-overflow-add-to invariant-loop decreases-loop
 add-to c =
     let a = c.before.before.before.before.before.before.before.before.before.before.before.before.before.before.args in
     let l = c.before.before.before.before.before.before.before.before.before.before.before.loop in
     let x = next a.stretch.now l.at l.invariant.within c.before.before.before.before.before.before.before.before.before.frame-end.ensures c.before.before.before.before.before.before.before.next.given.1 in
-    omega (arith, room-there a.stretch.now a.times.now a.out.now l.out l.at l.to l.i l.invariant x)
+    omega (arith, room_there a.stretch.now a.times.now a.out.now l.out l.at l.to l.i l.invariant x)
 
 add-to-2 : tie.Need-overflow-add-to-2 invariant-loop decreases-loop
 add-to-2 c =
     let a = c.before.before.before.before.before.before.before.before.before.before.before.before.before.before.args in
     let l = c.before.before.before.before.before.before.before.before.before.before.before.loop in
     let x = next a.stretch.now l.at l.invariant.within c.before.before.before.before.before.before.before.before.before.frame-end.ensures c.before.before.before.before.before.before.before.next.given.1 in
-    omega (arith, room-there a.stretch.now a.times.now a.out.now l.out l.at l.to l.i l.invariant x)
+    omega (arith, room_there a.stretch.now a.times.now a.out.now l.out l.at l.to l.i l.invariant x)
 
 add-i : tie.Need-overflow-add-i invariant-loop decreases-loop
 add-i c =
     let a = c.before.before.before.before.before.before.before.before.before.before.before.before.before.before.args in
     let l = c.before.before.before.before.before.before.before.before.before.before.before.loop in
     let x = next a.stretch.now l.at l.invariant.within c.before.before.before.before.before.before.before.before.before.frame-end.ensures c.before.before.before.before.before.before.before.next.given.1 in
-    omega (arith, row-there a.stretch.now a.times.now a.out.now l.out l.at l.to l.i l.invariant x)
+    omega (arith, row_there a.stretch.now a.times.now a.out.now l.out l.at l.to l.i l.invariant x)
 
 loop-less : tie.Need-loop-smaller invariant-loop decreases-loop
 loop-less c =
@@ -121,7 +121,7 @@ returns-2 : tie.Need-returns-2 invariant-loop decreases-loop
 returns-2 c =
     let a = c.before.before.before.before.args in
     let l = c.before.loop in
-    put_ends a.stretch.now a.times.now a.out.now l.out l.at l.to l.i l.invariant (frames-end a.stretch.now l.at (at_end_lem a.stretch.now l.at (omega arith)))
+    put_ends a.stretch.now a.times.now a.out.now l.out l.at l.to l.i l.invariant (frames_end a.stretch.now l.at (at_end_lem a.stretch.now l.at (omega arith)))
 
 pub put-records-spec : {M : Type 1} → statement M
 put-records-spec =

@@ -3,8 +3,8 @@ use Prim.Native.Nat.{◌≤◌, ◌<◌, ◌+◌, ◌-◌}
 use native.Mathlib.Omega.{arith}
 use mathlib.Core.Path.{◌≡◌, refl, sym, ◌∙◌}
 use lib.ListN.{length}
-use Rattle.captures.specs.FileLaws.{stands, none-stands, none_left, nothing-broken, nothing_left}
-use Rattle.captures.proofs.Loops.{Taking, take_begins, row-left, room-left, take-turn, take_ends}
+use Rattle.captures.specs.FileLaws.{stands, none_stands, none_left, nothing_broken, nothing_left}
+use Rattle.captures.proofs.Loops.{Taking, take_begins, row_left, room_left, take_turn, take_ends}
 use borrow.Author.Rules.{rules}
 use Rattle.captures.proofs.take_packets.Statement.{statement}
 use Rattle.captures.proofs.take_packets.Tie as tie
@@ -39,8 +39,8 @@ returns : tie.Need-returns invariant-loop decreases-loop
 returns c =
     let a = c.before.before.before.before.before.before.before.args in
     let l = c.before.before.before.before.loop in
-    let x = none-stands a.big a.file.now l.at c.before.before.before.loop-test.true c.before.before.frame-size.ensures c.enum_told.given.1 in
-    take_ends a.big a.file.now a.out.now a.times.now l.out l.times l.at l.to l.i l.invariant (nothing-broken a.big a.file.now l.at x) c.before.before.before.before.before.before.before.requires
+    let x = none_stands a.big a.file.now l.at c.before.before.before.loop-test.true c.before.before.frame-size.ensures c.enum_told.given.1 in
+    take_ends a.big a.file.now a.out.now a.times.now l.out l.times l.at l.to l.i l.invariant (nothing_broken a.big a.file.now l.at x) c.before.before.before.before.before.before.before.requires
 
 number-requires : tie.Need-number-requires invariant-loop decreases-loop
 number-requires c κs =
@@ -71,7 +71,7 @@ slice-set-from-times c =
     let a = c.before.before.before.before.before.before.before.before.before.before.args in
     let l = c.before.before.before.before.before.before.before.loop in
     let x = stands a.big a.file.now l.at c.before.before.before.before.before.frame-size.ensures c.before.before.before.len.given.1 in
-    row-left a.big a.file.now a.out.now a.times.now l.out l.times l.at l.to l.i l.invariant x
+    row_left a.big a.file.now a.out.now a.times.now l.out l.times l.at l.to l.i l.invariant x
 
 add_start : tie.Need-overflow-add-start invariant-loop decreases-loop
 add_start c =
@@ -88,14 +88,14 @@ add-to c =
     let a = c.before.before.before.before.before.before.before.before.before.before.before.before.before.before.args in
     let l = c.before.before.before.before.before.before.before.before.before.before.before.loop in
     let x = stands a.big a.file.now l.at c.before.before.before.before.before.before.before.before.before.frame-size.ensures c.before.before.before.before.before.before.before.len.given.1 in
-    omega (arith, room-left a.big a.file.now a.out.now a.times.now l.out l.times l.at l.to l.i l.invariant x)
+    omega (arith, room_left a.big a.file.now a.out.now a.times.now l.out l.times l.at l.to l.i l.invariant x)
 
 add-i : tie.Need-overflow-add-i invariant-loop decreases-loop
 add-i c =
     let a = c.before.before.before.before.before.before.before.before.before.before.before.before.before.before.args in
     let l = c.before.before.before.before.before.before.before.before.before.before.before.loop in
     let x = stands a.big a.file.now l.at c.before.before.before.before.before.before.before.before.before.frame-size.ensures c.before.before.before.before.before.before.before.len.given.1 in
-    omega (arith, row-left a.big a.file.now a.out.now a.times.now l.out l.times l.at l.to l.i l.invariant x)
+    omega (arith, row_left a.big a.file.now a.out.now a.times.now l.out l.times l.at l.to l.i l.invariant x)
 
 add_at : tie.Need-overflow-add-at invariant-loop decreases-loop
 add_at c =
@@ -116,7 +116,7 @@ loop-again c =
     let a = c.before.before.before.before.before.before.before.before.before.before.before.before.before.before.args in
     let l = c.before.before.before.before.before.before.before.before.before.before.before.loop in
     let x = stands a.big a.file.now l.at c.before.before.before.before.before.before.before.before.before.frame-size.ensures c.before.before.before.before.before.before.before.len.given.1 in
-    take-turn a.big a.file.now a.out.now a.times.now l.out l.times l.at l.to l.i l.invariant x c.before.before.before.before.before.number.ensures c.before.before.before.before.number2.ensures c.before.before.put-bytes.ensures
+    take_turn a.big a.file.now a.out.now a.times.now l.out l.times l.at l.to l.i l.invariant x c.before.before.before.before.before.number.ensures c.before.before.before.before.number2.ensures c.before.before.put-bytes.ensures
 
 same-length-3 : tie.Need-same-length-3 invariant-loop decreases-loop
 same-length-3 c = c.before.loop.invariant.output

@@ -5,7 +5,7 @@ use mathlib.Core.Path.{◌≡◌, refl, sym, ◌∙◌}
 use lib.ListN.{length}
 use Rattle.captures.specs.Captures.{tallied}
 use Rattle.captures.specs.Steps.{from}
-use Rattle.captures.specs.FileLaws.{stands, none-stands, none_left, tally-turn, tally-stop, tally-end}
+use Rattle.captures.specs.FileLaws.{stands, none_stands, none_left, tally_turn, tally_stop, tally_end}
 use borrow.Author.Rules.{rules}
 use Rattle.captures.proofs.tally.Statement.{statement}
 use Rattle.captures.proofs.tally.Tie as tie
@@ -32,8 +32,8 @@ returns : tie.Need-returns invariant-loop decreases-loop
 returns c =
     let a = c.before.before.before.before.before.before.args in
     let l = c.before.before.before.before.loop in
-    let x = none-stands a.big a.file.now l.at c.before.before.before.loop-test.true c.before.before.frame-size.ensures c.enum_told.given.1 in
-    tally-stop a.big a.file.now l.at x l.bytes l.frames ∙ l.invariant.3
+    let x = none_stands a.big a.file.now l.at c.before.before.before.loop-test.true c.before.before.frame-size.ensures c.enum_told.given.1 in
+    tally_stop a.big a.file.now l.at x l.bytes l.frames ∙ l.invariant.3
 
 add-bytes : tie.Need-overflow-add-bytes invariant-loop decreases-loop
 add-bytes c =
@@ -78,13 +78,13 @@ loop-again c =
     let h = x.held in
     let k = l.invariant.1 in
     let m = l.invariant.2 in
-    (omega arith, omega arith, omega arith, tally-turn a.big a.file.now l.at x l.bytes l.frames ∙ l.invariant.3)
+    (omega arith, omega arith, omega arith, tally_turn a.big a.file.now l.at x l.bytes l.frames ∙ l.invariant.3)
 
 returns-2 : tie.Need-returns-2 invariant-loop decreases-loop
 returns-2 c =
     let a = c.before.before.before.args in
     let l = c.before.loop in
-    tally-end a.big a.file.now l.at (none_left a.big a.file.now l.at (omega arith)) l.bytes l.frames ∙ l.invariant.3
+    tally_end a.big a.file.now l.at (none_left a.big a.file.now l.at (omega arith)) l.bytes l.frames ∙ l.invariant.3
 
 pub tally-spec : {M : Type 1} → statement M
 tally-spec =

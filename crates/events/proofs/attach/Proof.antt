@@ -1,5 +1,5 @@
 -- The fid, and the afid unless it is none.
-use Rattle.events.proofs.Ways.{attach-is}
+use Rattle.events.proofs.Ways.{attach_is}
 use borrow.Author.Rules.{rules}
 use Rattle.events.proofs.attach.Statement.{statement}
 use Rattle.events.proofs.attach.Tie as tie
@@ -17,7 +17,7 @@ request-requires : tie.Need-request-requires
 request-requires c κs = tt
 
 returns : tie.Need-returns
-returns c = let a = c.before.before.before.before.before.before.args in attach-is a.m c.before.before.unless-none.ensures c.request.ensures
+returns c = let a = c.before.before.before.before.before.before.args in attach_is a.m c.before.before.unless-none.ensures c.request.ensures
 
 pub attach_spec : {M : Type 1} → statement M
 attach_spec =

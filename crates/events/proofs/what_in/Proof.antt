@@ -1,5 +1,5 @@
 -- A request or a reply, read or refused.
-use Rattle.events.proofs.Ways.{a-request, no-request, a-reply, no-reply}
+use Rattle.events.proofs.Ways.{a_request, no_request, a_reply, no_reply}
 use borrow.Author.Rules.{rules}
 use Rattle.events.proofs.what_in.Statement.{statement}
 use Rattle.events.proofs.what_in.Tie as tie
@@ -29,16 +29,16 @@ enum-known-b-4 : tie.Need-enum-known-b-4
 enum-known-b-4 c = search rules
 
 returns : tie.Need-returns
-returns c = a-request c.before.before.before.before.before.body.given.1 c.before.before.b.given.1 c.asked_by.ensures
+returns c = a_request c.before.before.before.before.before.body.given.1 c.before.before.b.given.1 c.asked_by.ensures
 
 returns-2 : tie.Need-returns-2
-returns-2 c = no-request c.before.before.before.before.body.given.1 c.before.b2.given.1
+returns-2 c = no_request c.before.before.before.before.body.given.1 c.before.b2.given.1
 
 returns-3 : tie.Need-returns-3
-returns-3 c = a-reply c.before.before.before.before.before.body2.given.1 c.before.before.b3.given.1 c.qids-in.ensures
+returns-3 c = a_reply c.before.before.before.before.before.body2.given.1 c.before.before.b3.given.1 c.qids-in.ensures
 
 returns-4 : tie.Need-returns-4
-returns-4 c = no-reply c.before.before.before.before.body2.given.1 c.before.b4.given.1
+returns-4 c = no_reply c.before.before.before.before.body2.given.1 c.before.b4.given.1
 
 pub what-in-spec : {M : Type 1} → statement M
 what-in-spec =

@@ -1,5 +1,5 @@
 -- The fid, and the newfid unless it is the same.
-use Rattle.events.proofs.Ways.{xattr-is}
+use Rattle.events.proofs.Ways.{xattr_is}
 use borrow.Author.Rules.{rules}
 use Rattle.events.proofs.xattr_walk.Statement.{statement}
 use Rattle.events.proofs.xattr_walk.Tie as tie
@@ -17,7 +17,7 @@ request-requires : tie.Need-request-requires
 request-requires c κs = tt
 
 returns : tie.Need-returns
-returns c = let a = c.before.before.before.before.before.before.args in xattr-is a.m c.before.before.before.unless-same.ensures c.request.ensures
+returns c = let a = c.before.before.before.before.before.before.args in xattr_is a.m c.before.before.before.unless-same.ensures c.request.ensures
 
 pub xattr-walk-spec : {M : Type 1} → statement M
 xattr-walk-spec =

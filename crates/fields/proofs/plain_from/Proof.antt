@@ -1,7 +1,7 @@
 -- Eight bytes, the last eight, or one of a shorter text; or none.
 use borrow.Author.Rules.{rules}
 use native.Mathlib.Omega.{arith}
-use Rattle.fields.proofs.Names.{one_plain, eight-plain, no_run, some-run}
+use Rattle.fields.proofs.Names.{one_plain, eight_plain, no_run, some_run}
 use Rattle.fields.proofs.plain_from.Statement.{statement}
 use Rattle.fields.proofs.plain_from.Tie as tie
 
@@ -9,7 +9,7 @@ shared-slice-read-is-plain : tie.Need-shared-slice-read-is-plain
 shared-slice-read-is-plain c = search rules
 
 returns : tie.Need-returns
-returns c = some-run (one_plain c.before.is_plain.ensures c.if2.true) (omega arith) (omega arith) (omega arith)
+returns c = some_run (one_plain c.before.is_plain.ensures c.if2.true) (omega arith) (omega arith) (omega arith)
 
 returns-2 : tie.Need-returns-2
 returns-2 c = no_run (omega arith)
@@ -18,7 +18,7 @@ sub-last : tie.Need-overflow-sub-last
 sub-last c = search rules
 
 returns-3 : tie.Need-returns-3
-returns-3 c = some-run (eight-plain c.before.eight-plain.ensures c.if4.true) (omega arith) (omega arith) (omega arith)
+returns-3 c = some_run (eight_plain c.before.eight_plain.ensures c.if4.true) (omega arith) (omega arith) (omega arith)
 
 returns-4 : tie.Need-returns-4
 returns-4 c = no_run (omega arith)
@@ -27,7 +27,7 @@ sub-result : tie.Need-overflow-sub-result
 sub-result c = search rules
 
 returns-5 : tie.Need-returns-5
-returns-5 c = some-run (eight-plain c.before.eight-plain2.ensures c.if5.true) (omega arith) (omega arith) (omega arith)
+returns-5 c = some_run (eight_plain c.before.eight-plain2.ensures c.if5.true) (omega arith) (omega arith) (omega arith)
 
 returns-6 : tie.Need-returns-6
 returns-6 c = no_run (omega arith)

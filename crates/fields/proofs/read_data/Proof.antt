@@ -2,7 +2,7 @@
 use native.Mathlib.Omega.{arith}
 use borrow.Author.Rules.{rules}
 use Rattle.numbers.specs.PlaceLaws.{inside}
-use Rattle.fields.proofs.Ways.{data_cut, data-limit, data-short, data-good}
+use Rattle.fields.proofs.Ways.{data_cut, data_limit, data_short, data_good}
 use Rattle.fields.proofs.read_data.Statement.{statement}
 use Rattle.fields.proofs.read_data.Tie as tie
 
@@ -20,7 +20,7 @@ cast-len c = search rules
 
 returns-2 : tie.Need-returns-2
 returns-2 c =
-    let d = c.before.before.before in data-limit d.before.before.read_u32.ensures d.a.given.1 c.if1.true
+    let d = c.before.before.before in data_limit d.before.before.read_u32.ensures d.a.given.1 c.if1.true
 
 add-end : tie.Need-overflow-add-end
 add-end c = omega (arith, inside c.before.within.ensures c.if2.true)
@@ -28,12 +28,12 @@ add-end c = omega (arith, inside c.before.within.ensures c.if2.true)
 returns-3 : tie.Need-returns-3
 returns-3 c =
     let d = c.before.before.before.before.before in
-    data-good d.before.before.read_u32.ensures d.a.given.1 c.before.before.if1.false c.before.within.ensures c.if2.true
+    data_good d.before.before.read_u32.ensures d.a.given.1 c.before.before.if1.false c.before.within.ensures c.if2.true
 
 returns-4 : tie.Need-returns-4
 returns-4 c =
     let d = c.before.before.before.before.before in
-    data-short d.before.before.read_u32.ensures d.a.given.1 c.before.before.if1.false c.before.within.ensures c.if2.false
+    data_short d.before.before.read_u32.ensures d.a.given.1 c.before.before.if1.false c.before.within.ensures c.if2.false
 
 pub read-data-spec : {M : Type 1} → statement M
 read-data-spec =

@@ -2,7 +2,7 @@
 use native.Mathlib.Omega.{arith}
 use borrow.Author.Rules.{rules}
 use Rattle.numbers.specs.Numbers.{bytes_all}
-use Rattle.fields.proofs.Ways.{count_lies, strs-cut, strs-bad, strs-on, strs-good}
+use Rattle.fields.proofs.Ways.{count_lies, strs_cut, strs_bad, strs_on, strs_good}
 use Rattle.fields.proofs.read_names.Statement.{statement}
 use Rattle.fields.proofs.read_names.Tie as tie
 
@@ -13,7 +13,7 @@ enum_told : tie.Need-enum-told
 enum_told c = search rules
 
 returns : tie.Need-returns
-returns c = strs-cut c.before.before.before.read_count.ensures c.before.enum_told.given.1 c.no_part.ensures
+returns c = strs_cut c.before.before.before.read_count.ensures c.before.enum_told.given.1 c.no_part.ensures
 
 scan-names-requires : tie.Need-scan-names-requires
 scan-names-requires c κs = count_lies c.before.before.before.read_count.ensures c.before.a.given.1
@@ -28,7 +28,7 @@ returns-2 : tie.Need-returns-2
 returns-2 c =
     let d = c.before.before.before in
     let e = d.before.before in
-    strs-bad e.before.before.read_count.ensures e.a.given.1 d.scan-names.ensures c.before.enum-told2.given.1 c.no-part2.ensures
+    strs_bad e.before.before.read_count.ensures e.a.given.1 d.scan-names.ensures c.before.enum-told2.given.1 c.no-part2.ensures
 
 sub-len : tie.Need-overflow-sub-len
 sub-len c =
@@ -36,7 +36,7 @@ sub-len c =
     let e = d.before.before in
     let r = e.before.before in
     let b = bytes_all r.before.before.args.s.now (λ i. (r.before.shared-slice-known.given i).fits) in
-    strs-on b r.read_count.ensures e.a.given.1 d.scan-names.ensures c.before.end.given.1
+    strs_on b r.read_count.ensures e.a.given.1 d.scan-names.ensures c.before.end.given.1
 
 returns-3 : tie.Need-returns-3
 returns-3 c =
@@ -44,7 +44,7 @@ returns-3 c =
     let e = d.before.before in
     let r = e.before.before in
     let b = bytes_all r.before.before.args.s.now (λ i. (r.before.shared-slice-known.given i).fits) in
-    strs-good b r.read_count.ensures e.a.given.1 d.scan-names.ensures c.before.end.given.1
+    strs_good b r.read_count.ensures e.a.given.1 d.scan-names.ensures c.before.end.given.1
 
 pub read-names-spec : {M : Type 1} → statement M
 read-names-spec =

@@ -2,7 +2,7 @@
 use native.Mathlib.Omega.{arith}
 use borrow.Author.Rules.{rules}
 use Rattle.numbers.specs.PlaceLaws.{inside}
-use Rattle.fields.proofs.Ways.{quids-cut, quids-short, quids_good}
+use Rattle.fields.proofs.Ways.{quids_cut, quids_short, quids_good}
 use Rattle.fields.proofs.read_qids.Statement.{statement}
 use Rattle.fields.proofs.read_qids.Tie as tie
 
@@ -13,7 +13,7 @@ enum_told : tie.Need-enum-told
 enum_told c = search rules
 
 returns : tie.Need-returns
-returns c = quids-cut c.before.before.before.read_count.ensures c.before.enum_told.given.1 c.no_part.ensures
+returns c = quids_cut c.before.before.before.read_count.ensures c.before.enum_told.given.1 c.no_part.ensures
 
 cast-len : tie.Need-overflow-cast-len
 cast-len c = search rules
@@ -32,7 +32,7 @@ returns-2 c =
 returns-3 : tie.Need-returns-3
 returns-3 c =
     let d = c.before.before.before.before.before in
-    quids-short d.before.before.read_count.ensures d.a.given.1 c.before.before.within.ensures c.before.if1.false c.no-part2.ensures
+    quids_short d.before.before.read_count.ensures d.a.given.1 c.before.before.within.ensures c.before.if1.false c.no-part2.ensures
 
 pub read-qids-spec : {M : Type 1} → statement M
 read-qids-spec =

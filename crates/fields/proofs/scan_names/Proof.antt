@@ -9,7 +9,7 @@ use Rattle.numbers.specs.Places.{rest_at}
 use Rattle.numbers.specs.PlaceLaws.{num_fits}
 use Rattle.strings.specs.SpanLaws.{str_is_text}
 use Rattle.fields.specs.Layouts.{read_many}
-use Rattle.fields.proofs.Names.{Left, Same, from_front, plain_run, all_good, the_name, name_length, none_left, count_cut, bytes_cut, text-bad, one-off}
+use Rattle.fields.proofs.Names.{Left, Same, from_front, plain_run, all_good, the_name, name_length, none_left, count_cut, bytes_cut, text_bad, one_off}
 use Rattle.fields.proofs.scan_names.Statement.{statement}
 use Rattle.fields.proofs.scan_names.Tie as tie
 
@@ -101,7 +101,7 @@ names-again c =
     let a = c.before.before.before.before.before.before.before in
     let r = a.before.before in
     let m = the_name r.read-u16.ensures a.a.given.1 (omega arith) in
-    (m.lies, one-off r.before.if1.false m (omega (arith, l.invariant.1)) l.invariant.2 r.before.before.names.invariant.1)
+    (m.lies, one_off r.before.if1.false m (omega (arith, l.invariant.1)) l.invariant.2 r.before.before.names.invariant.1)
 
 returns : tie.Need-returns invariant-loop decreases-loop invariant-names decreases-names
 returns c =
@@ -131,7 +131,7 @@ returns-5 c =
     let m = the_name r.read-u16.ensures a.a.given.1 (omega (arith, c.before.before.before.before.before.before.before.before.before.if2.false, c.before.before.before.before.before.before.before.before.if3.false)) in
     let b = bytes_all r.before.before.before.before.args.s.now (λ i. (r.before.before.before.shared-slice-known.given i).fits) in
     let f : r.read-u16.result.value < 65536 = num_fits b r.read-u16.ensures in
-    record { next = text-bad r.before.if1.false m (str_is_text m.lies (omega arith) c.before.before.check-str.ensures) c.enum-told3.given.1 r.before.before.names.invariant.1 }
+    record { next = text_bad r.before.if1.false m (str_is_text m.lies (omega arith) c.before.before.check-str.ensures) c.enum-told3.given.1 r.before.before.names.invariant.1 }
 
 pub scan-names-spec : {M : Type 1} → statement M
 scan-names-spec =

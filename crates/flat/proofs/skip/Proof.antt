@@ -2,7 +2,7 @@
 use borrow.Author.Rules.{rules}
 use native.Mathlib.Omega.{arith}
 use Rattle.numbers.specs.PlaceLaws.{inside}
-use Rattle.flat.specs.FlatLaws.{skip-held, skip-short}
+use Rattle.flat.specs.FlatLaws.{skip_held, skip_short}
 use Rattle.flat.proofs.skip.Statement.{statement}
 use Rattle.flat.proofs.skip.Tie as tie
 
@@ -19,10 +19,10 @@ add-t7 : tie.Need-overflow-add-t7
 add-t7 c = omega (arith, inside c.before.within.ensures c.if1.true)
 
 returns-2 : tie.Need-returns-2
-returns-2 c = skip-held c.before.before.before.p.given.1 c.before.within.ensures c.if1.true
+returns-2 c = skip_held c.before.before.before.p.given.1 c.before.within.ensures c.if1.true
 
 returns-3 : tie.Need-returns-3
-returns-3 c = skip-short c.before.before.before.p.given.1 c.before.within.ensures c.if1.false
+returns-3 c = skip_short c.before.before.before.p.given.1 c.before.within.ensures c.if1.false
 
 pub skip-spec : {M : Type 1} → statement M
 skip-spec = tie.close (tie.spec enum-known-p enum_told returns (λ _ _. tt) add-t7 returns-2 returns-3)

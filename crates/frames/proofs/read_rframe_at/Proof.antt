@@ -5,7 +5,7 @@ use mathlib.Core.Path.{sym}
 use lib.Seq.{length-take-le}
 use Rattle.numbers.specs.Numbers.{bytes_all}
 use Rattle.framing.specs.Standing.{own_held}
-use Rattle.frames.specs.FrameLaws.{rframe-no, rframe-yes, rframe-bad}
+use Rattle.frames.specs.FrameLaws.{rframe_no, rframe_yes, rframe_bad}
 use Rattle.frames.proofs.read_rframe_at.Statement.{statement}
 use Rattle.frames.proofs.read_rframe_at.Tie as tie
 
@@ -27,7 +27,7 @@ enum_told c = search rules
 returns : tie.Need-returns
 returns c =
     let h = c.before.before.before in
-    rframe-no _ _ h.before.before.min.ensures _ h.read-header.ensures c.before.enum_told.given.1 c.why.ensures
+    rframe_no _ _ h.before.before.min.ensures _ h.read-header.ensures c.before.enum_told.given.1 c.why.ensures
 
 add-reply-at : tie.Need-overflow-add-reply-at
 add-reply-at c =
@@ -55,7 +55,7 @@ returns-2 c =
     let h = d.before.before in
     let k = h.before.before.before in
     let b = bytes_all k.before.args.s.now (λ i. (k.shared-slice-known.given i).fits) in
-    rframe-yes _ _ h.before.before.min.ensures _ h.read-header.ensures b d.head.given.1 _ m.reply-at.ensures _ _ c.before.body.given.1
+    rframe_yes _ _ h.before.before.min.ensures _ h.read-header.ensures b d.head.given.1 _ m.reply-at.ensures _ _ c.before.body.given.1
 
 returns-3 : tie.Need-returns-3
 returns-3 c =
@@ -64,7 +64,7 @@ returns-3 c =
     let h = d.before.before in
     let k = h.before.before.before in
     let b = bytes_all k.before.args.s.now (λ i. (k.shared-slice-known.given i).fits) in
-    rframe-bad _ _ h.before.before.min.ensures _ h.read-header.ensures b d.head.given.1 _ m.reply-at.ensures c.before.body2.given.1
+    rframe_bad _ _ h.before.before.min.ensures _ h.read-header.ensures b d.head.given.1 _ m.reply-at.ensures c.before.body2.given.1
 
 pub read-rframe-at-spec : {M : Type 1} → statement M
 read-rframe-at-spec =

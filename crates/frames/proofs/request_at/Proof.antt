@@ -1,6 +1,6 @@
 -- The bytes used of a message, or its refusal.
 use borrow.Author.Rules.{rules}
-use Rattle.frames.specs.FrameLaws.{request-message, request-none}
+use Rattle.frames.specs.FrameLaws.{request_message, request_none}
 use Rattle.frames.proofs.request_at.Statement.{statement}
 use Rattle.frames.proofs.request_at.Tie as tie
 
@@ -13,12 +13,12 @@ enum-known-b-2 c = search rules
 returns : tie.Need-returns
 returns c =
     let d = c.before.before.before.before in
-    request-message _ _ _ d.before.body_at.ensures _ d.read-tmessage.ensures c.before.before.b.given.1 c.saturating-sub.ensures
+    request_message _ _ _ d.before.body_at.ensures _ d.read-tmessage.ensures c.before.before.b.given.1 c.saturating-sub.ensures
 
 returns-2 : tie.Need-returns-2
 returns-2 c =
     let d = c.before.before.before in
-    request-none _ _ _ d.before.body_at.ensures _ d.read-tmessage.ensures c.before.b2.given.1
+    request_none _ _ _ d.before.body_at.ensures _ d.read-tmessage.ensures c.before.b2.given.1
 
 pub request-at-spec : {M : Type 1} → statement M
 request-at-spec = tie.close (tie.spec (λ _ _. tt) (λ _ _. tt) enum-known-b (λ _ _. tt) enum-known-b-2 returns returns-2)

@@ -2,12 +2,12 @@
 use borrow.Author.Rules.{rules}
 use native.Mathlib.Omega.{arith}
 use Rattle.numbers.specs.PlaceLaws.{inside}
-use Rattle.framing.specs.CutLaws.{at-past, at_end_lem, at_cut, at_small, at_long, whole_cut, ends_there, stops-there}
+use Rattle.framing.specs.CutLaws.{at_past, at_end_lem, at_cut, at_small, at_long, whole_cut, ends_there, stops_there}
 use Rattle.framing.proofs.cut_at.Statement.{statement}
 use Rattle.framing.proofs.cut_at.Tie as tie
 
 returns : tie.Need-returns
-returns c = stops-there _ _ (λ ts rs. at-past ts rs _ _ c.if1.true)
+returns c = stops_there _ _ (λ ts rs. at_past ts rs _ _ c.if1.true)
 
 returns-2 : tie.Need-returns-2
 returns-2 c = ends_there _ _ (λ ts rs. at_end_lem ts rs _ _ c.if2.true)
@@ -19,10 +19,10 @@ enum-told-2 : tie.Need-enum-told-2
 enum-told-2 c = search rules
 
 returns-3 : tie.Need-returns-3
-returns-3 c = stops-there _ _ (λ ts rs. at_cut ts rs _ _ (omega arith) c.before.before.read_u32.ensures c.enum-told2.given.1)
+returns-3 c = stops_there _ _ (λ ts rs. at_cut ts rs _ _ (omega arith) c.before.before.read_u32.ensures c.enum-told2.given.1)
 
 returns-4 : tie.Need-returns-4
-returns-4 c = stops-there _ _ (λ ts rs. at_small ts rs _ _ c.before.before.before.before.read_u32.ensures c.before.before.enum_told.given.1 c.if3.true)
+returns-4 c = stops_there _ _ (λ ts rs. at_small ts rs _ _ c.before.before.before.before.read_u32.ensures c.before.before.enum_told.given.1 c.if3.true)
 
 cast-len : tie.Need-overflow-cast-len
 cast-len c = search rules
@@ -53,7 +53,7 @@ returns-6 c =
     let w = c.before in
     let i = w.before.before in
     let n = i.before.before in
-    stops-there _ _ (λ ts rs. at_long ts rs _ _ n.before.before.read_u32.ensures n.enum_told.given.1 i.if3.false w.within.ensures c.if4.false)
+    stops_there _ _ (λ ts rs. at_long ts rs _ _ n.before.before.read_u32.ensures n.enum_told.given.1 i.if3.false w.within.ensures c.if4.false)
 
 pub cut-at-spec : {M : Type 1} → statement M
 cut-at-spec =

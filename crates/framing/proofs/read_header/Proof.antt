@@ -4,7 +4,7 @@ use mathlib.Core.Path.{sym}
 use lib.Seq.{length-take-le}
 use borrow.Author.Rules.{rules}
 use Rattle.framing.specs.Headers.{HeadIs}
-use Rattle.framing.specs.HeaderLaws.{size_below, size_cut, head-on}
+use Rattle.framing.specs.HeaderLaws.{size_below, size_cut, head_on}
 use Rattle.framing.proofs.read_header.Statement.{statement}
 use Rattle.framing.proofs.read_header.Tie as tie
 
@@ -28,7 +28,7 @@ returns-2 : tie.Need-returns-2
 returns-2 c =
     let e = c.before.before.before in
     let d = e.before.before in
-    head-on d.before.before.read_u32.ensures d.enum_told.given.1 e.if1.false c.before.before.own.ensures _ c.type-and-tag.ensures
+    head_on d.before.before.read_u32.ensures d.enum_told.given.1 e.if1.false c.before.before.own.ensures _ c.type-and-tag.ensures
 
 returns-3 : tie.Need-returns-3
 unfolding HeadIs

@@ -1,6 +1,6 @@
 -- Measuring refused, or putting begins where it did.
 use borrow.Author.Rules.{rules}
-use Rattle.laying.proofs.Lays.{begins-not, begins}
+use Rattle.laying.proofs.Lays.{begins_not, begins}
 use Rattle.laying.proofs.begun.Statement.{statement}
 use Rattle.laying.proofs.begun.Tie as tie
 
@@ -11,7 +11,7 @@ enum-told-2 : tie.Need-enum-told-2
 enum-told-2 c = search rules
 
 returns : tie.Need-returns
-returns c = begins-not c.before.before.settled.ensures c.enum-told2.given.1
+returns c = begins_not c.before.before.settled.ensures c.enum-told2.given.1
 
 returns-2 : tie.Need-returns-2
 returns-2 c = begins c.before.before.settled.ensures c.enum_told.given.1

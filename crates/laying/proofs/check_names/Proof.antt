@@ -5,7 +5,7 @@ use mathlib.Core.Path.{sym}
 use lib.Seq.{length-take-le}
 use Rattle.numbers.specs.Numbers.{bytes_all}
 use Rattle.laying.specs.LayingLaws.{part_lies}
-use Rattle.laying.proofs.Lays.{strs-outside, strs_scanned}
+use Rattle.laying.proofs.Lays.{strs_outside, strs_scanned}
 use Rattle.laying.proofs.check_names.Statement.{statement}
 use Rattle.laying.proofs.check_names.Tie as tie
 
@@ -16,7 +16,7 @@ enum-told-2 : tie.Need-enum-told-2
 enum-told-2 c = search rules
 
 returns : tie.Need-returns
-returns c = strs-outside c.before.before.check-part.ensures c.enum-told2.given.1
+returns c = strs_outside c.before.before.check-part.ensures c.enum-told2.given.1
 
 add-stop : tie.Need-overflow-add-stop
 add-stop c = omega (arith, part_lies c.before.before.before.check-part.ensures c.before.enum_told.given.1)

@@ -1,6 +1,6 @@
 -- The part is refused, or its length is 13 for each qid, or it is not.
 use borrow.Author.Rules.{rules}
-use Rattle.laying.proofs.Lays.{quids-outside, quids-fine, quids-malformed}
+use Rattle.laying.proofs.Lays.{quids_outside, quids_fine, quids_malformed}
 use Rattle.laying.proofs.check_qids.Statement.{statement}
 use Rattle.laying.proofs.check_qids.Tie as tie
 
@@ -11,7 +11,7 @@ enum-told-2 : tie.Need-enum-told-2
 enum-told-2 c = search rules
 
 returns : tie.Need-returns
-returns c = quids-outside c.before.before.check-part.ensures c.enum-told2.given.1
+returns c = quids_outside c.before.before.check-part.ensures c.enum-told2.given.1
 
 cast-if1 : tie.Need-overflow-cast-if1
 cast-if1 c = search rules
@@ -22,12 +22,12 @@ mul-if1 c = search rules
 returns-2 : tie.Need-returns-2
 returns-2 c =
     let d = c.before.before.before in
-    quids-fine d.before.before.check-part.ensures d.enum_told.given.1 c.if1.true
+    quids_fine d.before.before.check-part.ensures d.enum_told.given.1 c.if1.true
 
 returns-3 : tie.Need-returns-3
 returns-3 c =
     let d = c.before.before.before in
-    quids-malformed d.before.before.check-part.ensures d.enum_told.given.1 c.if1.false
+    quids_malformed d.before.before.check-part.ensures d.enum_told.given.1 c.if1.false
 
 pub check-qids-spec : {M : Type 1} → statement M
 check-qids-spec =

@@ -1,5 +1,5 @@
 -- In each direction: 0 for a message, else the number of the refusal.
-use Rattle.listing.specs.AnswerLaws.{number-of-request, number-of-no-request, number-of-reply, number-of-no-reply}
+use Rattle.listing.specs.AnswerLaws.{number_of_request, number_of_no_request, number_of_reply, number_of_no_reply}
 use borrow.Author.Rules.{rules}
 use Rattle.listing.proofs.answer_of.Statement.{statement}
 use Rattle.listing.proofs.answer_of.Tie as tie
@@ -29,16 +29,16 @@ number-requires-2 : tie.Need-number-requires-2
 number-requires-2 c κs = search rules
 
 returns : tie.Need-returns
-returns c = number-of-request c.before.before.before.body.given.1 c.enum_told.given.1
+returns c = number_of_request c.before.before.before.body.given.1 c.enum_told.given.1
 
 returns-2 : tie.Need-returns-2
-returns-2 c = number-of-no-request c.before.before.before.before.before.body.given.1 c.before.before.b.given.1 c.number.ensures
+returns-2 c = number_of_no_request c.before.before.before.before.before.body.given.1 c.before.before.b.given.1 c.number.ensures
 
 returns-3 : tie.Need-returns-3
-returns-3 c = number-of-reply c.before.before.before.body2.given.1 c.enum-told2.given.1
+returns-3 c = number_of_reply c.before.before.before.body2.given.1 c.enum-told2.given.1
 
 returns-4 : tie.Need-returns-4
-returns-4 c = number-of-no-reply c.before.before.before.before.before.body2.given.1 c.before.before.b2.given.1 c.number2.ensures
+returns-4 c = number_of_no_reply c.before.before.before.before.before.body2.given.1 c.before.before.b2.given.1 c.number2.ensures
 
 pub answer-of-spec : {M : Type 1} → statement M
 answer-of-spec =

@@ -5,7 +5,7 @@ use mathlib.Core.Path.{◌≡◌, refl, ◌∙◌}
 use borrow.Author.Rules.{rules}
 use lib.ListN.{length}
 use Rattle.listing.specs.TextLaws.{all_length}
-use Rattle.listing.specs.ListLaws.{Upto, upto-none, moved, upto_next, upto-end, upto-stop}
+use Rattle.listing.specs.ListLaws.{Upto, upto_none, moved, upto_next, upto_end, upto_stop}
 use Rattle.listing.proofs.put_lines.Statement.{statement}
 use Rattle.listing.proofs.put_lines.Tie as tie
 
@@ -16,7 +16,7 @@ abbrev decreases-loop : tie.decreases-loop
 decreases-loop out₀ bytes p₀ at₀ n₀ out p at n = length bytes - at
 
 loop-holds : tie.Need-loop-init invariant-loop decreases-loop
-loop-holds c = (omega arith, omega arith, refl, upto-none)
+loop-holds c = (omega arith, omega arith, refl, upto_none)
 
 frame-at-requires : tie.Need-frame-at-requires invariant-loop decreases-loop
 frame-at-requires c κs = tt
@@ -66,7 +66,7 @@ same_length : tie.Need-same-length invariant-loop decreases-loop
 same_length c = all_length c.before.before.put-end.ensures.is ∙ c.before.before.before.before.before.before.before.before.loop.invariant.2
 
 returns : tie.Need-returns invariant-loop decreases-loop
-returns c = let i = c.before.before.before.before.before.before.before.before.loop.invariant in upto-end i.0 c.before.before.before.before.before.before.before.frame_at.ensures c.before.before.before.before.before.step2.given.1 i.3 c.before.before.put-end.ensures
+returns c = let i = c.before.before.before.before.before.before.before.before.loop.invariant in upto_end i.0 c.before.before.before.before.before.before.before.frame_at.ensures c.before.before.before.before.before.step2.given.1 i.3 c.before.before.put-end.ensures
 
 enum-known-step-3 : tie.Need-enum-known-step-3 invariant-loop decreases-loop
 enum-known-step-3 c = search rules
@@ -78,7 +78,7 @@ same-length-2 : tie.Need-same-length-2 invariant-loop decreases-loop
 same-length-2 c = all_length c.before.before.put-stop.ensures.is ∙ c.before.before.before.before.before.before.before.before.loop.invariant.2
 
 returns-2 : tie.Need-returns-2 invariant-loop decreases-loop
-returns-2 c = let i = c.before.before.before.before.before.before.before.before.loop.invariant in upto-stop i.0 c.before.before.before.before.before.before.before.frame_at.ensures c.before.before.before.before.before.step3.given.1 i.3 c.before.before.put-stop.ensures
+returns-2 c = let i = c.before.before.before.before.before.before.before.before.loop.invariant in upto_stop i.0 c.before.before.before.before.before.before.before.frame_at.ensures c.before.before.before.before.before.step3.given.1 i.3 c.before.before.put-stop.ensures
 
 pub put-lines-spec : {M : Type 1} → statement M
 put-lines-spec =

@@ -3,7 +3,7 @@ use native.Mathlib.Omega.{arith}
 use Rattle.places.specs.Places.{name_in}
 use lib.ListN.{length, get_or}
 use mathlib.Core.Path.{sym, ap, ◌∙◌}
-use Rattle.places.specs.PathLaws.{put-root, put-longer, put-older}
+use Rattle.places.specs.PathLaws.{put_root, put_longer, put_older}
 use Prim.Native.Nat.{ℕ, suc, ◌+◌, ◌<◌}
 use borrow.Fn.Kinds.{In}
 use borrow.Fn.PlainCycle.{Measures, is, falls, and}
@@ -53,7 +53,7 @@ put-path-put-path-requires : (t : ℕ) → put-path-lts.Need-put-path-requires (
   put-name-reads.Asked,
   put-name-reads.Learnt,
 ) (put-path-at t) put-path.Post
-put-path-put-path-requires t c κs = let a = c.before.before.before.before.before.before.args in let d = c.before in let x = put-longer a.stretch.now a.older.now a.starts.now a.lens.now a.out.now c.before.before.before.wide.ensures.0 d.if1.true c.before.before.before.before.before.before.requires.1 in (omega (arith, c.before.before.before.before.before.before.requires.0, d.if1.true), omega (arith, x, c.before.before.before.before.before.before.requires.1))
+put-path-put-path-requires t c κs = let a = c.before.before.before.before.before.before.args in let d = c.before in let x = put_longer a.stretch.now a.older.now a.starts.now a.lens.now a.out.now c.before.before.before.wide.ensures.0 d.if1.true c.before.before.before.before.before.before.requires.1 in (omega (arith, c.before.before.before.before.before.before.requires.0, d.if1.true), omega (arith, x, c.before.before.before.before.before.before.requires.1))
 
 put-path-mul-start : (t : ℕ) → put-path-lts.Need-overflow-mul-start (
   wide-reads.Asked,
@@ -103,7 +103,7 @@ put-path-put-name-requires : (t : ℕ) → put-path-lts.Need-put-name-requires (
   put-name-reads.Asked,
   put-name-reads.Learnt,
 ) (put-path-at t) put-path.Post
-put-path-put-name-requires t c κs = let a = c.before.before.before.before.before.before.before.before.before.before.before.before.args in let x = put-longer a.stretch.now a.older.now a.starts.now a.lens.now a.out.now c.before.before.before.before.before.before.before.before.before.wide.ensures.0 c.before.before.before.before.before.before.before.if1.true c.before.before.before.before.before.before.before.before.before.before.before.before.requires.1 in omega (arith, x, c.before.before.before.before.before.before.before.before.before.before.before.before.requires.1, c.before.before.before.before.before.put-path.ensures.0, c.before.before.before.before.before.put-path.auto.0)
+put-path-put-name-requires t c κs = let a = c.before.before.before.before.before.before.before.before.before.before.before.before.args in let x = put_longer a.stretch.now a.older.now a.starts.now a.lens.now a.out.now c.before.before.before.before.before.before.before.before.before.wide.ensures.0 c.before.before.before.before.before.before.before.if1.true c.before.before.before.before.before.before.before.before.before.before.before.before.requires.1 in omega (arith, x, c.before.before.before.before.before.before.before.before.before.before.before.before.requires.1, c.before.before.before.before.before.put-path.ensures.0, c.before.before.before.before.before.put-path.auto.0)
 
 put-path-same-length : (t : ℕ) → put-path-lts.Need-same-length (
   wide-reads.Asked,
@@ -123,7 +123,7 @@ put-path-returns : (t : ℕ) → put-path-lts.Need-returns (
   put-name-reads.Asked,
   put-name-reads.Learnt,
 ) (put-path-at t) put-path.Post
-put-path-returns t c = let a = c.before.before.before.before.before.before.before.before.before.before.before.before.before.before.before.args in let w = c.before.before.before.before.before.before.before.before.before.before.before.before.wide.ensures.0 in let h = c.before.before.before.before.before.before.before.before.before.before.if1.true in let p = c.before.before.before.before.before.before.before.before.put-path.ensures in let q = c.before.before.put-name.ensures in (q.0 ∙ ap (λ (n : ℕ). n + suc (length (name_in a.stretch.now (get_or a.starts.now c.before.before.before.before.before.before.before.before.before.before.before.before.wide.result 0) (get_or a.lens.now c.before.before.before.before.before.before.before.before.before.before.before.before.wide.result 0)))) p.0 ∙ sym (put-longer a.stretch.now a.older.now a.starts.now a.lens.now a.out.now w h c.before.before.before.before.before.before.before.before.before.before.before.before.before.before.before.requires.1), put-older a.stretch.now a.older.now a.starts.now a.lens.now a.out.now w h c.before.before.before.before.before.before.before.before.before.before.before.before.before.before.before.requires.1 p.0 p.1 q.1)
+put-path-returns t c = let a = c.before.before.before.before.before.before.before.before.before.before.before.before.before.before.before.args in let w = c.before.before.before.before.before.before.before.before.before.before.before.before.wide.ensures.0 in let h = c.before.before.before.before.before.before.before.before.before.before.if1.true in let p = c.before.before.before.before.before.before.before.before.put-path.ensures in let q = c.before.before.put-name.ensures in (q.0 ∙ ap (λ (n : ℕ). n + suc (length (name_in a.stretch.now (get_or a.starts.now c.before.before.before.before.before.before.before.before.before.before.before.before.wide.result 0) (get_or a.lens.now c.before.before.before.before.before.before.before.before.before.before.before.before.wide.result 0)))) p.0 ∙ sym (put_longer a.stretch.now a.older.now a.starts.now a.lens.now a.out.now w h c.before.before.before.before.before.before.before.before.before.before.before.before.before.before.before.requires.1), put_older a.stretch.now a.older.now a.starts.now a.lens.now a.out.now w h c.before.before.before.before.before.before.before.before.before.before.before.before.before.before.before.requires.1 p.0 p.1 q.1)
 
 put-path-returns-2 : (t : ℕ) → put-path-lts.Need-returns-2 (
   wide-reads.Asked,
@@ -133,7 +133,7 @@ put-path-returns-2 : (t : ℕ) → put-path-lts.Need-returns-2 (
   put-name-reads.Asked,
   put-name-reads.Learnt,
 ) (put-path-at t) put-path.Post
-put-path-returns-2 t c = let a = c.before.before.before.before.before.args in put-root a.stretch.now a.older.now a.starts.now a.lens.now a.out.now c.before.before.wide.ensures.0 c.if1.false
+put-path-returns-2 t c = let a = c.before.before.before.before.before.args in put_root a.stretch.now a.older.now a.starts.now a.lens.now a.out.now c.before.before.wide.ensures.0 c.if1.false
 
 pub +put-path-spec : {M : Type 1} → statement M
 +put-path-spec = close μ-put-path λ t. put-path-lts.spec (

@@ -1,5 +1,5 @@
 use native.Mathlib.Omega.{arith}
-use Rattle.places.specs.PathLaws.{fits-root, fits_not, fits-older}
+use Rattle.places.specs.PathLaws.{fits_root, fits_not, fits_older}
 -- The invariant: what is left is enough for the path of the place that is come to, exactly if all was for that of the first.
 use mathlib.Core.Path.{◌≡◌, refl, ◌∙◌}
 use lib.ListN.{length}
@@ -24,7 +24,7 @@ element-copy-out-o : tie.Need-element-copy-out-o invariant-loop decreases-loop
 element-copy-out-o c = c.wide.ensures.1
 
 returns : tie.Need-returns invariant-loop decreases-loop
-returns c = let a = c.before.before.before.before.before.args in let l = c.before.before.before.loop in fits-root a.stretch.now a.older.now a.starts.now a.lens.now l.left c.before.before.wide.ensures.0 c.if1.true ∙ l.invariant
+returns c = let a = c.before.before.before.before.before.args in let l = c.before.before.before.loop in fits_root a.stretch.now a.older.now a.starts.now a.lens.now l.left c.before.before.wide.ensures.0 c.if1.true ∙ l.invariant
 
 mul-start : tie.Need-overflow-mul-start invariant-loop decreases-loop
 mul-start c = omega (arith, c.before.before.wide.ensures.1)
@@ -54,7 +54,7 @@ loop-less : tie.Need-loop-smaller invariant-loop decreases-loop
 loop-less c = c.before.before.before.before.if1.false
 
 loop-again : tie.Need-loop-preserved invariant-loop decreases-loop
-loop-again c = let a = c.before.before.before.before.before.before.before.before.before.args in let l = c.before.before.before.before.before.before.before.loop in fits-older a.stretch.now a.older.now a.starts.now a.lens.now l.left c.before.before.before.before.before.before.wide.ensures.0 c.before.before.before.before.if1.false c.before.shown.ensures.is c.if2.false ∙ l.invariant
+loop-again c = let a = c.before.before.before.before.before.before.before.before.before.args in let l = c.before.before.before.before.before.before.before.loop in fits_older a.stretch.now a.older.now a.starts.now a.lens.now l.left c.before.before.before.before.before.before.wide.ensures.0 c.before.before.before.before.if1.false c.before.shown.ensures.is c.if2.false ∙ l.invariant
 
 pub fits-spec : {M : Type 1} → statement M
 fits-spec =

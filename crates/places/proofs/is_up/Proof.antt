@@ -1,5 +1,5 @@
 -- Two dots, something else of two bytes, another length.
-use Rattle.places.specs.PlaceLaws.{up-dots, up-other, up-short}
+use Rattle.places.specs.PlaceLaws.{up_dots, up_other, up_short}
 use borrow.Author.Rules.{rules}
 use Rattle.places.proofs.is_up.Statement.{statement}
 use Rattle.places.proofs.is_up.Tie as tie
@@ -14,13 +14,13 @@ shared-slice-read-result : tie.Need-shared-slice-read-result
 shared-slice-read-result c = search rules
 
 returns : tie.Need-returns
-returns c = up-dots c.before.before.before.before.shown.ensures.is c.before.before.before.if1.true c.before.if2.true
+returns c = up_dots c.before.before.before.before.shown.ensures.is c.before.before.before.if1.true c.before.if2.true
 
 returns-2 : tie.Need-returns-2
-returns-2 c = up-other c.before.before.before.shown.ensures.is c.before.before.if1.true c.if2.false
+returns-2 c = up_other c.before.before.before.shown.ensures.is c.before.before.if1.true c.if2.false
 
 returns-3 : tie.Need-returns-3
-returns-3 c = up-short c.before.shown.ensures.is c.if1.false
+returns-3 c = up_short c.before.shown.ensures.is c.if1.false
 
 pub is-up-spec : {M : Type 1} → statement M
 is-up-spec =

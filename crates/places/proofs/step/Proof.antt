@@ -1,5 +1,5 @@
 -- Up, or a child.
-use Rattle.places.specs.PlaceLaws.{step-up, step-on}
+use Rattle.places.specs.PlaceLaws.{step_up, step_on}
 use borrow.Author.Rules.{rules}
 use Rattle.places.proofs.step.Statement.{statement}
 use Rattle.places.proofs.step.Tie as tie
@@ -14,13 +14,13 @@ element-copy-out-older : tie.Need-element-copy-out-older
 element-copy-out-older c = search rules
 
 returns : tie.Need-returns
-returns c = let a = c.before.before.before.before.before.args in step-up a.stretch.now a.t1 a.from a.name.start a.name.len c.before.before.before.is_up.ensures c.before.before.if1.true c.before.wide.ensures.0
+returns c = let a = c.before.before.before.before.before.args in step_up a.stretch.now a.t1 a.from a.name.start a.name.len c.before.before.before.is_up.ensures c.before.before.if1.true c.before.wide.ensures.0
 
 child-requires : tie.Need-child-requires
 child-requires c κs = search rules
 
 returns-2 : tie.Need-returns-2
-returns-2 c = let a = c.before.before.before.before.args in step-on a.stretch.now a.t1 a.from a.name.start a.name.len c.before.before.is_up.ensures c.before.if1.false c.child.ensures
+returns-2 c = let a = c.before.before.before.before.args in step_on a.stretch.now a.t1 a.from a.name.start a.name.len c.before.before.is_up.ensures c.before.if1.false c.child.ensures
 
 pub step_spec : {M : Type 1} → statement M
 step_spec =

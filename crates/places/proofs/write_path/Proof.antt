@@ -1,5 +1,5 @@
 -- It fits and is put, or does not fit.
-use Rattle.places.specs.PathLaws.{path-put, path-no-room}
+use Rattle.places.specs.PathLaws.{path_put, path_no_room}
 use borrow.Author.Rules.{rules}
 use borrow.Author.Tests.{leb-true}
 use mathlib.Core.Path.{sym, ◌∙◌}
@@ -16,10 +16,10 @@ same_length : tie.Need-same-length
 same_length c = search rules
 
 returns : tie.Need-returns
-returns c = path-put c.before.before.before.before.before.before.before.before.before.fits2.ensures c.before.before.before.before.before.before.before.before.if1.true c.before.before.put-path.ensures.0 c.before.before.put-path.ensures.1
+returns c = path_put c.before.before.before.before.before.before.before.before.before.fits2.ensures c.before.before.before.before.before.before.before.before.if1.true c.before.before.put-path.ensures.0 c.before.before.put-path.ensures.1
 
 returns-2 : tie.Need-returns-2
-returns-2 c = path-no-room c.before.fits2.ensures c.if1.false
+returns-2 c = path_no_room c.before.fits2.ensures c.if1.false
 
 pub write-path-spec : {M : Type 1} → statement M
 write-path-spec =

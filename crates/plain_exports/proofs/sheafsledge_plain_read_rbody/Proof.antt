@@ -2,7 +2,7 @@
 -- Read flat where the body begins, and told by the bytes used.
 use mathlib.Core.Path.{ap, ◌∙◌}
 use Rattle.exports.specs.Answers.{ended}
-use Rattle.exports.specs.FrameReading.{body-read}
+use Rattle.exports.specs.FrameReading.{body_read}
 use Rattle.plain_exports.proofs.sheafsledge_plain_read_rbody.Statement.{statement}
 use Rattle.plain_exports.proofs.sheafsledge_plain_read_rbody.Tie as tie
 
@@ -10,7 +10,7 @@ returns : tie.Need-returns
 returns c =
     let u = c.before in
     let f = u.before in
-    body-read _ _ _ _ f.before.before.body_at.ensures f.read-flat.ensures (c.ended.ensures ∙ ap ended u.used.ensures)
+    body_read _ _ _ _ f.before.before.body_at.ensures f.read-flat.ensures (c.ended.ensures ∙ ap ended u.used.ensures)
 
 pub sheafsledge-plain-read-rbody-spec : {M : Type 1} → statement M
 sheafsledge-plain-read-rbody-spec = tie.close (tie.spec (λ _ _. tt) (λ _ _. tt) (λ _ _. tt) (λ _ _. tt) returns)

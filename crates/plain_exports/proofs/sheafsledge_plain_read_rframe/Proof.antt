@@ -7,7 +7,7 @@ use Rattle.numbers.specs.Numbers.{bytes_all}
 use Rattle.framing.specs.HeaderLaws.{head_yes}
 use Rattle.exports.specs.Answers.{ended}
 use Rattle.layouts.specs.Plain.{table_r}
-use Rattle.exports.specs.FrameReading.{flat_replies, headless-read, frame-read, body-failed}
+use Rattle.exports.specs.FrameReading.{flat_replies, headless_read, frame_read, body_failed}
 use Rattle.plain_exports.proofs.sheafsledge_plain_read_rframe.Statement.{statement}
 use Rattle.plain_exports.proofs.sheafsledge_plain_read_rframe.Tie as tie
 
@@ -35,7 +35,7 @@ returns c =
     let d = f.before.before.before.before in
     let e = d.before.before in
     let b = bytes_all e.before.before.args.bytes.now (λ i. (e.before.shared-slice-known.given i).fits) in
-    body-failed (flat_replies table_r) _ e.read-header.ensures b d.head.given.1 f.read-flat.ensures q.enum-told2.given.1 (c.ended.ensures ∙ ap ended q.enum-told2.given.1)
+    body_failed (flat_replies table_r) _ e.read-header.ensures b d.head.given.1 f.read-flat.ensures q.enum-told2.given.1 (c.ended.ensures ∙ ap ended q.enum-told2.given.1)
 
 returns-2 : tie.Need-returns-2
 returns-2 c =
@@ -44,12 +44,12 @@ returns-2 c =
     let d = f.before.before.before.before in
     let e = d.before.before in
     let b = bytes_all e.before.before.args.bytes.now (λ i. (e.before.shared-slice-known.given i).fits) in
-    frame-read (flat_replies table_r) _ e.read-header.ensures b d.head.given.1 f.read-flat.ensures q.enum_told.given.1 c.outcome-of.ensures
+    frame_read (flat_replies table_r) _ e.read-header.ensures b d.head.given.1 f.read-flat.ensures q.enum_told.given.1 c.outcome-of.ensures
 
 returns-3 : tie.Need-returns-3
 returns-3 c =
     let d = c.before.before in
-    headless-read (flat_replies table_r) _ d.before.before.read-header.ensures d.head2.given.1 c.ended2.ensures refl
+    headless_read (flat_replies table_r) _ d.before.before.read-header.ensures d.head2.given.1 c.ended2.ensures refl
 
 pub sheafsledge-plain-read-rframe-spec : {M : Type 1} → statement M
 sheafsledge-plain-read-rframe-spec =

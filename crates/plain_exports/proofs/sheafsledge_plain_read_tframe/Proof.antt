@@ -6,7 +6,7 @@ use lib.Seq.{length-take-le}
 use Rattle.numbers.specs.Numbers.{bytes_all}
 use Rattle.framing.specs.HeaderLaws.{head_yes}
 use Rattle.layouts.specs.Plain.{table_t}
-use Rattle.exports.specs.FrameReading.{flat_requests, headless-read, request_read}
+use Rattle.exports.specs.FrameReading.{flat_requests, headless_read, request_read}
 use Rattle.plain_exports.proofs.sheafsledge_plain_read_tframe.Statement.{statement}
 use Rattle.plain_exports.proofs.sheafsledge_plain_read_tframe.Tie as tie
 
@@ -32,7 +32,7 @@ returns c =
 returns-2 : tie.Need-returns-2
 returns-2 c =
     let d = c.before.before in
-    headless-read (flat_requests table_t) _ d.before.before.read-header.ensures d.head2.given.1 c.ended.ensures refl
+    headless_read (flat_requests table_t) _ d.before.before.read-header.ensures d.head2.given.1 c.ended.ensures refl
 
 pub sheafsledge-plain-read-tframe-spec : {M : Type 1} → statement M
 sheafsledge-plain-read-tframe-spec =

@@ -6,7 +6,7 @@ use mathlib.Core.Path.{sym}
 use lib.Seq.{length-take-le}
 use Rattle.numbers.specs.Numbers.{bytes_all}
 use Rattle.framing.specs.Standing.{own_held}
-use Rattle.plain_frames.specs.FrameLaws.{tframe-no, tframe-yes}
+use Rattle.plain_frames.specs.FrameLaws.{tframe_no, tframe_yes}
 use Rattle.plain_frames.proofs.read_tframe_at.Statement.{statement}
 use Rattle.plain_frames.proofs.read_tframe_at.Tie as tie
 
@@ -28,7 +28,7 @@ enum_told c = search rules
 returns : tie.Need-returns
 returns c =
     let h = c.before.before.before in
-    tframe-no _ _ h.before.before.min.ensures _ h.read-header.ensures c.before.enum_told.given.1 c.why.ensures
+    tframe_no _ _ h.before.before.min.ensures _ h.read-header.ensures c.before.enum_told.given.1 c.why.ensures
 
 add-request-at : tie.Need-overflow-add-request-at
 add-request-at c =
@@ -49,7 +49,7 @@ returns-2 c =
     let h = d.before.before in
     let k = h.before.before.before in
     let b = bytes_all k.before.args.s.now (λ i. (k.shared-slice-known.given i).fits) in
-    tframe-yes _ _ h.before.before.min.ensures _ h.read-header.ensures _ b d.head.given.1 c.request-at.ensures
+    tframe_yes _ _ h.before.before.min.ensures _ h.read-header.ensures _ b d.head.given.1 c.request-at.ensures
 
 pub read-tframe-at-spec : {M : Type 1} → statement M
 read-tframe-at-spec =

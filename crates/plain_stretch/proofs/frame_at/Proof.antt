@@ -5,7 +5,7 @@ use mathlib.Core.Path.{sym}
 use lib.Seq.{length-take-le}
 use Rattle.numbers.specs.Numbers.{bytes_all}
 use Rattle.layouts.specs.Plain.{table_t, table_r}
-use Rattle.framing.specs.CutLaws.{cut-whole, cut-end, cut-stop}
+use Rattle.framing.specs.CutLaws.{cut_whole, cut_end, cut_stop}
 use Rattle.plain_stretch.specs.StepLaws.{at_frame, asked_end, asked_stop}
 use Rattle.plain_stretch.proofs.frame_at.Statement.{statement}
 use Rattle.plain_stretch.proofs.frame_at.Tie as tie
@@ -21,20 +21,20 @@ enum-known-cut-2 c = search rules
 
 slice-aggregate-whole-frame : tie.Need-slice-aggregate-whole-frame
 slice-aggregate-whole-frame c =
-    let d = c.before.before in sym (length-take-le _ _ (cut-whole _ _ d.before.before.cut_at.ensures d.cut.given.1).held)
+    let d = c.before.before in sym (length-take-le _ _ (cut_whole _ _ d.before.before.cut_at.ensures d.cut.given.1).held)
 
 returns : tie.Need-returns
 returns c =
     let k = c.before.before.before in
     let a = k.before.before in
     let b = bytes_all a.before.before.args.bytes.now (λ i. (a.before.shared-slice-known.given i).fits) in
-    at_frame _ b (cut-whole _ _ a.cut_at.ensures k.cut.given.1) c.whole_frame.ensures
+    at_frame _ b (cut_whole _ _ a.cut_at.ensures k.cut.given.1) c.whole_frame.ensures
 
 returns-2 : tie.Need-returns-2
-returns-2 c = asked_end (cut-end _ _ c.before.before.cut_at.ensures c.enum_told.given.1 table_t table_r)
+returns-2 c = asked_end (cut_end _ _ c.before.before.cut_at.ensures c.enum_told.given.1 table_t table_r)
 
 returns-3 : tie.Need-returns-3
-returns-3 c = asked_stop (cut-stop _ _ c.before.before.before.cut_at.ensures c.before.cut2.given.1 table_t table_r)
+returns-3 c = asked_stop (cut_stop _ _ c.before.before.before.cut_at.ensures c.before.cut2.given.1 table_t table_r)
 
 pub frame-at-spec : {M : Type 1} → statement M
 frame-at-spec =

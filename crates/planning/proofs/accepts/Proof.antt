@@ -6,8 +6,8 @@ use borrow.Author.Tests.{not-true, not-false}
 use native.Mathlib.Omega.{arith}
 use lib.ListN.{length, drop}
 use Rattle.planning.specs.Plans.{runs_on}
-use Rattle.planning.specs.PlanLaws.{good, accepted-refused, accepted-runs}
-use Rattle.planning.proofs.Loops.{follows_in, look-turn, look_stop, look-ends}
+use Rattle.planning.specs.PlanLaws.{good, accepted_refused, accepted_runs}
+use Rattle.planning.proofs.Loops.{follows_in, look_turn, look_stop, look_ends}
 use Rattle.planning.proofs.accepts.Statement.{statement}
 use Rattle.planning.proofs.accepts.Tie as tie
 
@@ -27,13 +27,13 @@ returns : tie.Need-returns invariant-loop decreases-loop
 returns c =
     let k = c.before.before in
     let a = k.before.args in
-    accepted-refused a.first a.len a.msize a.pieces.now (sym c.enum-told2.given.1 ∙ k.agree.ensures)
+    accepted_refused a.first a.len a.msize a.pieces.now (sym c.enum-told2.given.1 ∙ k.agree.ensures)
 
 most-data-requires : tie.Need-most-data-requires invariant-loop decreases-loop
 most-data-requires c κs =
     let k = c.before.before in
     let a = k.before.args in
-    (good a.first a.len a.msize (sym c.enum_told.given.1 ∙ k.agree.ensures)).msize-is
+    (good a.first a.len a.msize (sym c.enum_told.given.1 ∙ k.agree.ensures)).msize_is
 
 loop-holds : tie.Need-loop-init invariant-loop decreases-loop
 loop-holds c = search rules
@@ -64,7 +64,7 @@ returns-2 c =
     let a = k.before.args in
     let e = sym m.before.enum_told.given.1 ∙ k.agree.ensures in
     let g = good a.first a.len a.msize e in
-    look_stop a.msize g.msize-is m.most-data.result m.most-data.ensures a.pieces.now l.loop.at l.loop.left (a.first + a.len) l.loop.i l.loop.invariant.1 (omega arith) c.before.follows.ensures (not-true _ c.if1.true) ∙ l.loop.invariant.2 ∙ accepted-runs a.first a.len a.msize a.pieces.now e
+    look_stop a.msize g.msize_is m.most-data.result m.most-data.ensures a.pieces.now l.loop.at l.loop.left (a.first + a.len) l.loop.i l.loop.invariant.1 (omega arith) c.before.follows.ensures (not-true _ c.if1.true) ∙ l.loop.invariant.2 ∙ accepted_runs a.first a.len a.msize a.pieces.now e
 
 add_at : tie.Need-overflow-add-at invariant-loop decreases-loop
 add_at c =
@@ -96,7 +96,7 @@ loop-again c =
     let g = good a.first a.len a.msize e in
     let y = not-false _ c.if1.false in
     let h = follows_in c.before.follows.ensures y in
-    (omega arith, omega (arith, l.loop.invariant.1), look-turn a.msize g.msize-is m.most-data.result m.most-data.ensures a.pieces.now l.loop.at l.loop.left (a.first + a.len) l.loop.i l.loop.invariant.1 (omega arith) c.before.follows.ensures y ∙ l.loop.invariant.2)
+    (omega arith, omega (arith, l.loop.invariant.1), look_turn a.msize g.msize_is m.most-data.result m.most-data.ensures a.pieces.now l.loop.at l.loop.left (a.first + a.len) l.loop.i l.loop.invariant.1 (omega arith) c.before.follows.ensures y ∙ l.loop.invariant.2)
 
 returns-3 : tie.Need-returns-3 invariant-loop decreases-loop
 returns-3 c =
@@ -106,7 +106,7 @@ returns-3 c =
     let a = k.before.args in
     let e = sym m.before.enum_told.given.1 ∙ k.agree.ensures in
     let g = good a.first a.len a.msize e in
-    look-ends a.msize g.msize-is m.most-data.result m.most-data.ensures a.pieces.now l.loop.at l.loop.left (a.first + a.len) l.loop.i l.loop.invariant.1 (omega arith) ∙ l.loop.invariant.2 ∙ accepted-runs a.first a.len a.msize a.pieces.now e
+    look_ends a.msize g.msize_is m.most-data.result m.most-data.ensures a.pieces.now l.loop.at l.loop.left (a.first + a.len) l.loop.i l.loop.invariant.1 (omega arith) ∙ l.loop.invariant.2 ∙ accepted_runs a.first a.len a.msize a.pieces.now e
 
 pub accepts-spec : {M : Type 1} → statement M
 accepts-spec =

@@ -1,7 +1,7 @@
 -- Refused before the table is looked at; too few rows; or the pieces put.
 use native.Mathlib.Omega.{arith}
 use mathlib.Core.Path.{◌≡◌, sym, ◌∙◌}
-use Rattle.planning.specs.PlanLaws.{most-some, good, planned-refused, planned-full, planned-fits}
+use Rattle.planning.specs.PlanLaws.{most_some, good, planned_refused, planned_full, planned_fits}
 use borrow.Author.Rules.{rules}
 use Rattle.planning.proofs.plan.Statement.{statement}
 use Rattle.planning.proofs.plan.Tie as tie
@@ -16,13 +16,13 @@ returns : tie.Need-returns
 returns c =
     let k = c.before.before in
     let a = k.before.args in
-    planned-refused a.first a.len a.msize a.table.now k.agree.ensures c.enum-told2.given.1
+    planned_refused a.first a.len a.msize a.table.now k.agree.ensures c.enum-told2.given.1
 
 most-data-requires : tie.Need-most-data-requires
 most-data-requires c κs =
     let k = c.before.before in
     let a = k.before.args in
-    (good a.first a.len a.msize (sym c.enum_told.given.1 ∙ k.agree.ensures)).msize-is
+    (good a.first a.len a.msize (sym c.enum_told.given.1 ∙ k.agree.ensures)).msize_is
 
 fewest-requires : tie.Need-fewest-requires
 fewest-requires c κs =
@@ -30,7 +30,7 @@ fewest-requires c κs =
     let k = t.before.before in
     let a = k.before.args in
     let g = good a.first a.len a.msize (sym t.enum_told.given.1 ∙ k.agree.ensures) in
-    omega (arith, most-some a.msize g.msize-is, c.most-data.ensures)
+    omega (arith, most_some a.msize g.msize_is, c.most-data.ensures)
 
 returns-2 : tie.Need-returns-2
 returns-2 c =
@@ -39,7 +39,7 @@ returns-2 c =
     let k = m.before.before.before in
     let a = k.before.args in
     let e = sym m.before.enum_told.given.1 ∙ k.agree.ensures in
-    planned-full a.first a.len a.msize a.table.now e m.most-data.ensures f.fewest.ensures (omega arith)
+    planned_full a.first a.len a.msize a.table.now e m.most-data.ensures f.fewest.ensures (omega arith)
 
 put-pieces-requires : tie.Need-put-pieces-requires
 put-pieces-requires c κs =
@@ -60,7 +60,7 @@ returns-3 c =
     let k = m.before.before.before in
     let a = k.before.args in
     let e = sym m.before.enum_told.given.1 ∙ k.agree.ensures in
-    planned-fits a.first a.len a.msize a.table.now e m.most-data.ensures f.fewest.ensures (omega arith) c.before.put-pieces.ensures
+    planned_fits a.first a.len a.msize a.table.now e m.most-data.ensures f.fewest.ensures (omega arith) c.before.put-pieces.ensures
 
 pub plan-spec : {M : Type 1} → statement M
 plan-spec =

@@ -2,7 +2,7 @@
 use Rattle.std.proofs.Common.{◌≡◌, ◌+◌, ◌-◌, ◌/◌, ◌≤◌, min, length, take, refl, ap, arith, length-set, rules}
 use lib.Seq.{sets}
 use Rattle.questions.specs.Questions.{spelt}
-use Rattle.questions.proofs.Loops.{rest, rest_begins, rest-turn, rest-stops, rest_over, spell_turn, spell_over}
+use Rattle.questions.proofs.Loops.{rest, rest_begins, rest_turn, rest_stops, rest_over, spell_turn, spell_over}
 use Rattle.questions.proofs.spell.Statement.{statement}
 use Rattle.questions.proofs.spell.Tie as tie
 
@@ -50,7 +50,7 @@ returns c =
     let d = c.before.before.before.before.before.before in
     let a = d.before.before.before.before.args in
     let l = d.loop in
-    let z = rest-stops a.hex.now (length a.out.now) l.i (omega arith) (omega arith) c.before.before.before.digit.ensures.0 c.before.digit2.ensures.0 c.if1.true in
+    let z = rest_stops a.hex.now (length a.out.now) l.i (omega arith) (omega arith) c.before.before.before.digit.ensures.0 c.before.digit2.ensures.0 c.if1.true in
     spell_over a.out.now l.out l.i _ a.hex.now z refl l.invariant.3 l.invariant.4
 
 cast-out : tie.Need-overflow-cast-out invariant-loop decreases-loop
@@ -70,7 +70,7 @@ loop-again c =
     let d = c.before.before.before.before.before.before in
     let a = d.before.before.before.before.args in
     let l = d.loop in
-    let t = rest-turn a.hex.now (length a.out.now) l.i (omega arith) (omega arith) c.before.before.before.digit.ensures.0 c.before.digit2.ensures.0 c.if1.false in
+    let t = rest_turn a.hex.now (length a.out.now) l.i (omega arith) (omega arith) c.before.before.before.digit.ensures.0 c.before.digit2.ensures.0 c.if1.false in
     (search rules, l.invariant.1, simp length-set l.invariant.2, spell_turn l.out l.i _ t l.invariant.3, omega (arith, ap length t))
 
 same-length-2 : tie.Need-same-length-2 invariant-loop decreases-loop

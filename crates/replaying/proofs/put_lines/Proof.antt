@@ -3,7 +3,7 @@ use native.Mathlib.Omega.{arith}
 use borrow.Author.Rules.{rules}
 use Rattle.listing.specs.TextLaws.{all_length}
 use Rattle.listing.specs.ListLaws.{moved}
-use Rattle.replaying.specs.ReplayLaws.{Upto, upto-none, upto_next, upto-end, upto-stop}
+use Rattle.replaying.specs.ReplayLaws.{Upto, upto_none, upto_next, upto_end, upto_stop}
 use lib.ListN.{length}
 use mathlib.Core.Path.{◌≡◌, refl, ◌∙◌}
 use Prim.Native.Nat.{◌≤◌, ◌-◌}
@@ -20,7 +20,7 @@ fresh-requires : tie.Need-fresh-requires invariant-loop decreases-loop
 fresh-requires c κs = tt
 
 loop-holds : tie.Need-loop-init invariant-loop decreases-loop
-loop-holds c = (omega arith, omega arith, refl, upto-none c.fresh.ensures)
+loop-holds c = (omega arith, omega arith, refl, upto_none c.fresh.ensures)
 
 frame-at-requires : tie.Need-frame-at-requires invariant-loop decreases-loop
 frame-at-requires c κs = tt
@@ -59,7 +59,7 @@ same_length : tie.Need-same-length invariant-loop decreases-loop
 same_length c = all_length c.before.before.put-end.ensures.is ∙ c.before.before.before.before.before.before.before.before.loop.invariant.2
 
 returns : tie.Need-returns invariant-loop decreases-loop
-returns c = let i = c.before.before.before.before.before.before.before.before.loop.invariant in upto-end i.0 c.before.before.before.before.before.before.before.frame_at.ensures c.before.before.before.before.before.step2.given.1 i.3 c.before.before.put-end.ensures
+returns c = let i = c.before.before.before.before.before.before.before.before.loop.invariant in upto_end i.0 c.before.before.before.before.before.before.before.frame_at.ensures c.before.before.before.before.before.step2.given.1 i.3 c.before.before.put-end.ensures
 
 enum-known-step-3 : tie.Need-enum-known-step-3 invariant-loop decreases-loop
 enum-known-step-3 c = search rules
@@ -71,7 +71,7 @@ same-length-2 : tie.Need-same-length-2 invariant-loop decreases-loop
 same-length-2 c = all_length c.before.before.put-stop.ensures.is ∙ c.before.before.before.before.before.before.before.before.loop.invariant.2
 
 returns-2 : tie.Need-returns-2 invariant-loop decreases-loop
-returns-2 c = let i = c.before.before.before.before.before.before.before.before.loop.invariant in upto-stop i.0 c.before.before.before.before.before.before.before.frame_at.ensures c.before.before.before.before.before.step3.given.1 i.3 c.before.before.put-stop.ensures
+returns-2 c = let i = c.before.before.before.before.before.before.before.before.loop.invariant in upto_stop i.0 c.before.before.before.before.before.before.before.frame_at.ensures c.before.before.before.before.before.step3.given.1 i.3 c.before.before.put-stop.ensures
 
 pub put-lines-spec : {M : Type 1} → statement M
 put-lines-spec =

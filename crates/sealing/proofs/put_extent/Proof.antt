@@ -1,14 +1,14 @@
 -- Too many bytes to tell, no room, or three numbers one after another.
 use borrow.Author.Rules.{rules}
-use Rattle.sealing.specs.TrailerLaws.{put-long, put-crowded, put_three}
+use Rattle.sealing.specs.TrailerLaws.{put_long, put_crowded, put_three}
 use Rattle.sealing.proofs.put_extent.Statement.{statement}
 use Rattle.sealing.proofs.put_extent.Tie as tie
 
 returns : tie.Need-returns
-returns c = put-long _ c.if1.true
+returns c = put_long _ c.if1.true
 
 returns-2 : tie.Need-returns-2
-returns-2 c = put-crowded _ c.before.if1.false c.if2.true
+returns-2 c = put_crowded _ c.before.if1.false c.if2.true
 
 put-num-requires : tie.Need-put-num-requires
 put-num-requires c κs = search rules

@@ -3,12 +3,12 @@ use native.Mathlib.Omega.{arith}
 use borrow.Author.Rules.{rules}
 use lib.Seq.{length-take-le}
 use mathlib.Core.Path.{sym}
-use Rattle.sealing.specs.TrailerLaws.{sealed-short, sealed-reads}
+use Rattle.sealing.specs.TrailerLaws.{sealed_short, sealed_reads}
 use Rattle.sealing.proofs.sealed.Statement.{statement}
 use Rattle.sealing.proofs.sealed.Tie as tie
 
 returns : tie.Need-returns
-returns c = sealed-short _ c.if1.true
+returns c = sealed_short _ c.if1.true
 
 sub-end : tie.Need-overflow-sub-end
 sub-end c = search rules
@@ -39,7 +39,7 @@ tells-requires c κs = tt
 
 returns-2 : tie.Need-returns-2
 returns-2 c =
-    sealed-reads _ c.before.before.before.before.before.before.if1.false c.before.before.before.before.before.read_u32.ensures c.before.before.before.before.read-u322.ensures c.before.before.before.read-u323.ensures c.before.measure.ensures c.tells.ensures
+    sealed_reads _ c.before.before.before.before.before.before.if1.false c.before.before.before.before.before.read_u32.ensures c.before.before.before.before.read-u322.ensures c.before.before.before.read-u323.ensures c.before.measure.ensures c.tells.ensures
 
 pub sealed-spec : {M : Type 1} → statement M
 sealed-spec =

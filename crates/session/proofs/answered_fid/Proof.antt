@@ -1,7 +1,7 @@
 -- A request is open under the tag, or none is.
 use native.Mathlib.Omega.{arith}
 use mathlib.Core.Path.{refl}
-use Rattle.session.proofs.Ways.{fid-open, fid-closed}
+use Rattle.session.proofs.Ways.{fid_open, fid_closed}
 use Rattle.session.proofs.answered_fid.Statement.{statement}
 use Rattle.session.proofs.answered_fid.Tie as tie
 
@@ -23,10 +23,10 @@ fid-given-requires c κs = tt
 returns : tie.Need-returns
 returns c =
     let a = c.before.before.before.before.before.before.before.before.args in
-    fid-open a.t1 a.tag a.ty a.qids c.before.before.before.before.before.find.ensures _ c.before.before.before.before.if1.true refl c.before.effect_of.ensures c.fid-given.ensures
+    fid_open a.t1 a.tag a.ty a.qids c.before.before.before.before.before.find.ensures _ c.before.before.before.before.if1.true refl c.before.effect_of.ensures c.fid-given.ensures
 
 returns-2 : tie.Need-returns-2
-returns-2 c = let a = c.before.before.before.before.args in fid-closed a.t1 a.tag a.ty a.qids c.before.find.ensures c.if1.false
+returns-2 c = let a = c.before.before.before.before.args in fid_closed a.t1 a.tag a.ty a.qids c.before.find.ensures c.if1.false
 
 pub answered-fid-spec : {M : Type 1} → statement M
 answered-fid-spec = tie.close (tie.spec find-requires mul-r element-copy-out-r effect-of-requires fid-given-requires returns returns-2)

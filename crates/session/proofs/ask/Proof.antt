@@ -1,6 +1,6 @@
 -- 20; 22 or 23; a row is free; 24.
 use native.Mathlib.Omega.{arith}
-use Rattle.session.proofs.Ways.{asked-open, asked-unfit, asked-opens, asked-full}
+use Rattle.session.proofs.Ways.{asked_open, asked_unfit, asked_opens, asked_full}
 use borrow.Author.Rules.{rules}
 use Rattle.session.proofs.ask.Statement.{statement}
 use Rattle.session.proofs.ask.Tie as tie
@@ -12,7 +12,7 @@ refuses-requires : tie.Need-refuses-requires
 refuses-requires c κs = tt
 
 returns : tie.Need-returns
-returns c = let a = c.before.before.before.before.before.args in asked-open a.t1 a.tag a.r c.before.before.find.ensures c.before.if1.true c.refuses.ensures
+returns c = let a = c.before.before.before.before.before.args in asked_open a.t1 a.tag a.r c.before.before.find.ensures c.before.if1.true c.refuses.ensures
 
 unfit-requires : tie.Need-unfit-requires
 unfit-requires c κs = tt
@@ -24,7 +24,7 @@ enum-told-2 : tie.Need-enum-told-2
 enum-told-2 c = search rules
 
 returns-2 : tie.Need-returns-2
-returns-2 c = let a = c.before.before.before.before.before.before.before.before.before.args in asked-unfit a.t1 a.tag a.r c.before.before.before.before.before.before.find.ensures c.before.before.before.before.before.if1.false c.before.before.unfit.ensures c.enum-told2.given.1
+returns-2 c = let a = c.before.before.before.before.before.before.before.before.before.args in asked_unfit a.t1 a.tag a.r c.before.before.before.before.before.before.find.ensures c.before.before.before.before.before.if1.false c.before.before.unfit.ensures c.enum-told2.given.1
 
 find-requires-2 : tie.Need-find-requires-2
 find-requires-2 c κs = tt
@@ -45,13 +45,13 @@ accepts-requires : tie.Need-accepts-requires
 accepts-requires c κs = tt
 
 returns-3 : tie.Need-returns-3
-returns-3 c = let a = c.before.before.before.before.before.before.before.before.before.before.before.before.before.before.args in asked-opens a.t1 a.tag a.r c.before.before.before.before.before.before.before.before.before.before.before.find.ensures c.before.before.before.before.before.before.before.before.before.before.if1.false c.before.before.before.before.before.before.before.unfit.ensures c.before.before.before.before.before.enum_told.given.1 c.before.before.find2.ensures c.before.if2.true c.accepts.ensures
+returns-3 c = let a = c.before.before.before.before.before.before.before.before.before.before.before.before.before.before.args in asked_opens a.t1 a.tag a.r c.before.before.before.before.before.before.before.before.before.before.before.find.ensures c.before.before.before.before.before.before.before.before.before.before.if1.false c.before.before.before.before.before.before.before.unfit.ensures c.before.before.before.before.before.enum_told.given.1 c.before.before.find2.ensures c.before.if2.true c.accepts.ensures
 
 refuses-requires-2 : tie.Need-refuses-requires-2
 refuses-requires-2 c κs = tt
 
 returns-4 : tie.Need-returns-4
-returns-4 c = let a = c.before.before.before.before.before.before.before.before.before.before.before.before.before.before.args in asked-full a.t1 a.tag a.r c.before.before.before.before.before.before.before.before.before.before.before.find.ensures c.before.before.before.before.before.before.before.before.before.before.if1.false c.before.before.before.before.before.before.before.unfit.ensures c.before.before.before.before.before.enum_told.given.1 c.before.before.find2.ensures c.before.if2.false c.refuses2.ensures
+returns-4 c = let a = c.before.before.before.before.before.before.before.before.before.before.before.before.before.before.args in asked_full a.t1 a.tag a.r c.before.before.before.before.before.before.before.before.before.before.before.find.ensures c.before.before.before.before.before.before.before.before.before.before.if1.false c.before.before.before.before.before.before.before.unfit.ensures c.before.before.before.before.before.enum_told.given.1 c.before.before.find2.ensures c.before.if2.false c.refuses2.ensures
 
 pub ask-spec : {M : Type 1} → statement M
 ask-spec =

@@ -1,5 +1,5 @@
 -- By what the reply does.
-use Rattle.session.proofs.Ways.{done-nothing, done-empties, done-flushes, done-drops, done-gives}
+use Rattle.session.proofs.Ways.{done_nothing, done_empties, done_flushes, done_drops, done_gives}
 use borrow.Author.Rules.{rules}
 use Rattle.session.proofs.done.Statement.{statement}
 use Rattle.session.proofs.done.Tie as tie
@@ -44,19 +44,19 @@ gives-requires : tie.Need-gives-requires
 gives-requires c κs = tt
 
 returns : tie.Need-returns
-returns c = let a = c.before.before.before.before.args in done-nothing a.stretch.now a.s a.r c.before.enum_told.given.1 c.accepts.ensures
+returns c = let a = c.before.before.before.before.args in done_nothing a.stretch.now a.s a.r c.before.enum_told.given.1 c.accepts.ensures
 
 returns-2 : tie.Need-returns-2
-returns-2 c = let a = c.before.before.before.before.before.args in done-empties a.stretch.now a.s a.r c.before.before.enum-told2.given.1 c.before.fresh.ensures c.accepts2.ensures
+returns-2 c = let a = c.before.before.before.before.before.args in done_empties a.stretch.now a.s a.r c.before.before.enum-told2.given.1 c.before.fresh.ensures c.accepts2.ensures
 
 returns-3 : tie.Need-returns-3
-returns-3 c = let a = c.before.before.before.before.before.before.args in done-flushes a.stretch.now a.s a.r c.before.before.before.enum-told3.given.1 c.before.closed.ensures c.accepts3.ensures
+returns-3 c = let a = c.before.before.before.before.before.before.args in done_flushes a.stretch.now a.s a.r c.before.before.before.enum-told3.given.1 c.before.closed.ensures c.accepts3.ensures
 
 returns-4 : tie.Need-returns-4
-returns-4 c = let a = c.before.before.before.before.args in done-drops a.stretch.now a.s a.r c.before.enum-told4.given.1 c.drops.ensures
+returns-4 c = let a = c.before.before.before.before.args in done_drops a.stretch.now a.s a.r c.before.enum-told4.given.1 c.drops.ensures
 
 returns-5 : tie.Need-returns-5
-returns-5 c = let a = c.before.before.before.before.before.args in done-gives a.stretch.now a.s a.r c.before.before.e.given.1 c.gives.ensures
+returns-5 c = let a = c.before.before.before.before.before.args in done_gives a.stretch.now a.s a.r c.before.before.e.given.1 c.gives.ensures
 
 pub done-spec : {M : Type 1} → statement M
 done-spec =

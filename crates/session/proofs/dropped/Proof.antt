@@ -1,6 +1,6 @@
 -- The fid is known, or is not.
 use native.Mathlib.Omega.{arith}
-use Rattle.session.proofs.Ways.{fid-dropped, fid-none}
+use Rattle.session.proofs.Ways.{fid_dropped, fid_none}
 use Rattle.session.proofs.dropped.Statement.{statement}
 use Rattle.session.proofs.dropped.Tie as tie
 
@@ -14,10 +14,10 @@ element-write-t : tie.Need-element-write-t
 element-write-t c = c.if1.true
 
 returns : tie.Need-returns
-returns c = let a = c.before.before.before.before.args in fid-dropped a.t1 a.fid c.before.find.ensures c.if1.true
+returns c = let a = c.before.before.before.before.args in fid_dropped a.t1 a.fid c.before.find.ensures c.if1.true
 
 returns-2 : tie.Need-returns-2
-returns-2 c = let a = c.before.before.before.before.args in fid-none a.t1 a.fid c.before.find.ensures c.if1.false
+returns-2 c = let a = c.before.before.before.before.args in fid_none a.t1 a.fid c.before.find.ensures c.if1.false
 
 pub dropped-spec : {M : Type 1} → statement M
 dropped-spec = tie.close (tie.spec find-requires mul-t element-write-t returns returns-2)

@@ -2,7 +2,7 @@
 use native.Mathlib.Omega.{arith}
 use Prim.Native.Nat.{◌-◌, ◌≤◌}
 use mathlib.Core.Path.{◌≡◌, ◌∙◌}
-use Rattle.session.specs.Rows.{row_from, row_of, row-start, row_here, row_on, row-none}
+use Rattle.session.specs.Rows.{row_from, row_of, row_start, row_here, row_on, row_none}
 use Rattle.session.proofs.find.Statement.{statement}
 use Rattle.session.proofs.find.Tie as tie
 
@@ -13,7 +13,7 @@ abbrev decreases-loop : tie.decreases-loop
 decreases-loop keys key i₀ i = 64 - i
 
 loop-holds : tie.Need-loop-init invariant-loop decreases-loop
-loop-holds c = (omega arith, row-start c.args.key c.args.keys.now)
+loop-holds c = (omega arith, row_start c.args.key c.args.keys.now)
 
 mul-if1 : tie.Need-overflow-mul-if1 invariant-loop decreases-loop
 mul-if1 c = omega arith
@@ -34,7 +34,7 @@ loop-again : tie.Need-loop-preserved invariant-loop decreases-loop
 loop-again c = let a = c.before.before.before.before.args in let l = c.before.before.before.loop in (omega arith, row_on a.key a.keys.now l.i c.before.before.loop-test.true c.if1.false ∙ l.invariant.1)
 
 returns-2 : tie.Need-returns-2 invariant-loop decreases-loop
-returns-2 c = let a = c.before.before.args in let l = c.before.loop in row-none a.key a.keys.now l.i (omega arith) ∙ l.invariant.1
+returns-2 c = let a = c.before.before.args in let l = c.before.loop in row_none a.key a.keys.now l.i (omega arith) ∙ l.invariant.1
 
 pub find_spec : {M : Type 1} → statement M
 find_spec =

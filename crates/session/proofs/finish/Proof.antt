@@ -1,5 +1,5 @@
 -- Accepted, or refused.
-use Rattle.session.proofs.Ways.{finish-closes, finish-refused}
+use Rattle.session.proofs.Ways.{finish_closes, finish_refused}
 use borrow.Author.Rules.{rules}
 use Rattle.session.proofs.finish.Statement.{statement}
 use Rattle.session.proofs.finish.Tie as tie
@@ -20,10 +20,10 @@ refuses-requires : tie.Need-refuses-requires
 refuses-requires c κs = tt
 
 returns : tie.Need-returns
-returns c = let a = c.before.before.before.before.before.args in finish-closes a.s a.tag a.d c.before.before.enum_told.given.1 c.before.closed.ensures c.accepts.ensures
+returns c = let a = c.before.before.before.before.before.args in finish_closes a.s a.tag a.d c.before.before.enum_told.given.1 c.before.closed.ensures c.accepts.ensures
 
 returns-2 : tie.Need-returns-2
-returns-2 c = let a = c.before.before.before.before.before.args in finish-refused a.s a.tag a.d c.before.before.answer.given.1 c.refuses.ensures
+returns-2 c = let a = c.before.before.before.before.before.args in finish_refused a.s a.tag a.d c.before.before.answer.given.1 c.refuses.ensures
 
 pub finish_spec : {M : Type 1} → statement M
 finish_spec =

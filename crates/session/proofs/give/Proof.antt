@@ -1,5 +1,5 @@
 -- The fid is known; a row is free; none is; the place is refused.
-use Rattle.session.proofs.Ways.{give-known, give-new, give-full, give-refused}
+use Rattle.session.proofs.Ways.{give_known, give_new, give_full, give_refused}
 use borrow.Author.Rules.{rules}
 use Rattle.session.proofs.give.Statement.{statement}
 use Rattle.session.proofs.give.Tie as tie
@@ -17,7 +17,7 @@ accepts-requires : tie.Need-accepts-requires
 accepts-requires c κs = tt
 
 returns : tie.Need-returns
-returns c = let a = c.before.before.before.before.before.before.before.before.before.before.args in give-known a.t1 a.fid a.to c.before.before.before.before.before.before.before.at.given.1 c.before.before.before.find.ensures c.before.before.if1.true c.before.held.ensures c.accepts.ensures
+returns c = let a = c.before.before.before.before.before.before.before.before.before.before.args in give_known a.t1 a.fid a.to c.before.before.before.before.before.before.before.at.given.1 c.before.before.before.find.ensures c.before.before.if1.true c.before.held.ensures c.accepts.ensures
 
 find-requires-2 : tie.Need-find-requires-2
 find-requires-2 c κs = tt
@@ -29,7 +29,7 @@ accepts-requires-2 : tie.Need-accepts-requires-2
 accepts-requires-2 c κs = tt
 
 returns-2 : tie.Need-returns-2
-returns-2 c = let a = c.before.before.before.before.before.before.before.before.before.before.before.before.before.before.args in give-new a.t1 a.fid a.to c.before.before.before.before.before.before.before.before.before.before.before.at.given.1 c.before.before.before.before.before.before.before.find.ensures c.before.before.before.before.before.before.if1.false c.before.before.before.find2.ensures c.before.before.if2.true c.before.held2.ensures c.accepts2.ensures
+returns-2 c = let a = c.before.before.before.before.before.before.before.before.before.before.before.before.before.before.args in give_new a.t1 a.fid a.to c.before.before.before.before.before.before.before.before.before.before.before.at.given.1 c.before.before.before.before.before.before.before.find.ensures c.before.before.before.before.before.before.if1.false c.before.before.before.find2.ensures c.before.before.if2.true c.before.held2.ensures c.accepts2.ensures
 
 refuses-requires : tie.Need-refuses-requires
 refuses-requires c κs = tt
@@ -41,10 +41,10 @@ refuses-requires-2 : tie.Need-refuses-requires-2
 refuses-requires-2 c κs = tt
 
 returns-3 : tie.Need-returns-3
-returns-3 c = let a = c.before.before.before.before.before.before.before.before.before.before.before.before.before.args in give-full a.t1 a.fid a.to c.before.before.before.before.before.before.before.before.before.before.at.given.1 c.before.before.before.before.before.before.find.ensures c.before.before.before.before.before.if1.false c.before.before.find2.ensures c.before.if2.false c.refuses.ensures
+returns-3 c = let a = c.before.before.before.before.before.before.before.before.before.before.before.before.before.args in give_full a.t1 a.fid a.to c.before.before.before.before.before.before.before.before.before.before.at.given.1 c.before.before.before.before.before.before.find.ensures c.before.before.before.before.before.if1.false c.before.before.find2.ensures c.before.if2.false c.refuses.ensures
 
 returns-4 : tie.Need-returns-4
-returns-4 c = let a = c.before.before.before.before.before.args in give-refused a.t1 a.fid a.to c.before.before.at2.given.1 c.refuses2.ensures
+returns-4 c = let a = c.before.before.before.before.before.args in give_refused a.t1 a.fid a.to c.before.before.at2.given.1 c.refuses2.ensures
 
 pub give_spec : {M : Type 1} → statement M
 give_spec =

@@ -1,7 +1,7 @@
 -- 22 or 23, or it is given.
 use mathlib.Core.Path.{ap, ◌∙◌}
 use Rattle.session.specs.Rules.{given}
-use Rattle.session.proofs.Ways.{unless-no, unless-so}
+use Rattle.session.proofs.Ways.{unless_no, unless_so}
 use borrow.Author.Rules.{rules}
 use Rattle.session.proofs.gives.Statement.{statement}
 use Rattle.session.proofs.gives.Tie as tie
@@ -16,7 +16,7 @@ enum-told-2 : tie.Need-enum-told-2
 enum-told-2 c = search rules
 
 returns : tie.Need-returns
-returns c = let a = c.before.before.before.before.before.before.args in unless-no a.t1 c.before.before.unfit.ensures _ c.enum-told2.given.1
+returns c = let a = c.before.before.before.before.before.before.args in unless_no a.t1 c.before.before.unfit.ensures _ c.enum-told2.given.1
 
 reach-requires : tie.Need-reach-requires
 reach-requires c κs = tt
@@ -25,7 +25,7 @@ give-requires : tie.Need-give-requires
 give-requires c κs = tt
 
 returns-2 : tie.Need-returns-2
-returns-2 c = let a = c.before.before.before.before.before.before.before.before.args in unless-so a.t1 c.before.before.before.before.unfit.ensures c.before.before.enum_told.given.1 (c.give.ensures ∙ ap (given a.t1 a.r.to) c.before.reach.ensures)
+returns-2 c = let a = c.before.before.before.before.before.before.before.before.args in unless_so a.t1 c.before.before.before.before.unfit.ensures c.before.before.enum_told.given.1 (c.give.ensures ∙ ap (given a.t1 a.r.to) c.before.reach.ensures)
 
 pub gives-spec : {M : Type 1} → statement M
 gives-spec =

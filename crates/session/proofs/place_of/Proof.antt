@@ -1,5 +1,5 @@
 -- The fid is known, or is not.
-use Rattle.session.proofs.Ways.{place-there, place_none}
+use Rattle.session.proofs.Ways.{place_there, place_none}
 use Rattle.session.proofs.place_of.Statement.{statement}
 use Rattle.session.proofs.place_of.Tie as tie
 
@@ -10,7 +10,7 @@ element-copy-out-result : tie.Need-element-copy-out-result
 element-copy-out-result c = c.if1.true
 
 returns : tie.Need-returns
-returns c = let a = c.before.before.before.before.before.args in place-there a.t1 a.fid c.before.before.find.ensures c.before.if1.true
+returns c = let a = c.before.before.before.before.before.args in place_there a.t1 a.fid c.before.before.find.ensures c.before.if1.true
 
 returns-2 : tie.Need-returns-2
 returns-2 c = let a = c.before.before.before.before.args in place_none a.t1 a.fid c.before.find.ensures c.if1.false

@@ -1,5 +1,5 @@
 -- A root, a walk, a child, a copy.
-use Rattle.session.proofs.Ways.{reach-root, reach-walk, reach-child, reach-copy}
+use Rattle.session.proofs.Ways.{reach_root, reach_walk, reach_child, reach_copy}
 use borrow.Author.Rules.{rules}
 use Rattle.session.proofs.reach.Statement.{statement}
 use Rattle.session.proofs.reach.Tie as tie
@@ -29,16 +29,16 @@ enum-told-4 : tie.Need-enum-told-4
 enum-told-4 c = search rules
 
 returns : tie.Need-returns
-returns c = let a = c.before.before.before.before.before.before.args in reach-root a.stretch.now a.s a.r c.before.before.before.place_of.ensures c.before.enum_told.given.1 c.root.ensures
+returns c = let a = c.before.before.before.before.before.before.args in reach_root a.stretch.now a.s a.r c.before.before.before.place_of.ensures c.before.enum_told.given.1 c.root.ensures
 
 returns-2 : tie.Need-returns-2
-returns-2 c = let a = c.before.before.before.before.before.before.args in reach-walk a.stretch.now a.s a.r c.before.before.before.place_of.ensures c.before.enum-told2.given.1 c.walk.ensures
+returns-2 c = let a = c.before.before.before.before.before.before.args in reach_walk a.stretch.now a.s a.r c.before.before.before.place_of.ensures c.before.enum-told2.given.1 c.walk.ensures
 
 returns-3 : tie.Need-returns-3
-returns-3 c = let a = c.before.before.before.before.before.before.args in reach-child a.stretch.now a.s a.r c.before.before.before.place_of.ensures c.before.enum-told3.given.1 c.child.ensures
+returns-3 c = let a = c.before.before.before.before.before.before.args in reach_child a.stretch.now a.s a.r c.before.before.before.place_of.ensures c.before.enum-told3.given.1 c.child.ensures
 
 returns-4 : tie.Need-returns-4
-returns-4 c = let a = c.before.before.before.before.before.args in reach-copy a.stretch.now a.s a.r c.before.before.place_of.ensures c.enum-told4.given.1
+returns-4 c = let a = c.before.before.before.before.before.args in reach_copy a.stretch.now a.s a.r c.before.before.place_of.ensures c.enum-told4.given.1
 
 pub reach-spec : {M : Type 1} → statement M
 reach-spec =

@@ -1,7 +1,7 @@
 -- A request is open under the tag, and the reply closes it or does more; or none is.
 use native.Mathlib.Omega.{arith}
 use mathlib.Core.Path.{refl}
-use Rattle.session.proofs.Ways.{reply-closes, reply-open, reply-none}
+use Rattle.session.proofs.Ways.{reply_closes, reply_open, reply_none}
 use Rattle.session.proofs.reply.Statement.{statement}
 use Rattle.session.proofs.reply.Tie as tie
 
@@ -29,19 +29,19 @@ accepts-requires c κs = tt
 returns : tie.Need-returns
 returns c =
     let a = c.before.before.before.before.before.before.before.before.before.before.args in
-    reply-closes a.stretch.now a.t1 a.tag a.ty a.qids c.before.before.before.before.before.before.find.ensures _ c.before.before.before.before.before.if1.true refl c.before.before.only-closes.ensures c.before.if2.true c.accepts.ensures
+    reply_closes a.stretch.now a.t1 a.tag a.ty a.qids c.before.before.before.before.before.before.find.ensures _ c.before.before.before.before.before.if1.true refl c.before.before.only-closes.ensures c.before.if2.true c.accepts.ensures
 
 reply-to-requires : tie.Need-reply-to-requires
 reply-to-requires c κs = tt
 
 returns-2 : tie.Need-returns-2
-returns-2 c = let a = c.before.before.before.before.before.before.before.before.before.before.args in reply-open a.stretch.now a.t1 a.tag a.ty a.qids c.before.before.before.before.before.before.find.ensures c.before.before.before.before.before.if1.true c.reply-to.ensures
+returns-2 c = let a = c.before.before.before.before.before.before.before.before.before.before.args in reply_open a.stretch.now a.t1 a.tag a.ty a.qids c.before.before.before.before.before.before.find.ensures c.before.before.before.before.before.if1.true c.reply-to.ensures
 
 refuses-requires : tie.Need-refuses-requires
 refuses-requires c κs = tt
 
 returns-3 : tie.Need-returns-3
-returns-3 c = let a = c.before.before.before.before.before.before.args in reply-none a.stretch.now a.t1 a.tag a.ty a.qids c.before.before.find.ensures c.before.if1.false c.refuses.ensures
+returns-3 c = let a = c.before.before.before.before.before.before.args in reply_none a.stretch.now a.t1 a.tag a.ty a.qids c.before.before.find.ensures c.before.if1.false c.refuses.ensures
 
 pub reply-spec : {M : Type 1} → statement M
 reply-spec =

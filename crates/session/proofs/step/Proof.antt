@@ -1,5 +1,5 @@
 -- A request, a reply, a frame that is refused.
-use Rattle.session.proofs.Ways.{step-asks, step-answers, step-refused}
+use Rattle.session.proofs.Ways.{step_asks, step_answers, step_refused}
 use borrow.Author.Rules.{rules}
 use Rattle.session.proofs.step.Statement.{statement}
 use Rattle.session.proofs.step.Tie as tie
@@ -23,13 +23,13 @@ refuses-requires : tie.Need-refuses-requires
 refuses-requires c κs = tt
 
 returns : tie.Need-returns
-returns c = let a = c.before.before.before.before.before.args in step-asks a.stretch.now a.s a.e c.before.before.what.given.1 c.ask.ensures
+returns c = let a = c.before.before.before.before.before.args in step_asks a.stretch.now a.s a.e c.before.before.what.given.1 c.ask.ensures
 
 returns-2 : tie.Need-returns-2
-returns-2 c = let a = c.before.before.before.before.before.args in step-answers a.stretch.now a.s a.e c.before.before.what2.given.1 c.reply.ensures
+returns-2 c = let a = c.before.before.before.before.before.args in step_answers a.stretch.now a.s a.e c.before.before.what2.given.1 c.reply.ensures
 
 returns-3 : tie.Need-returns-3
-returns-3 c = let a = c.before.before.before.before.before.args in step-refused a.stretch.now a.s a.e c.before.before.what3.given.1 c.refuses.ensures
+returns-3 c = let a = c.before.before.before.before.before.args in step_refused a.stretch.now a.s a.e c.before.before.what3.given.1 c.refuses.ensures
 
 pub step_spec : {M : Type 1} → statement M
 step_spec =

@@ -1,5 +1,5 @@
 -- The fid is known, or is not.
-use Rattle.session.proofs.Ways.{path-known, path-unknown}
+use Rattle.session.proofs.Ways.{path_known, path_unknown}
 use Rattle.session.proofs.write_path.Statement.{statement}
 use Rattle.session.proofs.write_path.Tie as tie
 
@@ -16,10 +16,10 @@ same_length : tie.Need-same-length
 same_length c = c.before.before.write-path.auto.0
 
 returns : tie.Need-returns
-returns c = let a = c.before.before.before.before.before.before.before.before.before.before.before.before.args in path-known a.stretch.now a.t2 a.fid a.out.now c.before.before.before.before.before.before.before.find.ensures c.before.before.before.before.before.before.if1.true c.before.before.write-path.ensures
+returns c = let a = c.before.before.before.before.before.before.before.before.before.before.before.before.args in path_known a.stretch.now a.t2 a.fid a.out.now c.before.before.before.before.before.before.before.find.ensures c.before.before.before.before.before.before.if1.true c.before.before.write-path.ensures
 
 returns-2 : tie.Need-returns-2
-returns-2 c = let a = c.before.before.before.before.before.before.args in path-unknown a.stretch.now a.t2 a.fid a.out.now c.before.find.ensures c.if1.false
+returns-2 c = let a = c.before.before.before.before.before.before.args in path_unknown a.stretch.now a.t2 a.fid a.out.now c.before.find.ensures c.if1.false
 
 pub write-path-spec : {M : Type 1} → statement M
 write-path-spec =

@@ -1,6 +1,6 @@
 -- A frame, the end, or a refusal.
 use borrow.Author.Rules.{rules}
-use Rattle.session_exports.specs.Follows.{followed-frame, followed-end, followed-stop}
+use Rattle.session_exports.specs.Follows.{followed_frame, followed_end, followed_stop}
 use Rattle.session_exports.proofs.sheafsledge_follow.Statement.{statement}
 use Rattle.session_exports.proofs.sheafsledge_follow.Tie as tie
 
@@ -29,15 +29,15 @@ passed-requires-2 : tie.Need-passed-requires-2
 passed-requires-2 c κs = tt
 
 returns : tie.Need-returns
-returns c = let a = c.before.before.before.before.before.before.args in followed-frame a.stretch.now a.s a.position c.before.before.before.before.frame_at.ensures c.before.before.step.given.1 c.follow.ensures
+returns c = let a = c.before.before.before.before.before.before.args in followed_frame a.stretch.now a.s a.position c.before.before.before.before.frame_at.ensures c.before.before.step.given.1 c.follow.ensures
 
 returns-2 : tie.Need-returns-2
-returns-2 c = let a = c.before.before.before.before.before.before.args in followed-end a.stretch.now a.s a.position c.before.before.before.before.frame_at.ensures c.before.before.step2.given.1 c.passed.ensures
+returns-2 c = let a = c.before.before.before.before.before.before.args in followed_end a.stretch.now a.s a.position c.before.before.before.before.frame_at.ensures c.before.before.step2.given.1 c.passed.ensures
 
 returns-3 : tie.Need-returns-3
 returns-3 c =
     let a = c.before.before.before.before.before.before.before.args in
-    followed-stop a.stretch.now a.s a.position c.before.before.before.before.before.frame_at.ensures c.before.before.before.step3.given.1 c.before.number.ensures c.passed2.ensures
+    followed_stop a.stretch.now a.s a.position c.before.before.before.before.before.frame_at.ensures c.before.before.before.step3.given.1 c.before.number.ensures c.passed2.ensures
 
 pub sheafsledge-follow-spec : {M : Type 1} → statement M
 sheafsledge-follow-spec =

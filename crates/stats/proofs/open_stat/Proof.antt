@@ -4,7 +4,7 @@ use borrow.Author.Rules.{rules}
 use mathlib.Core.Path.{sym}
 use lib.Seq.{length-take-le}
 use Rattle.numbers.specs.PlaceLaws.{inside, num_holds}
-use Rattle.stats.specs.StatLaws.{open_cut, open-short, open-wrong, open-well, start_within, start_two}
+use Rattle.stats.specs.StatLaws.{open_cut, open_short, open_wrong, open_well, start_within, start_two}
 use Rattle.stats.proofs.open_stat.Statement.{statement}
 use Rattle.stats.proofs.open_stat.Tie as tie
 
@@ -43,19 +43,19 @@ returns-2 c =
     let g = c.before in
     let i = g.before.before in
     let d = i.before.before.before.before in
-    open-well _ (num_holds (omega arith) d.before.before.read-u16.ensures d.q.given.1) (inside i.before.within.ensures i.if1.true) g.agree.ensures c.if2.true
+    open_well _ (num_holds (omega arith) d.before.before.read-u16.ensures d.q.given.1) (inside i.before.within.ensures i.if1.true) g.agree.ensures c.if2.true
 
 returns-3 : tie.Need-returns-3
 returns-3 c =
     let g = c.before in
     let i = g.before.before in
     let d = i.before.before.before.before in
-    open-wrong _ (num_holds (omega arith) d.before.before.read-u16.ensures d.q.given.1) (inside i.before.within.ensures i.if1.true) g.agree.ensures c.if2.false
+    open_wrong _ (num_holds (omega arith) d.before.before.read-u16.ensures d.q.given.1) (inside i.before.within.ensures i.if1.true) g.agree.ensures c.if2.false
 
 returns-4 : tie.Need-returns-4
 returns-4 c =
     let d = c.before.before.before.before in
-    open-short _ (num_holds (omega arith) d.before.before.read-u16.ensures d.q.given.1) c.before.within.ensures c.if1.false
+    open_short _ (num_holds (omega arith) d.before.before.read-u16.ensures d.q.given.1) c.before.within.ensures c.if1.false
 
 pub open-stat-spec : {M : Type 1} → statement M
 open-stat-spec =

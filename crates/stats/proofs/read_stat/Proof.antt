@@ -3,7 +3,7 @@ use borrow.Author.Rules.{rules}
 use mathlib.Core.Path.{sym}
 use lib.Seq.{length-take-le}
 use Rattle.numbers.specs.Numbers.{bytes_all}
-use Rattle.fields.specs.BoxLaws.{box_read, box-refused}
+use Rattle.fields.specs.BoxLaws.{box_read, box_refused}
 use Rattle.stats.specs.StatLaws.{blank_read}
 use Rattle.stats.proofs.read_stat.Statement.{statement}
 use Rattle.stats.proofs.read_stat.Tie as tie
@@ -24,7 +24,7 @@ returns c =
     let o = r.before.before in
     let l = o.before in
     let b = bytes_all l.before.args.s.now (λ i. (l.shared-slice-known.given i).fits) in
-    blank_read c.no-stat.ensures (box-refused o.open-stat.ensures b r.read-fields.ensures n.enum-told2.given.1)
+    blank_read c.no-stat.ensures (box_refused o.open-stat.ensures b r.read-fields.ensures n.enum-told2.given.1)
 
 returns-2 : tie.Need-returns-2
 returns-2 c =

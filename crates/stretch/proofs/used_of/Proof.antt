@@ -1,6 +1,6 @@
 -- In each direction: the bytes used, or the size where the body is refused.
 use borrow.Author.Rules.{rules}
-use Rattle.stretch.specs.StepLaws.{leaves-request, leaves-no-request, leaves-reply, leaves-no-reply}
+use Rattle.stretch.specs.StepLaws.{leaves_request, leaves_no_request, leaves_reply, leaves_no_reply}
 use Rattle.stretch.proofs.used_of.Statement.{statement}
 use Rattle.stretch.proofs.used_of.Tie as tie
 
@@ -23,16 +23,16 @@ enum-told-2 : tie.Need-enum-told-2
 enum-told-2 c = search rules
 
 returns : tie.Need-returns
-returns c = leaves-request c.before.before.before.before.body.given.1 c.before.b.given.1
+returns c = leaves_request c.before.before.before.before.body.given.1 c.before.b.given.1
 
 returns-2 : tie.Need-returns-2
-returns-2 c = leaves-no-request c.before.before.before.body.given.1 c.enum_told.given.1
+returns-2 c = leaves_no_request c.before.before.before.body.given.1 c.enum_told.given.1
 
 returns-3 : tie.Need-returns-3
-returns-3 c = leaves-reply c.before.before.before.before.body2.given.1 c.before.b2.given.1
+returns-3 c = leaves_reply c.before.before.before.before.body2.given.1 c.before.b2.given.1
 
 returns-4 : tie.Need-returns-4
-returns-4 c = leaves-no-reply c.before.before.before.body2.given.1 c.enum-told2.given.1
+returns-4 c = leaves_no_reply c.before.before.before.body2.given.1 c.enum-told2.given.1
 
 pub used-of-spec : {M : Type 1} → statement M
 used-of-spec =

@@ -1,7 +1,7 @@
 -- Read flat where the body begins, and told by the bytes used.
 use mathlib.Core.Path.{ap, ◌∙◌}
 use Rattle.exports.specs.Answers.{ended}
-use Rattle.exports.specs.FrameReading.{body-read}
+use Rattle.exports.specs.FrameReading.{body_read}
 use Rattle.stretch_exports.proofs.sheafsledge_read_rbody.Statement.{statement}
 use Rattle.stretch_exports.proofs.sheafsledge_read_rbody.Tie as tie
 
@@ -9,7 +9,7 @@ returns : tie.Need-returns
 returns c =
     let u = c.before in
     let f = u.before in
-    body-read _ _ _ _ f.before.before.body_at.ensures f.read-flat.ensures (c.ended.ensures ∙ ap ended u.used.ensures)
+    body_read _ _ _ _ f.before.before.body_at.ensures f.read-flat.ensures (c.ended.ensures ∙ ap ended u.used.ensures)
 
 pub sheafsledge-read-rbody-spec : {M : Type 1} → statement M
 sheafsledge-read-rbody-spec = tie.close (tie.spec (λ _ _. tt) (λ _ _. tt) (λ _ _. tt) (λ _ _. tt) returns)

@@ -1,6 +1,6 @@
 -- The place is refused already, the span lies within, or it does not.
 use borrow.Author.Rules.{rules}
-use Rattle.strings.proofs.Ways.{span-in, span-out}
+use Rattle.strings.proofs.Ways.{span_in_lem, span_out}
 use Rattle.strings.proofs.check_span.Statement.{statement}
 use Rattle.strings.proofs.check_span.Tie as tie
 
@@ -14,10 +14,10 @@ returns : tie.Need-returns
 returns c = search rules
 
 returns-2 : tie.Need-returns-2
-returns-2 c = span-in c.before.before.enum_told.given.1 c.before.within.ensures c.if1.true
+returns-2 c = span_in_lem c.before.before.enum_told.given.1 c.before.within.ensures c.if1.true
 
 returns-3 : tie.Need-returns-3
-returns-3 c = span-out c.before.before.enum_told.given.1 c.before.within.ensures c.if1.false
+returns-3 c = span_out c.before.before.enum_told.given.1 c.before.within.ensures c.if1.false
 
 pub check-span-spec : {M : Type 1} → statement M
 check-span-spec = tie.close (tie.spec enum_told enum-told-2 returns (λ _ _. tt) returns-2 returns-3)

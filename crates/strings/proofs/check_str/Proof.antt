@@ -2,7 +2,7 @@
 use native.Mathlib.Omega.{arith}
 use borrow.Author.Rules.{rules}
 use Rattle.strings.specs.SpanLaws.{span_lies}
-use Rattle.strings.proofs.Ways.{str-span, str-long, str-text}
+use Rattle.strings.proofs.Ways.{str_span, str_long, str_text}
 use Rattle.strings.proofs.check_str.Statement.{statement}
 use Rattle.strings.proofs.check_str.Tie as tie
 
@@ -13,11 +13,11 @@ enum-told-2 : tie.Need-enum-told-2
 enum-told-2 c = search rules
 
 returns : tie.Need-returns
-returns c = str-span c.before.before.check-span.ensures c.enum-told2.given.1
+returns c = str_span c.before.before.check-span.ensures c.enum-told2.given.1
 
 returns-2 : tie.Need-returns-2
 returns-2 c =
-    str-long c.before.before.before.before.check-span.ensures c.before.before.enum_told.given.1 c.if1.true
+    str_long c.before.before.before.before.check-span.ensures c.before.before.enum_told.given.1 c.if1.true
 
 check-text-requires : tie.Need-check-text-requires
 check-text-requires c κs =
@@ -26,7 +26,7 @@ check-text-requires c κs =
 returns-3 : tie.Need-returns-3
 returns-3 c =
     let d = c.before.before.before in
-    str-text d.before.before.check-span.ensures d.enum_told.given.1 c.before.if1.false c.check-text.ensures
+    str_text d.before.before.check-span.ensures d.enum_told.given.1 c.before.if1.false c.check-text.ensures
 
 pub check-str-spec : {M : Type 1} → statement M
 check-str-spec =

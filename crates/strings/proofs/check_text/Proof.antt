@@ -5,8 +5,8 @@ use mathlib.Core.Logic.{⊎_elim}
 use native.Mathlib.Omega.{arith}
 use borrow.Author.Rules.{rules}
 use Rattle.utf8.specs.Utf8Laws.{ascii_text, zero_text, full_text}
-use Rattle.utf8.specs.StartLaws.{sound-whole, sound-part}
-use Rattle.strings.proofs.Ways.{zero_lies, text-bad, text-zero, text-fine}
+use Rattle.utf8.specs.StartLaws.{sound_whole, sound_part}
+use Rattle.strings.proofs.Ways.{zero_lies, text_bad, text_zero, text_fine}
 use Rattle.strings.proofs.check_text.Statement.{statement}
 use Rattle.strings.proofs.check_text.Tie as tie
 
@@ -37,7 +37,7 @@ add_at c = search rules
 returns-2 : tie.Need-returns-2
 returns-2 c =
     let e = c.before.sound_start_lem.ensures in
-    text-bad c.before.before.before.before.before.before.before.enum_told.given.1 (sound-part _ e c.if2.true) e
+    text_bad c.before.before.before.before.before.before.before.enum_told.given.1 (sound_part _ e c.if2.true) e
 
 add-at-2 : tie.Need-overflow-add-at-2
 add-at-2 c =
@@ -47,14 +47,14 @@ add-at-2 c =
 returns-3 : tie.Need-returns-3
 returns-3 c =
     let d = c.before.before.before.before.before in
-    let u = ⊎_elim (λ w. sound-whole _ w.1.ensures w.2.left) (λ w. ascii_text _ (omega (arith, d.extremes-of.ensures.1))) c.before.before.before.if1.branch in
-    text-zero d.before.before.before.enum_told.given.1 u (zero_text _ (sym d.extremes-of.ensures.0 ∙ c.before.if3.true)) c.zero-at.ensures
+    let u = ⊎_elim (λ w. sound_whole _ w.1.ensures w.2.left) (λ w. ascii_text _ (omega (arith, d.extremes-of.ensures.1))) c.before.before.before.if1.branch in
+    text_zero d.before.before.before.enum_told.given.1 u (zero_text _ (sym d.extremes-of.ensures.0 ∙ c.before.if3.true)) c.zero-at.ensures
 
 returns-4 : tie.Need-returns-4
 returns-4 c =
     let d = c.before.before.before.before in
-    let u = ⊎_elim (λ w. sound-whole _ w.1.ensures w.2.left) (λ w. ascii_text _ (omega (arith, d.extremes-of.ensures.1))) c.before.before.if1.branch in
-    text-fine d.before.before.before.enum_told.given.1 u (full_text _ (λ e. c.if3.false (d.extremes-of.ensures.0 ∙ e)))
+    let u = ⊎_elim (λ w. sound_whole _ w.1.ensures w.2.left) (λ w. ascii_text _ (omega (arith, d.extremes-of.ensures.1))) c.before.before.if1.branch in
+    text_fine d.before.before.before.enum_told.given.1 u (full_text _ (λ e. c.if3.false (d.extremes-of.ensures.0 ∙ e)))
 
 pub check-text-spec : {M : Type 1} → statement M
 check-text-spec =

@@ -3,7 +3,7 @@ use native.Mathlib.Omega.{arith}
 use borrow.Author.Rules.{rules}
 use Rattle.numbers.specs.PlaceLaws.{inside}
 use Rattle.strings.specs.SpanLaws.{span_lies}
-use Rattle.strings.proofs.Ways.{bytes-refused, bytes-full, bytes-done}
+use Rattle.strings.proofs.Ways.{bytes_refused, bytes_full, bytes_done}
 use Rattle.strings.proofs.put_bytes.Statement.{statement}
 use Rattle.strings.proofs.put_bytes.Tie as tie
 
@@ -14,7 +14,7 @@ enum_told : tie.Need-enum-told
 enum_told c = search rules
 
 returns : tie.Need-returns
-returns c = bytes-refused c.before.before.check-span.ensures c.enum_told.given.1
+returns c = bytes_refused c.before.before.check-span.ensures c.enum_told.given.1
 
 copy-requires : tie.Need-copy-requires
 copy-requires c κs =
@@ -33,12 +33,12 @@ returns-2 : tie.Need-returns-2
 returns-2 c =
     let d = c.before.before.before.before in
     let e = d.before.before.before in
-    bytes-done e.before.before.check-span.ensures e.q.given.1 d.before.within.ensures d.if1.true c.before.before.copy.ensures
+    bytes_done e.before.before.check-span.ensures e.q.given.1 d.before.within.ensures d.if1.true c.before.before.copy.ensures
 
 returns-3 : tie.Need-returns-3
 returns-3 c =
     let e = c.before.before.before in
-    bytes-full e.before.before.check-span.ensures e.q.given.1 c.before.within.ensures c.if1.false
+    bytes_full e.before.before.check-span.ensures e.q.given.1 c.before.within.ensures c.if1.false
 
 pub put-bytes-spec : {M : Type 1} → statement M
 put-bytes-spec =

@@ -1,7 +1,7 @@
 -- The check refuses, there is no room for count and bytes, or both are put.
 use native.Mathlib.Omega.{arith}
 use borrow.Author.Rules.{rules}
-use Rattle.strings.proofs.Ways.{string_small, string-refused, string-full, string-done}
+use Rattle.strings.proofs.Ways.{string_small, string_refused, string_full, string_done}
 use Rattle.strings.proofs.put_str.Statement.{statement}
 use Rattle.strings.proofs.put_str.Tie as tie
 
@@ -12,7 +12,7 @@ enum_told : tie.Need-enum-told
 enum_told c = search rules
 
 returns : tie.Need-returns
-returns c = string-refused c.before.before.check-str.ensures c.enum_told.given.1
+returns c = string_refused c.before.before.check-str.ensures c.enum_told.given.1
 
 add-size : tie.Need-overflow-add-size
 add-size c =
@@ -31,12 +31,12 @@ returns-2 c =
     let b = c.before.before.before.before.before.before in
     let d = b.before.before in
     let e = d.before.before.before in
-    string-done e.before.before.check-str.ensures e.q.given.1 d.before.within.ensures d.if1.true b.put-u16.ensures c.before.before.put-bytes.ensures
+    string_done e.before.before.check-str.ensures e.q.given.1 d.before.within.ensures d.if1.true b.put-u16.ensures c.before.before.put-bytes.ensures
 
 returns-3 : tie.Need-returns-3
 returns-3 c =
     let e = c.before.before.before in
-    string-full e.before.before.check-str.ensures e.q.given.1 c.before.within.ensures c.if1.false
+    string_full e.before.before.check-str.ensures e.q.given.1 c.before.within.ensures c.if1.false
 
 pub put-str-spec : {M : Type 1} → statement M
 put-str-spec =

@@ -3,7 +3,7 @@ use native.Mathlib.Omega.{arith}
 use mathlib.Core.Path.{refl}
 use borrow.Author.Rules.{rules}
 use Rattle.numbers.specs.PlaceLaws.{inside}
-use Rattle.strings.proofs.Ways.{str-cut, str-short, str-bad, str-good, text_plain}
+use Rattle.strings.proofs.Ways.{str_cut, str_short, str_bad, str_good, text_plain}
 use Rattle.strings.proofs.read_str.Statement.{statement}
 use Rattle.strings.proofs.read_str.Tie as tie
 
@@ -14,7 +14,7 @@ enum_told : tie.Need-enum-told
 enum_told c = search rules
 
 returns : tie.Need-returns
-returns c = str-cut c.before.before.read-u16.ensures c.enum_told.given.1
+returns c = str_cut c.before.before.read-u16.ensures c.enum_told.given.1
 
 cast-len : tie.Need-overflow-cast-len
 cast-len c = search rules
@@ -36,7 +36,7 @@ returns-2 c =
     let p = c.before in
     let d = p.before.before in
     let e = d.before.before.before.before in
-    str-good e.before.before.read-u16.ensures e.a.given.1 d.before.within.ensures d.if1.true (text_plain refl p.short-plain.ensures c.if2.true) refl
+    str_good e.before.before.read-u16.ensures e.a.given.1 d.before.within.ensures d.if1.true (text_plain refl p.short-plain.ensures c.if2.true) refl
 
 check-text-requires : tie.Need-check-text-requires
 check-text-requires c κs = let d = c.before.before.before in inside d.before.within.ensures d.if1.true
@@ -52,19 +52,19 @@ returns-3 c =
     let t = c.before.before in
     let d = t.before.before.before.before in
     let e = d.before.before.before.before in
-    str-bad e.before.before.read-u16.ensures e.a.given.1 d.before.within.ensures d.if1.true t.check-text.ensures c.enum-told3.given.1
+    str_bad e.before.before.read-u16.ensures e.a.given.1 d.before.within.ensures d.if1.true t.check-text.ensures c.enum-told3.given.1
 
 returns-4 : tie.Need-returns-4
 returns-4 c =
     let t = c.before.before in
     let d = t.before.before.before.before in
     let e = d.before.before.before.before in
-    str-good e.before.before.read-u16.ensures e.a.given.1 d.before.within.ensures d.if1.true t.check-text.ensures c.enum-told2.given.1
+    str_good e.before.before.read-u16.ensures e.a.given.1 d.before.within.ensures d.if1.true t.check-text.ensures c.enum-told2.given.1
 
 returns-5 : tie.Need-returns-5
 returns-5 c =
     let e = c.before.before.before.before in
-    str-short e.before.before.read-u16.ensures e.a.given.1 c.before.within.ensures c.if1.false
+    str_short e.before.before.read-u16.ensures e.a.given.1 c.before.within.ensures c.if1.false
 
 pub read-str-spec : {M : Type 1} → statement M
 read-str-spec =

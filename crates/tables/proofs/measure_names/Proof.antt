@@ -3,7 +3,7 @@ use Prim.Native.Nat.{◌≤◌, ◌-◌}
 use native.Mathlib.Omega.{arith}
 use borrow.Author.Rules.{rules}
 use lib.ListN.{length}
-use Rattle.tables.specs.TableLaws.{MeasuredTo, measured-to-none, measured-to-next, measured-to-all}
+use Rattle.tables.specs.TableLaws.{MeasuredTo, measured_to_none, measured_to_next, measured_to_all}
 use Rattle.tables.proofs.measure_names.Statement.{statement}
 use Rattle.tables.proofs.measure_names.Tie as tie
 
@@ -14,7 +14,7 @@ abbrev decreases-loop : tie.decreases-loop
 decreases-loop lent names at₀ i₀ at i = length names - i
 
 loop-holds : tie.Need-loop-init invariant-loop decreases-loop
-loop-holds c = (omega arith, measured-to-none)
+loop-holds c = (omega arith, measured_to_none)
 
 mul-t7 : tie.Need-overflow-mul-t7 invariant-loop decreases-loop
 mul-t7 c = search rules
@@ -47,10 +47,10 @@ loop-again : tie.Need-loop-preserved invariant-loop decreases-loop
 loop-again c =
     let l = c.before.before.before.before.loop in
     let f = c.measure-str.ensures in
-    (omega arith, measured-to-next (omega arith) l.invariant.1 f)
+    (omega arith, measured_to_next (omega arith) l.invariant.1 f)
 
 returns : tie.Need-returns invariant-loop decreases-loop
-returns c = measured-to-all (omega arith) c.before.loop.invariant.1
+returns c = measured_to_all (omega arith) c.before.loop.invariant.1
 
 pub measure-names-spec : {M : Type 1} → statement M
 measure-names-spec =

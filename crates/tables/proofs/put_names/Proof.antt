@@ -5,7 +5,7 @@ use mathlib.Core.Path.{◌≡◌, refl, ◌∙◌}
 use borrow.Author.Rules.{rules}
 use lib.ListN.{length}
 use Rattle.numbers.specs.PlaceLaws.{put_length}
-use Rattle.tables.specs.TableLaws.{PutTo, put-to-none, put-to-next, put-to-all}
+use Rattle.tables.specs.TableLaws.{PutTo, put_to_none, put_to_next, put_to_all}
 use Rattle.tables.proofs.put_names.Statement.{statement}
 use Rattle.tables.proofs.put_names.Tie as tie
 
@@ -16,7 +16,7 @@ abbrev decreases-loop : tie.decreases-loop
 decreases-loop out₀ lent names at₀ i₀ out at i = length names - i
 
 loop-holds : tie.Need-loop-init invariant-loop decreases-loop
-loop-holds c = (omega arith, refl, put-to-none)
+loop-holds c = (omega arith, refl, put_to_none)
 
 mul-t9 : tie.Need-overflow-mul-t9 invariant-loop decreases-loop
 mul-t9 c = search rules
@@ -53,13 +53,13 @@ loop-again c =
     let b = c.before.before in
     let a = b.before.before.before.before in
     let l = a.before.before.before.before.before.loop in
-    (omega arith, put_length b.put-bytes.ensures.put ∙ put_length a.put-num.ensures ∙ l.invariant.1, put-to-next (omega arith) l.invariant.2 a.put-num.ensures b.put-bytes.ensures)
+    (omega arith, put_length b.put-bytes.ensures.put ∙ put_length a.put-num.ensures ∙ l.invariant.1, put_to_next (omega arith) l.invariant.2 a.put-num.ensures b.put-bytes.ensures)
 
 same_length : tie.Need-same-length invariant-loop decreases-loop
 same_length c = c.before.loop.invariant.1
 
 returns : tie.Need-returns invariant-loop decreases-loop
-returns c = put-to-all (omega arith) c.before.loop.invariant.2
+returns c = put_to_all (omega arith) c.before.loop.invariant.2
 
 pub put-names-spec : {M : Type 1} → statement M
 put-names-spec =

@@ -1,7 +1,7 @@
 -- Too many qids, no room, or the frame's length.
 use borrow.Author.Rules.{rules}
 use native.Mathlib.Omega.{arith}
-use Rattle.tables.specs.QidLaws.{past_long, past_head, past-full, past_room}
+use Rattle.tables.specs.QidLaws.{past_long, past_head, past_full, past_room}
 use Rattle.tables.proofs.rwalk_past.Statement.{statement}
 use Rattle.tables.proofs.rwalk_past.Tie as tie
 
@@ -23,7 +23,7 @@ add-size c =
     omega (arith, h.0, h.1)
 
 returns-2 : tie.Need-returns-2
-returns-2 c = past-full _ _ c.before.before.before.before.check-count.ensures c.before.before.p.given.1 c.if1.true
+returns-2 c = past_full _ _ c.before.before.before.before.check-count.ensures c.before.before.p.given.1 c.if1.true
 
 returns-3 : tie.Need-returns-3
 returns-3 c = past_room _ _ c.before.before.before.before.check-count.ensures c.before.before.p.given.1 c.if1.false

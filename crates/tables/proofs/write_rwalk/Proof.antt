@@ -47,7 +47,7 @@ use Rattle.numbers.specs.declared.Place.{Place}
 use Rattle.numbers.specs.declared.Place.TheVariants.{At, Refused}
 use Rattle.layouts.specs.declared.ids.Tag.{Tag}
 use Rattle.tables.specs.Qids.{placed, rwalk_past, all_of, to_follow, headed}
-use Rattle.tables.specs.QidLaws.{fitting, rwalk-written}
+use Rattle.tables.specs.QidLaws.{fitting, rwalk_written}
 use Rattle.tables.proofs.Again.{LentAgain, lends_again, comes_back}
 use Rattle.layouts.specs.contracts.qids.Qid as T
 use Rattle.layouts.specs.contracts.ids.Tag as G
@@ -156,7 +156,7 @@ module _ {M : Type 1} {𝓤 : Ura M} (𝓛 : Logic 𝓤) (mem : Memory → SProp
       → ent 𝓤 (⋆ 𝓛 (‵ ((O.the_row).own_val r (w ∷ [])) ∷ ‵ (OutAt κ γ fs (length xs)) ∷ ‵ (flft κ q) ∷ (‵ (flft κ' q') ⊛ ‵ ftrue) ∷ ‵ Tab ∷ [])) (Post w)
   exits gt len r w e =
       qed 𝓛 (‵ ((O.the_row).own_val r (w ∷ [])) ∷ ‵ (OutAt κ γ fs (length xs)) ∷ ‵ (flft κ q) ∷ (‵ (flft κ' q') ⊛ ‵ ftrue) ∷ ‵ Tab ∷ []) ∵
-      suffices ! _ (ends_at 𝓛 f.ended stayed (f.clauses 𝓛 mem run) (((κ, (κ', tt)), (q, (q', tt)), tt, x, vss), tt) w r (fs, (tt, (tt, tt))) (len, (tt, (tt, tt)))) $ says ! (rwalk-written tag.0 ys xs e) $
+      suffices ! _ (ends_at 𝓛 f.ended stayed (f.clauses 𝓛 mem run) (((κ, (κ', tt)), (q, (q', tt)), tt, x, vss), tt) w r (fs, (tt, (tt, tt))) (len, (tt, (tt, tt)))) $ says ! (rwalk_written tag.0 ys xs e) $
       move ! (2 ∷ 3 ∷ []) $ join ! $ frame ! $ nothing ! $ move ! (3 ∷ 0 ∷ []) $ fjoin ! $ owned ! G.the_row (Is G.the_row) (LL.makes G.the_type G'.the_plain 𝓛) tag _ gt $ fjoin ! $ move ! (2 ∷ 0 ∷ []) $ fjoin ! $ frame ! $ done !
 
   -- what each callee's triple binds outside, and what it asks

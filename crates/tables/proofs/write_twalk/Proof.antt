@@ -4,7 +4,7 @@ use native.Mathlib.Omega.{arith}
 use mathlib.Core.Path.{refl}
 use Rattle.numbers.specs.Numbers.{bytes_all}
 use Rattle.fields.specs.FieldLaws.{count_passed}
-use Rattle.tables.specs.TableLaws.{twalk-long, twalk-put}
+use Rattle.tables.specs.TableLaws.{twalk_long, twalk_put}
 use Rattle.tables.proofs.write_twalk.Statement.{statement}
 use Rattle.tables.proofs.write_twalk.Tie as tie
 
@@ -15,7 +15,7 @@ enum-told-2 : tie.Need-enum-told-2
 enum-told-2 c = search rules
 
 returns : tie.Need-returns
-returns c = twalk-long c.before.before.check-count.ensures c.enum-told2.given.1
+returns c = twalk_long c.before.before.check-count.ensures c.enum-told2.given.1
 
 cast-count : tie.Need-overflow-cast-count
 cast-count c =
@@ -34,7 +34,7 @@ returns-2 c =
     let e = v.before in
     let k = e.before.before in
     let b = bytes_all k.before.before.before.args.lent.now (λ i. (k.before.shared-slice-known.given i).fits) in
-    twalk-put b k.check-count.ensures e.enum_told.given.1 refl v.advanced.ensures l.measure-names.ensures s.begun.ensures p.put-twalk.ensures h.put-header.ensures
+    twalk_put b k.check-count.ensures e.enum_told.given.1 refl v.advanced.ensures l.measure-names.ensures s.begun.ensures p.put-twalk.ensures h.put-header.ensures
 
 pub write-twalk-spec : {M : Type 1} → statement M
 write-twalk-spec =

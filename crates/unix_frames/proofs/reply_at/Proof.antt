@@ -1,7 +1,7 @@
 -- Written by tools/messages from crates/frames/proofs/reply_at/Proof.antt.
 -- The bytes used of a message, or its refusal.
 use borrow.Author.Rules.{rules}
-use Rattle.unix_frames.specs.FrameLaws.{reply-message, reply-none}
+use Rattle.unix_frames.specs.FrameLaws.{reply_message, reply_none}
 use Rattle.unix_frames.proofs.reply_at.Statement.{statement}
 use Rattle.unix_frames.proofs.reply_at.Tie as tie
 
@@ -14,12 +14,12 @@ enum-known-b-2 c = search rules
 returns : tie.Need-returns
 returns c =
     let d = c.before.before.before.before in
-    reply-message _ _ _ d.before.body_at.ensures _ d.read-rmessage.ensures c.before.before.b.given.1 c.saturating-sub.ensures
+    reply_message _ _ _ d.before.body_at.ensures _ d.read-rmessage.ensures c.before.before.b.given.1 c.saturating-sub.ensures
 
 returns-2 : tie.Need-returns-2
 returns-2 c =
     let d = c.before.before.before in
-    reply-none _ _ _ d.before.body_at.ensures _ d.read-rmessage.ensures c.before.b2.given.1
+    reply_none _ _ _ d.before.body_at.ensures _ d.read-rmessage.ensures c.before.b2.given.1
 
 pub reply-at-spec : {M : Type 1} → statement M
 reply-at-spec = tie.close (tie.spec (λ _ _. tt) (λ _ _. tt) enum-known-b (λ _ _. tt) enum-known-b-2 returns returns-2)

@@ -1,7 +1,7 @@
 -- What the element's function found, and that it lies within the lent bytes.
 use native.Mathlib.Omega.{arith}
 use Rattle.numbers.specs.Numbers.{bytes_all}
-use Rattle.exports.specs.Elements.{name-lies, spanned_same}
+use Rattle.exports.specs.Elements.{name_lies, spanned_same}
 use Rattle.exports.proofs.walks.sheafsledge_name_at.Statement.{statement}
 use Rattle.exports.proofs.walks.sheafsledge_name_at.Tie as tie
 
@@ -10,7 +10,7 @@ spanned-requires c κs =
     let d = c.before in
     let e = d.before in
     let b = bytes_all e.before.args.lent.now (λ i. (e.shared-slice-known.given i).fits) in
-    name-lies _ _ _ _ _ b (omega arith) _ d.name-at.ensures
+    name_lies _ _ _ _ _ b (omega arith) _ d.name-at.ensures
 
 returns : tie.Need-returns
 returns c = spanned_same c.spanned.ensures c.before.before.name-at.ensures

@@ -1,6 +1,6 @@
 -- Accepted, its values are laid flat; refused, the lent ones are as they were.
 use borrow.Author.Rules.{rules}
-use Rattle.flat.specs.FlatLaws.{flat-known, flat-refused}
+use Rattle.flat.specs.FlatLaws.{flat_known, flat_refused}
 use Rattle.exports.specs.Answers.{fields_read}
 use Rattle.exports.proofs.walks.sheafsledge_read_qid.Statement.{statement}
 use Rattle.exports.proofs.walks.sheafsledge_read_qid.Tie as tie
@@ -12,13 +12,13 @@ enum-told-2 : tie.Need-enum-told-2
 enum-told-2 c = search rules
 
 returns : tie.Need-returns
-returns c = fields_read (flat-refused c.before.before.before.read-qid.ensures c.before.enum-told2.given.1) c.ended.ensures
+returns c = fields_read (flat_refused c.before.before.before.read-qid.ensures c.before.enum-told2.given.1) c.ended.ensures
 
 returns-2 : tie.Need-returns-2
 returns-2 c =
     let f = c.before in
     let n = f.before.before in
-    fields_read (flat-known n.before.before.read-qid.ensures n.enum_told.given.1 f.flat-qid.ensures) c.ended2.ensures
+    fields_read (flat_known n.before.before.read-qid.ensures n.enum_told.given.1 f.flat-qid.ensures) c.ended2.ensures
 
 pub sheafsledge-read-qid-spec : {M : Type 1} → statement M
 sheafsledge-read-qid-spec = tie.close (tie.spec (λ _ _. tt) enum_told enum-told-2 (λ _ _. tt) returns (λ _ _. tt) (λ _ _. tt) returns-2)

@@ -2,7 +2,7 @@
 use borrow.Author.Rules.{rules}
 use native.Mathlib.Omega.{arith}
 use mathlib.Core.Path.{refl}
-use Rattle.exports.specs.Elements.{ends_at, spanned-found, spanned-refused}
+use Rattle.exports.specs.Elements.{ends_at, spanned_found, spanned_refused}
 use Rattle.exports.proofs.walks.spanned.Statement.{statement}
 use Rattle.exports.proofs.walks.spanned.Tie as tie
 
@@ -25,10 +25,10 @@ enum-known-e-2 : tie.Need-enum-known-e-2
 enum-known-e-2 c = search rules
 
 returns : tie.Need-returns
-returns c = spanned-found _ c.before.before.before.e.given.1 refl c.ended.ensures
+returns c = spanned_found _ c.before.before.before.e.given.1 refl c.ended.ensures
 
 returns-2 : tie.Need-returns-2
-returns-2 c = spanned-refused _ c.before.before.e2.given.1 c.ended2.ensures
+returns-2 c = spanned_refused _ c.before.before.e2.given.1 c.ended2.ensures
 
 pub spanned-spec : {M : Type 1} → statement M
 spanned-spec = tie.close (tie.spec enum-known-e element-write-span element-write-span-2 add-end (λ _ _. tt) enum-known-e-2 (λ _ _. tt) returns returns-2)

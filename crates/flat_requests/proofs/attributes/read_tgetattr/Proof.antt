@@ -2,7 +2,7 @@
 -- Refused, the lent values are as they were; accepted, the record's stand at their front.
 use borrow.Author.Rules.{rules}
 use mathlib.Core.Path.{refl}
-use Rattle.flat.specs.FlatLaws.{flat-known, flat-refused, fields_skipped}
+use Rattle.flat.specs.FlatLaws.{flat_known, flat_refused, fields_skipped}
 use Rattle.flat_requests.proofs.attributes.read_tgetattr.Statement.{statement}
 use Rattle.flat_requests.proofs.attributes.read_tgetattr.Tie as tie
 
@@ -13,13 +13,13 @@ enum-told-2 : tie.Need-enum-told-2
 enum-told-2 c = search rules
 
 returns : tie.Need-returns
-returns c = flat-refused (fields_skipped refl refl c.before.before.skip.ensures refl) c.enum-told2.given.1
+returns c = flat_refused (fields_skipped refl refl c.before.before.skip.ensures refl) c.enum-told2.given.1
 
 returns-2 : tie.Need-returns-2
 returns-2 c =
     let r = c.before.before.before in
     let n = r.before in
-    flat-known (fields_skipped refl refl n.before.before.skip.ensures r.read-tgetattr.ensures.values) n.enum_told.given.1 c.flat-tgetattr.ensures
+    flat_known (fields_skipped refl refl n.before.before.skip.ensures r.read-tgetattr.ensures.values) n.enum_told.given.1 c.flat-tgetattr.ensures
 
 pub read-tgetattr-spec : {M : Type 1} → statement M
 read-tgetattr-spec = tie.close (tie.spec (λ _ _. tt) enum_told enum-told-2 returns (λ _ _. tt) (λ _ _. tt) returns-2)

@@ -1,7 +1,7 @@
 -- Written by tools/messages from its table of messages.
 -- Refused, the lent values are as they were; accepted, the record's stand at their front.
 use borrow.Author.Rules.{rules}
-use Rattle.flat.specs.FlatLaws.{flat-known, flat-refused}
+use Rattle.flat.specs.FlatLaws.{flat_known, flat_refused}
 use Rattle.flat_requests.proofs.sessions.read_tauth.Statement.{statement}
 use Rattle.flat_requests.proofs.sessions.read_tauth.Tie as tie
 
@@ -12,12 +12,12 @@ enum-told-2 : tie.Need-enum-told-2
 enum-told-2 c = search rules
 
 returns : tie.Need-returns
-returns c = flat-refused c.before.before.read-tauth.ensures c.enum-told2.given.1
+returns c = flat_refused c.before.before.read-tauth.ensures c.enum-told2.given.1
 
 returns-2 : tie.Need-returns-2
 returns-2 c =
     let n = c.before.before.before in
-    flat-known n.before.before.read-tauth.ensures n.enum_told.given.1 c.flat-tauth.ensures
+    flat_known n.before.before.read-tauth.ensures n.enum_told.given.1 c.flat-tauth.ensures
 
 pub read-tauth-spec : {M : Type 1} → statement M
 read-tauth-spec = tie.close (tie.spec (λ _ _. tt) enum_told enum-told-2 returns (λ _ _. tt) returns-2)

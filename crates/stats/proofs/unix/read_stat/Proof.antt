@@ -4,7 +4,7 @@ use mathlib.Core.Path.{sym}
 use lib.Seq.{length-take-le}
 use Rattle.numbers.specs.Numbers.{bytes_all}
 use Rattle.fields.specs.FieldLaws.{number_field, string_field, field, done}
-use Rattle.fields.specs.BoxLaws.{box_read, box-refused}
+use Rattle.fields.specs.BoxLaws.{box_read, box_refused}
 use Rattle.stats.specs.Appending.{fields_then}
 use Rattle.stats.specs.StatLaws.{blank_read}
 use Rattle.stats.proofs.unix.read_stat.Statement.{statement}
@@ -31,7 +31,7 @@ returns c =
     let l = o.before in
     let b = bytes_all l.before.args.s.now (λ i. (l.shared-slice-known.given i).fits) in
     blank_read c.no-stat.ensures
-    (box-refused o.open-stat.ensures b
+    (box_refused o.open-stat.ensures b
     (fields_then c1.read-fields.ensures (field (string_field c2.read-str.ensures) (field (number_field c3.read_u32.ensures) (field (number_field c4.read-u322.ensures) (field (number_field c5.read-u323.ensures) done)))))
     n.enum-told2.given.1)
 
