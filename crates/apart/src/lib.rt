@@ -1,6 +1,8 @@
 // The four requests of two strings, written from flat values and from two slices: each string is all of one. So a caller whose strings lie
 // apart need not copy them together.
 
+#![tactic(auto)]
+
 ghost use Rattle.std.specs.Prelude.{[], ◌∷◌, ◌++◌, length};
 ghost use Rattle.std.proofs.Math.Option.{some};
 ghost use Rattle.numbers.specs.Numbers.{to_le};

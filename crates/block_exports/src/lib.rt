@@ -1,6 +1,8 @@
 // Directory blocks for Rust: an entry at a position, and entries packed from a table of flat values. They have a crate, and an archive, of
 // their own, as the frames have.
 
+#![tactic(auto)]
+
 ghost use Rattle.block_exports.specs.Answers.{EntryRead, PackWritten};
 
 use blocks::{Packing, Step};
@@ -10,7 +12,7 @@ use numbers::Place;
 // What crosses to Rust once entries were packed: 0, how many they are and how many bytes; or the refusal of a name and its place (F2.7), and
 // no entries.
 #[repr(C)]
-#[derive(Drop)]
+#[derive(Clone, Copy)]
 pub struct Packed {
     pub refusal: u8,
     pub entries: usize,

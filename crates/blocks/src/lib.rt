@@ -1,5 +1,7 @@
 // A directory block: the data of an Rreaddir, entries one after the other. One entry at a position, and entries packed from a table.
 
+#![tactic(auto)]
+
 ghost use Rattle.std.specs.Prelude.{◌≡◌, ◌+◌, ◌≤◌, length};
 ghost use Rattle.numbers.specs.Places.{over};
 ghost use Rattle.numbers.specs.declared.Place.TheVariants.{At};
@@ -16,7 +18,7 @@ use numbers::{Place, Refusal};
 use strings::Span;
 
 // An entry as it is listed: where it begins, what it is, and where the next one begins. Its name is a span of the block.
-#[derive(Drop)]
+#[derive(Clone, Copy)]
 pub struct Listed {
     pub at: usize,
     pub entry: Dirent,
@@ -24,7 +26,7 @@ pub struct Listed {
 }
 
 // What is at a position: an entry; the end, where exactly nothing is left; or a refusal, where a text breaks (F2.7), and the position.
-#[derive(Drop)]
+#[derive(Clone, Copy)]
 pub enum Step {
     Entry(Listed),
     End(usize),
@@ -52,7 +54,7 @@ pub fn entry_at(block: &[u8], position: usize) -> Step
 }
 
 // How many entries are packed, and how many bytes they are; or the refusal of a name, with its place.
-#[derive(Drop)]
+#[derive(Clone, Copy)]
 pub enum Packing {
     Packed(usize, usize),
     Refused(Refusal, usize),

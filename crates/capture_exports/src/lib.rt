@@ -1,6 +1,8 @@
 // Capture files, for Rust (F13): one made a stretch, and a stretch made one. They have a crate, and an archive, of their own, so that no crate
 // of the frames relies on them.
 
+#![tactic(auto)]
+
 ghost use Rattle.capture_exports.specs.Captures.{ImportMade, ExportMade};
 
 use captures::Imported;

@@ -1,6 +1,8 @@
 // Capture files (F13): the frames of one as a stretch, with their times in a lent table; and a stretch with such a table as a file. What is
 // lent is written only once all of the other side was looked at. No sum is formed that could wrap.
 
+#![tactic(auto)]
+
 ghost use Rattle.std.specs.Prelude.{◌≡◌, ◌+◌, ◌≤◌, ◌<◌, true, false, [], ◌++◌, length, take, drop};
 ghost use Rattle.std.proofs.Math.Option.{some};
 ghost use Rattle.numbers.specs.Places.{over};
@@ -33,7 +35,7 @@ const LEAST: u32 = 7;
 const MOST: u32 = 65_535;
 
 // So many bytes of a stretch and so many frames; or why not, and where the file is broken.
-#[derive(Drop)]
+#[derive(Clone, Copy)]
 pub enum Imported {
     Held(usize, usize),
     Refused(Refusal, usize),

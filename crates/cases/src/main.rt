@@ -3,6 +3,8 @@
 // gets an answer a line; the file `stdout` beside `src` has what each is owed. The headings say what is asked, and what is answered;
 // `questions` says how.
 
+#![tactic(auto)]
+
 mod answers;
 mod outputs;
 mod request;

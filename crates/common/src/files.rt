@@ -10,14 +10,14 @@ use layouts::ids::Fid;
 use numbers::Place;
 use strings::Span;
 
-#[derive(Drop)]
+#[derive(Clone, Copy)]
 pub struct Tread {
     pub fid: Fid,
     pub offset: u64,
     pub count: u32,
 }
 
-#[derive(Drop)]
+#[derive(Clone, Copy)]
 pub struct ReadTread {
     pub value: Tread,
     pub next: Place,
@@ -52,12 +52,12 @@ pub fn write_tread(out: &mut [u8], p: Place, lent: &[u8], m: Tread) -> Place
     numbers::put_u32(out, q2, m.count)
 }
 
-#[derive(Drop)]
+#[derive(Clone, Copy)]
 pub struct Rread {
     pub data: Span,
 }
 
-#[derive(Drop)]
+#[derive(Clone, Copy)]
 pub struct ReadRread {
     pub value: Rread,
     pub next: Place,
@@ -83,14 +83,14 @@ pub fn write_rread(out: &mut [u8], p: Place, lent: &[u8], m: Rread) -> Place
     strings::put_bytes(out, q1, lent, data)
 }
 
-#[derive(Drop)]
+#[derive(Clone, Copy)]
 pub struct Twrite {
     pub fid: Fid,
     pub offset: u64,
     pub data: Span,
 }
 
-#[derive(Drop)]
+#[derive(Clone, Copy)]
 pub struct ReadTwrite {
     pub value: Twrite,
     pub next: Place,
@@ -129,12 +129,12 @@ pub fn write_twrite(out: &mut [u8], p: Place, lent: &[u8], m: Twrite) -> Place
     strings::put_bytes(out, q3, lent, data)
 }
 
-#[derive(Drop)]
+#[derive(Clone, Copy)]
 pub struct Rwrite {
     pub count: u32,
 }
 
-#[derive(Drop)]
+#[derive(Clone, Copy)]
 pub struct ReadRwrite {
     pub value: Rwrite,
     pub next: Place,
@@ -157,12 +157,12 @@ pub fn write_rwrite(out: &mut [u8], p: Place, lent: &[u8], m: Rwrite) -> Place
     numbers::put_u32(out, start, m.count)
 }
 
-#[derive(Drop)]
+#[derive(Clone, Copy)]
 pub struct Tremove {
     pub fid: Fid,
 }
 
-#[derive(Drop)]
+#[derive(Clone, Copy)]
 pub struct ReadTremove {
     pub value: Tremove,
     pub next: Place,

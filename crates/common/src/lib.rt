@@ -2,6 +2,8 @@
 // the request before the reply. A reader goes through the fields at a place; a writer lays them, in the pass that it is asked for. An empty
 // reply has none of the three.
 
+#![tactic(auto)]
+
 pub mod files;
 pub mod sessions;
 pub mod walking;

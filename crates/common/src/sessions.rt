@@ -12,13 +12,13 @@ use layouts::qids::Qid;
 use numbers::Place;
 use strings::Span;
 
-#[derive(Drop)]
+#[derive(Clone, Copy)]
 pub struct Tversion {
     pub msize: u32,
     pub version: Span,
 }
 
-#[derive(Drop)]
+#[derive(Clone, Copy)]
 pub struct ReadTversion {
     pub value: Tversion,
     pub next: Place,
@@ -51,13 +51,13 @@ pub fn write_tversion(out: &mut [u8], p: Place, lent: &[u8], m: Tversion) -> Pla
     strings::put_bytes(out, q2, lent, version)
 }
 
-#[derive(Drop)]
+#[derive(Clone, Copy)]
 pub struct Rversion {
     pub msize: u32,
     pub version: Span,
 }
 
-#[derive(Drop)]
+#[derive(Clone, Copy)]
 pub struct ReadRversion {
     pub value: Rversion,
     pub next: Place,
@@ -90,12 +90,12 @@ pub fn write_rversion(out: &mut [u8], p: Place, lent: &[u8], m: Rversion) -> Pla
     strings::put_bytes(out, q2, lent, version)
 }
 
-#[derive(Drop)]
+#[derive(Clone, Copy)]
 pub struct Rauth {
     pub aqid: Qid,
 }
 
-#[derive(Drop)]
+#[derive(Clone, Copy)]
 pub struct ReadRauth {
     pub value: Rauth,
     pub next: Place,
@@ -122,12 +122,12 @@ pub fn write_rauth(out: &mut [u8], p: Place, lent: &[u8], m: Rauth) -> Place
     numbers::put_u64(out, q2, aqid.path)
 }
 
-#[derive(Drop)]
+#[derive(Clone, Copy)]
 pub struct Rattach {
     pub qid: Qid,
 }
 
-#[derive(Drop)]
+#[derive(Clone, Copy)]
 pub struct ReadRattach {
     pub value: Rattach,
     pub next: Place,
@@ -154,12 +154,12 @@ pub fn write_rattach(out: &mut [u8], p: Place, lent: &[u8], m: Rattach) -> Place
     numbers::put_u64(out, q2, qid.path)
 }
 
-#[derive(Drop)]
+#[derive(Clone, Copy)]
 pub struct Tflush {
     pub oldtag: Tag,
 }
 
-#[derive(Drop)]
+#[derive(Clone, Copy)]
 pub struct ReadTflush {
     pub value: Tflush,
     pub next: Place,
@@ -184,12 +184,12 @@ pub fn write_tflush(out: &mut [u8], p: Place, lent: &[u8], m: Tflush) -> Place
     numbers::put_u16(out, start, oldtag.0)
 }
 
-#[derive(Drop)]
+#[derive(Clone, Copy)]
 pub struct Tclunk {
     pub fid: Fid,
 }
 
-#[derive(Drop)]
+#[derive(Clone, Copy)]
 pub struct ReadTclunk {
     pub value: Tclunk,
     pub next: Place,

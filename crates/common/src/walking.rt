@@ -10,14 +10,14 @@ use fields::Part;
 use layouts::ids::Fid;
 use numbers::Place;
 
-#[derive(Drop)]
+#[derive(Clone, Copy)]
 pub struct Twalk {
     pub fid: Fid,
     pub newfid: Fid,
     pub wnames: Part,
 }
 
-#[derive(Drop)]
+#[derive(Clone, Copy)]
 pub struct ReadTwalk {
     pub value: Twalk,
     pub next: Place,
@@ -59,12 +59,12 @@ pub fn write_twalk(out: &mut [u8], p: Place, lent: &[u8], m: Twalk) -> Place
     strings::put_bytes(out, q3, lent, elements)
 }
 
-#[derive(Drop)]
+#[derive(Clone, Copy)]
 pub struct Rwalk {
     pub wqids: Part,
 }
 
-#[derive(Drop)]
+#[derive(Clone, Copy)]
 pub struct ReadRwalk {
     pub value: Rwalk,
     pub next: Place,

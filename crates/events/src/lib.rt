@@ -1,5 +1,7 @@
 // What a listed frame is to a session (F15.5, F15.6).
 
+#![tactic(auto)]
+
 ghost use Rattle.std.specs.Prelude.{◌≡◌};
 ghost use Rattle.common.specs.Records.{tflush, twalk};
 ghost use Rattle.messages.specs.Records.{tattach, tlcreate};

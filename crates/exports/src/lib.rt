@@ -1,6 +1,8 @@
 // The functions that Rust calls, but for those of a frame, which stand in `request_exports`, `reply_exports` and `stretch_exports`. Nothing is decided in
 // them: what the crates below answer is taken apart and laid flat, and what they take is put together.
 
+#![tactic(auto)]
+
 pub mod attributes;
 pub mod dirents;
 pub mod stretches;
@@ -16,7 +18,7 @@ use numbers::Place;
 // frame also has a tag, and a type where it was accepted or stands at a position; `held` says that there is one. Values go into room that the
 // caller lends.
 #[repr(C)]
-#[derive(Drop)]
+#[derive(Clone, Copy)]
 pub struct Outcome {
     pub refusal: u8,
     pub ty: u8,

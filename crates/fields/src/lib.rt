@@ -1,5 +1,7 @@
 // Data and vectors, read at a place of a slice as a span or a part.
 
+#![tactic(auto)]
+
 ghost use Rattle.std.specs.Prelude.{◌+◌, ◌≤◌, ◌<◌, ◌≡◌, length};
 ghost use Rattle.fields.specs.Layouts.{dat, strs, quids};
 ghost use Rattle.fields.specs.Values.{span, part};
@@ -11,14 +13,14 @@ use strings::{ReadSpan, Span};
 use utf8::{eight_plain, is_plain};
 
 // The elements of a vector: how many they are, and the part of the bytes that holds them.
-#[derive(Drop)]
+#[derive(Clone, Copy)]
 pub struct Part {
     pub count: u16,
     pub elements: Span,
 }
 
 // The part of what was read, all 0 if it was refused, and the place after it.
-#[derive(Drop)]
+#[derive(Clone, Copy)]
 pub struct ReadPart {
     pub value: Part,
     pub next: Place,

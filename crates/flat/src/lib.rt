@@ -2,6 +2,8 @@
 // back. A number is one value, a span its start and length, a part its count, start and length. Each array of a direction has room for
 // any of its records; the values that are left stay as they were. Back, a field takes the lowest bytes of its value, as Rust's `as` does.
 
+#![tactic(auto)]
+
 pub mod attributes;
 pub mod directories;
 pub mod dirents;

@@ -1,6 +1,8 @@
 // Written by tools/messages from its table of messages.
 // The 28 requests, read flat and written from flat values, by their type number.
 
+#![tactic(auto)]
+
 mod attributes;
 mod directories;
 mod files;

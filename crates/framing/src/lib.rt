@@ -1,6 +1,8 @@
 // Where a frame begins and ends: its header read and put, and a stretch of frames cut by their sizes. No body is looked at here, and no table
 // of types; the definition of a frame and of a stretch, over any tables, and what is proved of it stand in this crate's specs.
 
+#![tactic(auto)]
+
 ghost use Rattle.std.specs.Prelude.{◌≡◌, min, length};
 ghost use Rattle.framing.specs.Writing.{HeadPut};
 ghost use Rattle.framing.specs.Headers.{TypeTag, HeadIs};
@@ -13,7 +15,7 @@ use numbers::{Place, Refusal};
 pub const BODY: usize = 7;
 
 // A header: how many bytes of the slice are the frame's, its type and its tag; or why it can't be read.
-#[derive(Drop)]
+#[derive(Clone, Copy)]
 pub enum Head {
     Held(usize, u8, u16),
     Refused(Refusal),
@@ -97,7 +99,7 @@ pub fn put_header(out: &mut [u8], end: Place, ty: u8, tag: u16) -> Place
 
 // How a stretch is cut at a position: a whole frame, told by its type, its tag and the next position; the end; or 12, 13. Its body is
 // not looked at.
-#[derive(Drop)]
+#[derive(Clone, Copy)]
 pub enum Cut {
     Whole(u8, u16, usize),
     End,

@@ -10,7 +10,7 @@ use numbers::{Place, Refusal};
 use strings::Span;
 
 // Where an element stands among the lent bytes; or why it can't be given, and where.
-#[derive(Drop)]
+#[derive(Clone, Copy)]
 pub enum Element {
     Found(Span),
     Refused(Refusal, usize),

@@ -1,6 +1,8 @@
 // Fields checked and measured at places. No output is touched here but by the writers of data and of vectors: a writer measures all its
 // fields, asks `begun`, and only then puts bytes, so that a refusal leaves the output as it was, and no text is looked at twice.
 
+#![tactic(auto)]
+
 pub mod elements;
 
 ghost use Rattle.std.specs.Prelude.{◌≡◌, [], ◌∷◌};

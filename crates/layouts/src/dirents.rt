@@ -11,7 +11,7 @@ use crate::qids::Qid;
 use numbers::Place;
 use strings::Span;
 
-#[derive(Drop)]
+#[derive(Clone, Copy)]
 pub struct Dirent {
     pub qid: Qid,
     pub offset: u64,
@@ -19,7 +19,7 @@ pub struct Dirent {
     pub name: Span,
 }
 
-#[derive(Drop)]
+#[derive(Clone, Copy)]
 pub struct ReadDirent {
     pub value: Dirent,
     pub next: Place,

@@ -2,12 +2,12 @@
 // over by Rust too, so these two are C structs.
 
 #[repr(C)]
-#[derive(Drop)]
+#[derive(Clone, Copy)]
 pub struct Fid(pub u32);
 
-#[derive(Drop)]
+#[derive(Clone, Copy)]
 pub struct Gid(pub u32);
 
 #[repr(C)]
-#[derive(Drop)]
+#[derive(Clone, Copy)]
 pub struct Tag(pub u16);

@@ -10,14 +10,14 @@ use numbers::Place;
 
 // The layout is C's, so that Rust can lend a table of them.
 #[repr(C)]
-#[derive(Drop)]
+#[derive(Clone, Copy)]
 pub struct Qid {
     pub ty: u8,
     pub version: u32,
     pub path: u64,
 }
 
-#[derive(Drop)]
+#[derive(Clone, Copy)]
 pub struct ReadQid {
     pub value: Qid,
     pub next: Place,

@@ -1,5 +1,7 @@
 // The lister: a recorded stretch of 9P2000.L frames on standard input, a line for each frame on standard output.
 
+#![tactic(auto)]
+
 use listing::input;
 use listing::input::Input;
 

@@ -2,7 +2,7 @@
 
 ghost use Rattle.listing.specs.Inputs.{Holds};
 
-#[derive(Drop)]
+#[derive(Clone, Copy)]
 pub enum Input {
     Read(usize),
     Failed,

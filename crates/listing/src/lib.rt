@@ -1,5 +1,7 @@
 // The lister's text: a stretch of frames, a line for each, made in a room that the caller lends.
 
+#![tactic(auto)]
+
 pub mod input;
 
 ghost use Rattle.std.specs.Prelude.{◌≡◌};

@@ -12,7 +12,7 @@ use layouts::qids::Qid;
 use numbers::Place;
 use strings::Span;
 
-#[derive(Drop)]
+#[derive(Clone, Copy)]
 pub struct Tsymlink {
     pub fid: Fid,
     pub name: Span,
@@ -20,7 +20,7 @@ pub struct Tsymlink {
     pub gid: Gid,
 }
 
-#[derive(Drop)]
+#[derive(Clone, Copy)]
 pub struct ReadTsymlink {
     pub value: Tsymlink,
     pub next: Place,
@@ -70,12 +70,12 @@ pub fn write_tsymlink(out: &mut [u8], p: Place, lent: &[u8], m: Tsymlink) -> Pla
     numbers::put_u32(out, q5, gid.0)
 }
 
-#[derive(Drop)]
+#[derive(Clone, Copy)]
 pub struct Rsymlink {
     pub qid: Qid,
 }
 
-#[derive(Drop)]
+#[derive(Clone, Copy)]
 pub struct ReadRsymlink {
     pub value: Rsymlink,
     pub next: Place,
@@ -102,7 +102,7 @@ pub fn write_rsymlink(out: &mut [u8], p: Place, lent: &[u8], m: Rsymlink) -> Pla
     numbers::put_u64(out, q2, qid.path)
 }
 
-#[derive(Drop)]
+#[derive(Clone, Copy)]
 pub struct Tmknod {
     pub dfid: Fid,
     pub name: Span,
@@ -112,7 +112,7 @@ pub struct Tmknod {
     pub gid: Gid,
 }
 
-#[derive(Drop)]
+#[derive(Clone, Copy)]
 pub struct ReadTmknod {
     pub value: Tmknod,
     pub next: Place,
@@ -166,12 +166,12 @@ pub fn write_tmknod(out: &mut [u8], p: Place, lent: &[u8], m: Tmknod) -> Place
     numbers::put_u32(out, q6, gid.0)
 }
 
-#[derive(Drop)]
+#[derive(Clone, Copy)]
 pub struct Rmknod {
     pub qid: Qid,
 }
 
-#[derive(Drop)]
+#[derive(Clone, Copy)]
 pub struct ReadRmknod {
     pub value: Rmknod,
     pub next: Place,
@@ -198,14 +198,14 @@ pub fn write_rmknod(out: &mut [u8], p: Place, lent: &[u8], m: Rmknod) -> Place
     numbers::put_u64(out, q2, qid.path)
 }
 
-#[derive(Drop)]
+#[derive(Clone, Copy)]
 pub struct Trename {
     pub fid: Fid,
     pub dfid: Fid,
     pub name: Span,
 }
 
-#[derive(Drop)]
+#[derive(Clone, Copy)]
 pub struct ReadTrename {
     pub value: Trename,
     pub next: Place,
@@ -242,12 +242,12 @@ pub fn write_trename(out: &mut [u8], p: Place, lent: &[u8], m: Trename) -> Place
     strings::put_bytes(out, q3, lent, name)
 }
 
-#[derive(Drop)]
+#[derive(Clone, Copy)]
 pub struct Treadlink {
     pub fid: Fid,
 }
 
-#[derive(Drop)]
+#[derive(Clone, Copy)]
 pub struct ReadTreadlink {
     pub value: Treadlink,
     pub next: Place,
@@ -272,12 +272,12 @@ pub fn write_treadlink(out: &mut [u8], p: Place, lent: &[u8], m: Treadlink) -> P
     numbers::put_u32(out, start, fid.0)
 }
 
-#[derive(Drop)]
+#[derive(Clone, Copy)]
 pub struct Rreadlink {
     pub target: Span,
 }
 
-#[derive(Drop)]
+#[derive(Clone, Copy)]
 pub struct ReadRreadlink {
     pub value: Rreadlink,
     pub next: Place,
@@ -303,14 +303,14 @@ pub fn write_rreadlink(out: &mut [u8], p: Place, lent: &[u8], m: Rreadlink) -> P
     strings::put_bytes(out, q1, lent, target)
 }
 
-#[derive(Drop)]
+#[derive(Clone, Copy)]
 pub struct Treaddir {
     pub fid: Fid,
     pub offset: u64,
     pub count: u32,
 }
 
-#[derive(Drop)]
+#[derive(Clone, Copy)]
 pub struct ReadTreaddir {
     pub value: Treaddir,
     pub next: Place,
@@ -345,12 +345,12 @@ pub fn write_treaddir(out: &mut [u8], p: Place, lent: &[u8], m: Treaddir) -> Pla
     numbers::put_u32(out, q2, m.count)
 }
 
-#[derive(Drop)]
+#[derive(Clone, Copy)]
 pub struct Rreaddir {
     pub data: Span,
 }
 
-#[derive(Drop)]
+#[derive(Clone, Copy)]
 pub struct ReadRreaddir {
     pub value: Rreaddir,
     pub next: Place,
@@ -376,14 +376,14 @@ pub fn write_rreaddir(out: &mut [u8], p: Place, lent: &[u8], m: Rreaddir) -> Pla
     strings::put_bytes(out, q1, lent, data)
 }
 
-#[derive(Drop)]
+#[derive(Clone, Copy)]
 pub struct Tlink {
     pub dfid: Fid,
     pub fid: Fid,
     pub name: Span,
 }
 
-#[derive(Drop)]
+#[derive(Clone, Copy)]
 pub struct ReadTlink {
     pub value: Tlink,
     pub next: Place,
@@ -420,7 +420,7 @@ pub fn write_tlink(out: &mut [u8], p: Place, lent: &[u8], m: Tlink) -> Place
     strings::put_bytes(out, q3, lent, name)
 }
 
-#[derive(Drop)]
+#[derive(Clone, Copy)]
 pub struct Tmkdir {
     pub dfid: Fid,
     pub name: Span,
@@ -428,7 +428,7 @@ pub struct Tmkdir {
     pub gid: Gid,
 }
 
-#[derive(Drop)]
+#[derive(Clone, Copy)]
 pub struct ReadTmkdir {
     pub value: Tmkdir,
     pub next: Place,
@@ -474,12 +474,12 @@ pub fn write_tmkdir(out: &mut [u8], p: Place, lent: &[u8], m: Tmkdir) -> Place
     numbers::put_u32(out, q4, gid.0)
 }
 
-#[derive(Drop)]
+#[derive(Clone, Copy)]
 pub struct Rmkdir {
     pub qid: Qid,
 }
 
-#[derive(Drop)]
+#[derive(Clone, Copy)]
 pub struct ReadRmkdir {
     pub value: Rmkdir,
     pub next: Place,
@@ -506,7 +506,7 @@ pub fn write_rmkdir(out: &mut [u8], p: Place, lent: &[u8], m: Rmkdir) -> Place
     numbers::put_u64(out, q2, qid.path)
 }
 
-#[derive(Drop)]
+#[derive(Clone, Copy)]
 pub struct Trenameat {
     pub olddirfid: Fid,
     pub oldname: Span,
@@ -514,7 +514,7 @@ pub struct Trenameat {
     pub newname: Span,
 }
 
-#[derive(Drop)]
+#[derive(Clone, Copy)]
 pub struct ReadTrenameat {
     pub value: Trenameat,
     pub next: Place,
@@ -564,14 +564,14 @@ pub fn write_trenameat(out: &mut [u8], p: Place, lent: &[u8], m: Trenameat) -> P
     strings::put_bytes(out, q5, lent, newname)
 }
 
-#[derive(Drop)]
+#[derive(Clone, Copy)]
 pub struct Tunlinkat {
     pub dirfd: Fid,
     pub name: Span,
     pub flags: u32,
 }
 
-#[derive(Drop)]
+#[derive(Clone, Copy)]
 pub struct ReadTunlinkat {
     pub value: Tunlinkat,
     pub next: Place,

@@ -12,13 +12,13 @@ use layouts::qids::Qid;
 use numbers::Place;
 use strings::Span;
 
-#[derive(Drop)]
+#[derive(Clone, Copy)]
 pub struct Tlopen {
     pub fid: Fid,
     pub flags: u32,
 }
 
-#[derive(Drop)]
+#[derive(Clone, Copy)]
 pub struct ReadTlopen {
     pub value: Tlopen,
     pub next: Place,
@@ -49,13 +49,13 @@ pub fn write_tlopen(out: &mut [u8], p: Place, lent: &[u8], m: Tlopen) -> Place
     numbers::put_u32(out, q1, m.flags)
 }
 
-#[derive(Drop)]
+#[derive(Clone, Copy)]
 pub struct Rlopen {
     pub qid: Qid,
     pub iounit: u32,
 }
 
-#[derive(Drop)]
+#[derive(Clone, Copy)]
 pub struct ReadRlopen {
     pub value: Rlopen,
     pub next: Place,
@@ -88,7 +88,7 @@ pub fn write_rlopen(out: &mut [u8], p: Place, lent: &[u8], m: Rlopen) -> Place
     numbers::put_u32(out, q3, m.iounit)
 }
 
-#[derive(Drop)]
+#[derive(Clone, Copy)]
 pub struct Tlcreate {
     pub fid: Fid,
     pub name: Span,
@@ -97,7 +97,7 @@ pub struct Tlcreate {
     pub gid: Gid,
 }
 
-#[derive(Drop)]
+#[derive(Clone, Copy)]
 pub struct ReadTlcreate {
     pub value: Tlcreate,
     pub next: Place,
@@ -147,13 +147,13 @@ pub fn write_tlcreate(out: &mut [u8], p: Place, lent: &[u8], m: Tlcreate) -> Pla
     numbers::put_u32(out, q5, gid.0)
 }
 
-#[derive(Drop)]
+#[derive(Clone, Copy)]
 pub struct Rlcreate {
     pub qid: Qid,
     pub iounit: u32,
 }
 
-#[derive(Drop)]
+#[derive(Clone, Copy)]
 pub struct ReadRlcreate {
     pub value: Rlcreate,
     pub next: Place,
@@ -186,13 +186,13 @@ pub fn write_rlcreate(out: &mut [u8], p: Place, lent: &[u8], m: Rlcreate) -> Pla
     numbers::put_u32(out, q3, m.iounit)
 }
 
-#[derive(Drop)]
+#[derive(Clone, Copy)]
 pub struct Tfsync {
     pub fid: Fid,
     pub datasync: u32,
 }
 
-#[derive(Drop)]
+#[derive(Clone, Copy)]
 pub struct ReadTfsync {
     pub value: Tfsync,
     pub next: Place,

@@ -10,7 +10,7 @@ use layouts::ids::Fid;
 use numbers::Place;
 use strings::Span;
 
-#[derive(Drop)]
+#[derive(Clone, Copy)]
 pub struct Tauth {
     pub afid: Fid,
     pub uname: Span,
@@ -18,7 +18,7 @@ pub struct Tauth {
     pub n_uname: u32,
 }
 
-#[derive(Drop)]
+#[derive(Clone, Copy)]
 pub struct ReadTauth {
     pub value: Tauth,
     pub next: Place,
@@ -66,7 +66,7 @@ pub fn write_tauth(out: &mut [u8], p: Place, lent: &[u8], m: Tauth) -> Place
     numbers::put_u32(out, q5, m.n_uname)
 }
 
-#[derive(Drop)]
+#[derive(Clone, Copy)]
 pub struct Tattach {
     pub fid: Fid,
     pub afid: Fid,
@@ -75,7 +75,7 @@ pub struct Tattach {
     pub n_uname: u32,
 }
 
-#[derive(Drop)]
+#[derive(Clone, Copy)]
 pub struct ReadTattach {
     pub value: Tattach,
     pub next: Place,
@@ -129,12 +129,12 @@ pub fn write_tattach(out: &mut [u8], p: Place, lent: &[u8], m: Tattach) -> Place
     numbers::put_u32(out, q6, m.n_uname)
 }
 
-#[derive(Drop)]
+#[derive(Clone, Copy)]
 pub struct Rlerror {
     pub ecode: u32,
 }
 
-#[derive(Drop)]
+#[derive(Clone, Copy)]
 pub struct ReadRlerror {
     pub value: Rlerror,
     pub next: Place,

@@ -12,12 +12,12 @@ use layouts::qids::Qid;
 use numbers::Place;
 use strings::Span;
 
-#[derive(Drop)]
+#[derive(Clone, Copy)]
 pub struct Tstatfs {
     pub fid: Fid,
 }
 
-#[derive(Drop)]
+#[derive(Clone, Copy)]
 pub struct ReadTstatfs {
     pub value: Tstatfs,
     pub next: Place,
@@ -42,7 +42,7 @@ pub fn write_tstatfs(out: &mut [u8], p: Place, lent: &[u8], m: Tstatfs) -> Place
     numbers::put_u32(out, start, fid.0)
 }
 
-#[derive(Drop)]
+#[derive(Clone, Copy)]
 pub struct Rstatfs {
     pub ty: u32,
     pub bsize: u32,
@@ -55,7 +55,7 @@ pub struct Rstatfs {
     pub namelen: u32,
 }
 
-#[derive(Drop)]
+#[derive(Clone, Copy)]
 pub struct ReadRstatfs {
     pub value: Rstatfs,
     pub next: Place,
@@ -112,13 +112,13 @@ pub fn write_rstatfs(out: &mut [u8], p: Place, lent: &[u8], m: Rstatfs) -> Place
     numbers::put_u32(out, q8, m.namelen)
 }
 
-#[derive(Drop)]
+#[derive(Clone, Copy)]
 pub struct Tgetattr {
     pub fid: Fid,
     pub request_mask: u64,
 }
 
-#[derive(Drop)]
+#[derive(Clone, Copy)]
 pub struct ReadTgetattr {
     pub value: Tgetattr,
     pub next: Place,
@@ -149,7 +149,7 @@ pub fn write_tgetattr(out: &mut [u8], p: Place, lent: &[u8], m: Tgetattr) -> Pla
     numbers::put_u64(out, q1, m.request_mask)
 }
 
-#[derive(Drop)]
+#[derive(Clone, Copy)]
 pub struct Rgetattr {
     pub valid: u64,
     pub qid: Qid,
@@ -173,7 +173,7 @@ pub struct Rgetattr {
     pub data_version: u64,
 }
 
-#[derive(Drop)]
+#[derive(Clone, Copy)]
 pub struct ReadRgetattr {
     pub value: Rgetattr,
     pub next: Place,
@@ -280,7 +280,7 @@ pub fn write_rgetattr(out: &mut [u8], p: Place, lent: &[u8], m: Rgetattr) -> Pla
     numbers::put_u64(out, q21, m.data_version)
 }
 
-#[derive(Drop)]
+#[derive(Clone, Copy)]
 pub struct Tsetattr {
     pub fid: Fid,
     pub valid: u32,
@@ -294,7 +294,7 @@ pub struct Tsetattr {
     pub mtime_nsec: u64,
 }
 
-#[derive(Drop)]
+#[derive(Clone, Copy)]
 pub struct ReadTsetattr {
     pub value: Tsetattr,
     pub next: Place,
@@ -359,14 +359,14 @@ pub fn write_tsetattr(out: &mut [u8], p: Place, lent: &[u8], m: Tsetattr) -> Pla
     numbers::put_u64(out, q9, m.mtime_nsec)
 }
 
-#[derive(Drop)]
+#[derive(Clone, Copy)]
 pub struct Txattrwalk {
     pub fid: Fid,
     pub newfid: Fid,
     pub name: Span,
 }
 
-#[derive(Drop)]
+#[derive(Clone, Copy)]
 pub struct ReadTxattrwalk {
     pub value: Txattrwalk,
     pub next: Place,
@@ -403,12 +403,12 @@ pub fn write_txattrwalk(out: &mut [u8], p: Place, lent: &[u8], m: Txattrwalk) ->
     strings::put_bytes(out, q3, lent, name)
 }
 
-#[derive(Drop)]
+#[derive(Clone, Copy)]
 pub struct Rxattrwalk {
     pub size: u64,
 }
 
-#[derive(Drop)]
+#[derive(Clone, Copy)]
 pub struct ReadRxattrwalk {
     pub value: Rxattrwalk,
     pub next: Place,
@@ -431,7 +431,7 @@ pub fn write_rxattrwalk(out: &mut [u8], p: Place, lent: &[u8], m: Rxattrwalk) ->
     numbers::put_u64(out, start, m.size)
 }
 
-#[derive(Drop)]
+#[derive(Clone, Copy)]
 pub struct Txattrcreate {
     pub fid: Fid,
     pub name: Span,
@@ -439,7 +439,7 @@ pub struct Txattrcreate {
     pub flags: u32,
 }
 
-#[derive(Drop)]
+#[derive(Clone, Copy)]
 pub struct ReadTxattrcreate {
     pub value: Txattrcreate,
     pub next: Place,

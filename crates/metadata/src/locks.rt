@@ -10,7 +10,7 @@ use layouts::ids::Fid;
 use numbers::Place;
 use strings::Span;
 
-#[derive(Drop)]
+#[derive(Clone, Copy)]
 pub struct Tlock {
     pub fid: Fid,
     pub type_: u8,
@@ -21,7 +21,7 @@ pub struct Tlock {
     pub client_id: Span,
 }
 
-#[derive(Drop)]
+#[derive(Clone, Copy)]
 pub struct ReadTlock {
     pub value: Tlock,
     pub next: Place,
@@ -76,12 +76,12 @@ pub fn write_tlock(out: &mut [u8], p: Place, lent: &[u8], m: Tlock) -> Place
     strings::put_bytes(out, q7, lent, client_id)
 }
 
-#[derive(Drop)]
+#[derive(Clone, Copy)]
 pub struct Rlock {
     pub status: u8,
 }
 
-#[derive(Drop)]
+#[derive(Clone, Copy)]
 pub struct ReadRlock {
     pub value: Rlock,
     pub next: Place,
@@ -104,7 +104,7 @@ pub fn write_rlock(out: &mut [u8], p: Place, lent: &[u8], m: Rlock) -> Place
     numbers::put_u8(out, start, m.status)
 }
 
-#[derive(Drop)]
+#[derive(Clone, Copy)]
 pub struct Tgetlock {
     pub fid: Fid,
     pub type_: u8,
@@ -114,7 +114,7 @@ pub struct Tgetlock {
     pub client_id: Span,
 }
 
-#[derive(Drop)]
+#[derive(Clone, Copy)]
 pub struct ReadTgetlock {
     pub value: Tgetlock,
     pub next: Place,
@@ -165,7 +165,7 @@ pub fn write_tgetlock(out: &mut [u8], p: Place, lent: &[u8], m: Tgetlock) -> Pla
     strings::put_bytes(out, q6, lent, client_id)
 }
 
-#[derive(Drop)]
+#[derive(Clone, Copy)]
 pub struct Rgetlock {
     pub type_: u8,
     pub start: u64,
@@ -174,7 +174,7 @@ pub struct Rgetlock {
     pub client_id: Span,
 }
 
-#[derive(Drop)]
+#[derive(Clone, Copy)]
 pub struct ReadRgetlock {
     pub value: Rgetlock,
     pub next: Place,

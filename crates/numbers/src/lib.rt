@@ -1,12 +1,14 @@
 // Refusals, places, and numbers of 1, 2, 4 and 8 bytes, little endian: read at a place of a slice, put at a place of an output.
 
+#![tactic(auto)]
+
 ghost use Rattle.std.specs.Prelude.{◌≡◌, ◌+◌, ◌-◌, ◌^◌, ◌≤◌, ◌<◌, min as lesser, length, take, drop};
 ghost use Rattle.numbers.specs.Refusals.{number_of};
 ghost use Rattle.numbers.specs.Numbers.{from_le, to_le};
 ghost use Rattle.numbers.specs.Places.{Within, NumRead, Put, over};
 
 // Why a reading or a writing is refused (F9), in the order of the numbers that `number_of` gives.
-#[derive(Drop)]
+#[derive(Clone, Copy)]
 pub enum Refusal {
     Short,
     SizeBelowFour,
@@ -75,7 +77,7 @@ pub fn number(k: Refusal) -> u8
 // Where a reading or a writing stands: at a position, or refused. It goes through the fields by value, so that a record's
 // reader is one straight line: whatever is asked at a refused place answers the same refusal. The number beside that says where a text
 // breaks (F2.7); with any other refusal it is 0.
-#[derive(Drop)]
+#[derive(Clone, Copy)]
 pub enum Place {
     At(usize),
     Refused(Refusal, usize),
@@ -114,25 +116,25 @@ pub fn within(at: usize, n: usize, len: usize) -> bool
 }
 
 // A number that was read, 0 if it was refused, and the place after it.
-#[derive(Drop)]
+#[derive(Clone, Copy)]
 pub struct Read8 {
     pub value: u8,
     pub next: Place,
 }
 
-#[derive(Drop)]
+#[derive(Clone, Copy)]
 pub struct Read16 {
     pub value: u16,
     pub next: Place,
 }
 
-#[derive(Drop)]
+#[derive(Clone, Copy)]
 pub struct Read32 {
     pub value: u32,
     pub next: Place,
 }
 
-#[derive(Drop)]
+#[derive(Clone, Copy)]
 pub struct Read64 {
     pub value: u64,
     pub next: Place,

@@ -1,5 +1,7 @@
 // Which reply answers which request, told by their types and tags alone.
 
+#![tactic(auto)]
+
 mod known;
 pub mod plain;
 mod plain_known;
@@ -11,7 +13,7 @@ ghost use Rattle.pairs.specs.Pairs.{rlerror, paired, pairs};
 use layouts::ids::Tag;
 
 // What a pair is told by.
-#[derive(Drop)]
+#[derive(Clone, Copy)]
 pub struct Mark {
     pub ty: u8,
     pub tag: Tag,

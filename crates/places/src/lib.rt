@@ -1,6 +1,8 @@
 // The places of a session (F15.3, F15.4): each is a root, or was reached from an older place by a name. A name is a span of the stretch, so
 // whoever steps or asks for a path lends the stretch. A place is a number of one byte, so that no place is outside the table.
 
+#![tactic(auto)]
+
 ghost use Rattle.std.specs.Prelude.{◌≡◌, suc, ◌+◌, ◌≤◌, ◌<◌, ◌∷◌, length, leb};
 ghost use Rattle.numbers.specs.Places.{over, Put};
 ghost use Rattle.places.specs.Places.{unused, rowed, root, child, is_up, step, onward, walked, name_in, path_in, path};
@@ -10,7 +12,7 @@ use strings::{ReadSpan, Span};
 
 // The rows of the places; the first `used` of them are places. A root's older place is itself.
 #[repr(C)]
-#[derive(Drop)]
+#[derive(Clone, Copy)]
 pub struct Places {
     pub older: [u8; 256],
     pub starts: [usize; 256],
@@ -19,14 +21,14 @@ pub struct Places {
 }
 
 // Where a step ends: at a place; or why at none.
-#[derive(Drop)]
+#[derive(Clone, Copy)]
 pub enum Spot {
     At(u8),
     Refused(Refusal),
 }
 
 // The places as they are after a step, and where it ends.
-#[derive(Drop)]
+#[derive(Clone, Copy)]
 pub struct Reached {
     pub places: Places,
     pub at: Spot,

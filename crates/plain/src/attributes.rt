@@ -10,12 +10,12 @@ use layouts::ids::Fid;
 use numbers::Place;
 use stats::Stat;
 
-#[derive(Drop)]
+#[derive(Clone, Copy)]
 pub struct Tstat {
     pub fid: Fid,
 }
 
-#[derive(Drop)]
+#[derive(Clone, Copy)]
 pub struct ReadTstat {
     pub value: Tstat,
     pub next: Place,
@@ -40,12 +40,12 @@ pub fn write_tstat(out: &mut [u8], p: Place, lent: &[u8], m: Tstat) -> Place
     numbers::put_u32(out, start, fid.0)
 }
 
-#[derive(Drop)]
+#[derive(Clone, Copy)]
 pub struct Rstat {
     pub stat: Stat,
 }
 
-#[derive(Drop)]
+#[derive(Clone, Copy)]
 pub struct ReadRstat {
     pub value: Rstat,
     pub next: Place,
@@ -70,13 +70,13 @@ pub fn write_rstat(out: &mut [u8], p: Place, lent: &[u8], m: Rstat) -> Place
     stats::put_stat(out, start, lent, stat)
 }
 
-#[derive(Drop)]
+#[derive(Clone, Copy)]
 pub struct Twstat {
     pub fid: Fid,
     pub stat: Stat,
 }
 
-#[derive(Drop)]
+#[derive(Clone, Copy)]
 pub struct ReadTwstat {
     pub value: Twstat,
     pub next: Place,

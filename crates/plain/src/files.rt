@@ -12,13 +12,13 @@ use layouts::qids::Qid;
 use numbers::Place;
 use strings::Span;
 
-#[derive(Drop)]
+#[derive(Clone, Copy)]
 pub struct Topen {
     pub fid: Fid,
     pub mode: u8,
 }
 
-#[derive(Drop)]
+#[derive(Clone, Copy)]
 pub struct ReadTopen {
     pub value: Topen,
     pub next: Place,
@@ -49,13 +49,13 @@ pub fn write_topen(out: &mut [u8], p: Place, lent: &[u8], m: Topen) -> Place
     numbers::put_u8(out, q1, m.mode)
 }
 
-#[derive(Drop)]
+#[derive(Clone, Copy)]
 pub struct Ropen {
     pub qid: Qid,
     pub iounit: u32,
 }
 
-#[derive(Drop)]
+#[derive(Clone, Copy)]
 pub struct ReadRopen {
     pub value: Ropen,
     pub next: Place,
@@ -88,7 +88,7 @@ pub fn write_ropen(out: &mut [u8], p: Place, lent: &[u8], m: Ropen) -> Place
     numbers::put_u32(out, q3, m.iounit)
 }
 
-#[derive(Drop)]
+#[derive(Clone, Copy)]
 pub struct Tcreate {
     pub fid: Fid,
     pub name: Span,
@@ -96,7 +96,7 @@ pub struct Tcreate {
     pub mode: u8,
 }
 
-#[derive(Drop)]
+#[derive(Clone, Copy)]
 pub struct ReadTcreate {
     pub value: Tcreate,
     pub next: Place,
@@ -140,13 +140,13 @@ pub fn write_tcreate(out: &mut [u8], p: Place, lent: &[u8], m: Tcreate) -> Place
     numbers::put_u8(out, q4, m.mode)
 }
 
-#[derive(Drop)]
+#[derive(Clone, Copy)]
 pub struct Rcreate {
     pub qid: Qid,
     pub iounit: u32,
 }
 
-#[derive(Drop)]
+#[derive(Clone, Copy)]
 pub struct ReadRcreate {
     pub value: Rcreate,
     pub next: Place,

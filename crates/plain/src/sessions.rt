@@ -10,14 +10,14 @@ use layouts::ids::Fid;
 use numbers::Place;
 use strings::Span;
 
-#[derive(Drop)]
+#[derive(Clone, Copy)]
 pub struct Tauth {
     pub afid: Fid,
     pub uname: Span,
     pub aname: Span,
 }
 
-#[derive(Drop)]
+#[derive(Clone, Copy)]
 pub struct ReadTauth {
     pub value: Tauth,
     pub next: Place,
@@ -56,7 +56,7 @@ pub fn write_tauth(out: &mut [u8], p: Place, lent: &[u8], m: Tauth) -> Place
     strings::put_bytes(out, q4, lent, aname)
 }
 
-#[derive(Drop)]
+#[derive(Clone, Copy)]
 pub struct Tattach {
     pub fid: Fid,
     pub afid: Fid,
@@ -64,7 +64,7 @@ pub struct Tattach {
     pub aname: Span,
 }
 
-#[derive(Drop)]
+#[derive(Clone, Copy)]
 pub struct ReadTattach {
     pub value: Tattach,
     pub next: Place,
@@ -113,12 +113,12 @@ pub fn write_tattach(out: &mut [u8], p: Place, lent: &[u8], m: Tattach) -> Place
     strings::put_bytes(out, q5, lent, aname)
 }
 
-#[derive(Drop)]
+#[derive(Clone, Copy)]
 pub struct Rerror {
     pub ename: Span,
 }
 
-#[derive(Drop)]
+#[derive(Clone, Copy)]
 pub struct ReadRerror {
     pub value: Rerror,
     pub next: Place,

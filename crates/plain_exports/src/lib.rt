@@ -1,6 +1,8 @@
 // The functions of 9P2000's frames that Rust calls, as `request_exports`, `reply_exports` and `stretch_exports` have them for 9P2000.L; where a
 // frame of a stretch begins and ends is the same in every dialect. Nothing is decided in them.
 
+#![tactic(auto)]
+
 ghost use Rattle.std.specs.Prelude.{◌≡◌};
 ghost use Rattle.layouts.specs.Plain.{table_t, table_r};
 ghost use Rattle.framing.specs.Frames.{read_frame, refused_whole};

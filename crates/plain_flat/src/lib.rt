@@ -1,6 +1,8 @@
 // 9P2000's records laid flat, as `flat` has those of 9P2000.L, in arrays that hold 9P2000.u's too, so that one function lays flat what is the
 // same in both: a stat has 17 values, and that of 9P2000.u 22. A reply that every dialect has is laid flat by `flat`, in as much room.
 
+#![tactic(auto)]
+
 pub mod attributes;
 pub mod files;
 pub mod sessions;

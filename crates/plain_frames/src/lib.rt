@@ -1,6 +1,8 @@
 // Written by tools/messages from crates/frames/src/lib.rt.
 // One frame, in both directions, read and written.
 
+#![tactic(auto)]
+
 ghost use Rattle.std.specs.Prelude.{◌≡◌};
 ghost use Rattle.layouts.specs.Plain.{table_t, table_r};
 ghost use Rattle.plain_replies.specs.Views.{type_r, layout_r, values_r, view_r};
@@ -19,28 +21,28 @@ use plain_requests::Tbody;
 
 // The frame's position in the bytes that it was read from, and its tag beside either a message, with the bytes used, or a refusal. Spans, parts
 // and places count from the first of those bytes, the bytes used from the frame's.
-#[derive(Drop)]
+#[derive(Clone, Copy)]
 pub struct Tframe {
     pub at: usize,
     pub tag: Tag,
     pub msg: Tbody,
 }
 
-#[derive(Drop)]
+#[derive(Clone, Copy)]
 pub struct Rframe {
     pub at: usize,
     pub tag: Tag,
     pub msg: Rmessage,
 }
 
-#[derive(Drop)]
+#[derive(Clone, Copy)]
 pub enum ReadTframe {
     Frame(Tframe),
     Refused(Refusal),
 }
 
 // An accepted reply, with the bytes used; in this direction a failed body refuses the frame, with its place.
-#[derive(Drop)]
+#[derive(Clone, Copy)]
 pub enum ReadRframe {
     Frame(Rframe, usize),
     Refused(Refusal, usize),

@@ -1,6 +1,8 @@
 // Written by tools/messages from its table of messages.
 // The 14 replies in one enum: a body read by its type number, and written by its case.
 
+#![tactic(auto)]
+
 ghost use Rattle.std.specs.Prelude.{◌≡◌};
 ghost use Rattle.laying.specs.Laying.{Written};
 ghost use Rattle.layouts.specs.Plain.{table_r};
@@ -15,7 +17,7 @@ use plain::attributes::Rstat;
 use plain::files::{Rcreate, Ropen};
 use plain::sessions::Rerror;
 
-#[derive(Drop)]
+#[derive(Clone, Copy)]
 pub enum Rmessage {
     Version(Rversion),
     Auth(Rauth),
@@ -34,7 +36,7 @@ pub enum Rmessage {
 }
 
 // A body that was read: the message and the position after its fields; or why it is refused, and where.
-#[derive(Drop)]
+#[derive(Clone, Copy)]
 pub enum Rbody {
     Message(Rmessage, usize),
     Refused(Refusal, usize),

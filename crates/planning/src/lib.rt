@@ -1,6 +1,8 @@
 // A large write cut into Twrites (F12): a plan for a lent table, and whether a plan is accepted. A row of a table is a piece, its offset and
 // its length. No end is formed that could wrap: what is left is compared, and each piece is taken off it.
 
+#![tactic(auto)]
+
 ghost use Rattle.std.specs.Prelude.{◌≡◌, ◌+◌, ◌<◌, ◌≤◌, min as lesser, ◌++◌, length, drop};
 ghost use Rattle.planning.specs.Plans.{most_data, greatest, agreed, accepted, fewest, cut, Planned};
 ghost use Rattle.planning.specs.PlanLaws.{Follows};

@@ -1,6 +1,8 @@
 // Plans of large writes, for Rust (F12): a plan made in a lent table, and whether one is accepted. They have a crate, and an archive, of
 // their own, so that no crate of the frames relies on them.
 
+#![tactic(auto)]
+
 ghost use Rattle.std.specs.Prelude.{◌≡◌};
 ghost use Rattle.planning.specs.Plans.{accepted};
 ghost use Rattle.planning_exports.specs.Plans.{PlanMade};

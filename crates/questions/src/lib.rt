@@ -5,6 +5,8 @@
 // after the numbers makes N bytes of those given, the last K of them over and over. T and R, the seller's questions, have no numbers and
 // no slash. Any other line is `malformed`, and its bytes are those before the first fault.
 
+#![tactic(auto)]
+
 ghost use Rattle.std.specs.Prelude.{◌≡◌, ◌+◌, ◌-◌, ◌*◌, ◌<◌, ◌≤◌, min, length, take, drop, replicate, slice_index, slice_index_or};
 ghost use Rattle.questions.specs.Parts.{Room, part_of, LineHeld, Numbered, Placed};
 ghost use Rattle.questions.specs.Questions.{is_digit, is_figure, run, ends, next_at, tens, figures_in, value, spelt, grown, sound_at, Laid, Taken};
@@ -249,7 +251,7 @@ fn is_sound(c: u8, given: usize, digits: usize) -> bool
 }
 
 // A question's numbers; whether the first is marked; how many bytes it has; and whether it is well formed.
-#[derive(Drop)]
+#[derive(Clone, Copy)]
 pub struct Question {
     pub numbers: [u64; 16],
     pub marked: bool,

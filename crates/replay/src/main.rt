@@ -1,6 +1,8 @@
 // The replay: a recording of one guest on standard input, a stretch of 9P2000.L frames and its trailer; a line for each frame on standard output, with what the
 // session answers (F15.11).
 
+#![tactic(auto)]
+
 use listing::input;
 use listing::input::Input;
 

@@ -1,5 +1,7 @@
 // A recording followed (F15): the frames of a file with a trailer, each an event to the session, and the text of what the session answers.
 
+#![tactic(auto)]
+
 ghost use Rattle.std.specs.Prelude.{◌≡◌};
 ghost use Rattle.replaying.specs.Replays.{answer_of, LinesPut, ReplayPut, Replayed};
 

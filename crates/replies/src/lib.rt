@@ -1,6 +1,8 @@
 // Written by tools/messages from its table of messages.
 // The 29 replies in one enum: a body read by its type number, and written by its case.
 
+#![tactic(auto)]
+
 ghost use Rattle.std.specs.Prelude.{◌≡◌};
 ghost use Rattle.laying.specs.Laying.{Written};
 ghost use Rattle.layouts.specs.Tables.{table_r};
@@ -17,7 +19,7 @@ use metadata::attributes::{Rgetattr, Rstatfs, Rxattrwalk};
 use metadata::locks::{Rgetlock, Rlock};
 use numbers::{Place, Refusal};
 
-#[derive(Drop)]
+#[derive(Clone, Copy)]
 pub enum Rmessage {
     Version(Rversion),
     Flush,
@@ -51,7 +53,7 @@ pub enum Rmessage {
 }
 
 // A body that was read: the message and the position after its fields; or why it is refused, and where.
-#[derive(Drop)]
+#[derive(Clone, Copy)]
 pub enum Rbody {
     Message(Rmessage, usize),
     Refused(Refusal, usize),

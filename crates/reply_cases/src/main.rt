@@ -2,6 +2,8 @@
 // and standard output gets an answer a line; the file `stdout` beside `src` has what each is owed. The headings say what is asked, and what
 // is answered; `questions` says how.
 
+#![tactic(auto)]
+
 mod listed;
 
 use frames::ReadRframe;

@@ -1,6 +1,8 @@
 // The two functions of a reply that Rust calls. Nothing is decided in them: what the crates below answer is taken apart and laid flat, and
 // what they take is put together. They have a crate, and an archive, of their own, since they reach every reply.
 
+#![tactic(auto)]
+
 ghost use Rattle.layouts.specs.Tables.{table_r};
 ghost use Rattle.framing.specs.Frames.{read_frame, refused_whole};
 ghost use Rattle.exports.specs.Frames.{FrameRead, FlatWrote};

@@ -1,6 +1,8 @@
 // Written by tools/messages from its table of messages.
 // The 28 requests in one enum: a body read by its type number, and written by its case.
 
+#![tactic(auto)]
+
 ghost use Rattle.std.specs.Prelude.{◌≡◌};
 ghost use Rattle.laying.specs.Laying.{Written};
 ghost use Rattle.layouts.specs.Tables.{table_t};
@@ -19,7 +21,7 @@ use metadata::attributes::{Tgetattr, Tsetattr, Tstatfs, Txattrcreate, Txattrwalk
 use metadata::locks::{Tgetlock, Tlock};
 use numbers::{Place, Refusal};
 
-#[derive(Drop)]
+#[derive(Clone, Copy)]
 pub enum Tmessage {
     Version(Tversion),
     Flush(Tflush),
@@ -52,7 +54,7 @@ pub enum Tmessage {
 }
 
 // A body that was read: the message and the position after its fields; or why it is refused, and where.
-#[derive(Drop)]
+#[derive(Clone, Copy)]
 pub enum Tbody {
     Message(Tmessage, usize),
     Refused(Refusal, usize),

@@ -1,6 +1,8 @@
 // The trailer of a recording (F15.2): twelve bytes after its stretch that say how many bytes and frames it has, and where the last frame
 // begins. No frame's body is looked at.
 
+#![tactic(auto)]
+
 ghost use Rattle.std.specs.Prelude.{◌≡◌};
 ghost use Rattle.layouts.specs.Tables.{table_t, table_r};
 ghost use Rattle.framing.specs.Stretch.{listing};
@@ -13,7 +15,7 @@ use numbers::{Place, Refusal};
 pub const TRAILER: usize = 12;
 
 // What a trailer says of a stretch.
-#[derive(Drop)]
+#[derive(Clone, Copy)]
 pub struct Extent {
     pub bytes: usize,
     pub frames: usize,
@@ -21,7 +23,7 @@ pub struct Extent {
 }
 
 // A stretch that reads to its end has an extent; else 12 or 13, and the position.
-#[derive(Drop)]
+#[derive(Clone, Copy)]
 pub enum Measured {
     Whole(Extent),
     Refused(Refusal, usize),

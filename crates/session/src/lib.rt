@@ -1,6 +1,8 @@
 // One guest's session (F15): open requests, fids and places, as the frames of a recording leave them. It knows no message: a request is what it
 // asks of fids and what its reply is to do with them. Each rule takes the session and gives the one after it.
 
+#![tactic(auto)]
+
 ghost use Rattle.std.specs.Prelude.{◌≡◌, ◌+◌, ◌<◌};
 ghost use Rattle.layouts.specs.Tables.{table_t};
 ghost use Rattle.pairs.specs.Pairs.{rlerror, pairs};
@@ -25,7 +27,7 @@ const RLERROR: u8 = 7;
 // What a request asks, and what its reply does: the fid that must be new, and the one that must be known, whose place a step begins at; the fid that
 // is given, moved or dropped; a flush's old tag; and where a walk's names stand, or the name of a file that is made.
 #[repr(C)]
-#[derive(Drop)]
+#[derive(Clone, Copy)]
 pub struct Request {
     pub ty: u8,
     pub new: u64,
@@ -39,7 +41,7 @@ pub struct Request {
 
 // The open requests by their tags, the fids with their places, and the places.
 #[repr(C)]
-#[derive(Drop)]
+#[derive(Clone, Copy)]
 pub struct Session {
     pub tags: [u64; 64],
     pub requests: [Request; 64],
@@ -49,35 +51,35 @@ pub struct Session {
 }
 
 // What a frame is to a session: a request; a reply of a type, with so many qids if it is an Rwalk; or refused by the codec.
-#[derive(Drop)]
+#[derive(Clone, Copy)]
 pub enum What {
     Asks(Request),
     Answers(u16),
     Refused(Refusal),
 }
 
-#[derive(Drop)]
+#[derive(Clone, Copy)]
 pub struct Event {
     pub ty: u8,
     pub tag: u16,
     pub what: What,
 }
 
-#[derive(Drop)]
+#[derive(Clone, Copy)]
 pub enum Answer {
     Accepted,
     Refused(Refusal),
 }
 
 // The session after a frame, and what is answered. Refused, it is the session before.
-#[derive(Drop)]
+#[derive(Clone, Copy)]
 pub struct Stepped {
     pub session: Session,
     pub answer: Answer,
 }
 
 // How a fid comes to its place.
-#[derive(Drop)]
+#[derive(Clone, Copy)]
 pub enum Way {
     Root,
     Walk,
@@ -86,7 +88,7 @@ pub enum Way {
 }
 
 // What an answering reply does.
-#[derive(Drop)]
+#[derive(Clone, Copy)]
 pub enum Effect {
     Nothing,
     Empties,

@@ -1,6 +1,8 @@
 // A guest's session and the trailer of its recording, for Rust (F15). They have a crate, and an archive, of their own, so that no crate of the
 // frames relies on them. The session crosses whole: Rust keeps the record and hands it over with each frame.
 
+#![tactic(auto)]
+
 ghost use Rattle.std.specs.Prelude.{◌≡◌};
 ghost use Rattle.layouts.specs.Tables.{table_t, table_r};
 ghost use Rattle.framing.specs.Stretch.{frame_at};
@@ -16,7 +18,7 @@ use stretch::{Listed, Step};
 // What crosses of a frame that a session has followed: an `Outcome`, the tail, and the fid that the frame is about, 4,294,967,297 if there is
 // none. Refused, a frame has no tail and is about no fid.
 #[repr(C)]
-#[derive(Drop)]
+#[derive(Clone, Copy)]
 pub struct Told {
     pub refusal: u8,
     pub ty: u8,
@@ -29,7 +31,7 @@ pub struct Told {
 
 // The session after it.
 #[repr(C)]
-#[derive(Drop)]
+#[derive(Clone, Copy)]
 pub struct Followed {
     pub session: Session,
     pub told: Told,

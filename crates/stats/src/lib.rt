@@ -1,6 +1,8 @@
 // A stat: what a file is. It stands after its own count, and begins with its size. That of 9P2000 is here; that of 9P2000.u, which has four
 // fields more, is in `unix`, and both are opened by the same code.
 
+#![tactic(auto)]
+
 pub mod unix;
 
 ghost use Rattle.std.specs.Prelude.{◌≤◌, ◌<◌, ◌≡◌, [], ◌∷◌, map, length, drop};
@@ -17,7 +19,7 @@ use layouts::qids::Qid;
 use numbers::{Place, Refusal};
 use strings::Span;
 
-#[derive(Drop)]
+#[derive(Clone, Copy)]
 pub struct Stat {
     pub ty: u16,
     pub dev: u32,
@@ -33,14 +35,14 @@ pub struct Stat {
 }
 
 // The stat that was read, all 0 if it was refused, and the place after it.
-#[derive(Drop)]
+#[derive(Clone, Copy)]
 pub struct ReadStat {
     pub value: Stat,
     pub next: Place,
 }
 
 // Where the fields of a stat begin, if its counts agree, and where they end.
-#[derive(Drop)]
+#[derive(Clone, Copy)]
 pub(crate) struct Open {
     pub(crate) at: Place,
     pub(crate) end: usize,

@@ -10,7 +10,7 @@ use crate::Stat;
 use numbers::Place;
 use strings::Span;
 
-#[derive(Drop)]
+#[derive(Clone, Copy)]
 pub struct UnixStat {
     pub plain: Stat,
     pub extension: Span,
@@ -20,7 +20,7 @@ pub struct UnixStat {
 }
 
 // The stat that was read, all 0 if it was refused, and the place after it.
-#[derive(Drop)]
+#[derive(Clone, Copy)]
 pub struct ReadUnixStat {
     pub value: UnixStat,
     pub next: Place,

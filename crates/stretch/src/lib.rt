@@ -1,5 +1,7 @@
 // A stretch: frames back to back, and one frame at a position.
 
+#![tactic(auto)]
+
 ghost use Rattle.std.specs.Prelude.{◌≡◌, ◌-◌};
 ghost use Rattle.stretch.specs.Views.{BodyOf, Leaves, view_body, ListedAs, Asked};
 
@@ -10,7 +12,7 @@ use replies::Rbody;
 use requests::Tbody;
 
 // A frame's body as it was read: that of a request if the type is even, else that of a reply.
-#[derive(Drop)]
+#[derive(Clone, Copy)]
 pub enum Body {
     Request(Tbody),
     Reply(Rbody),
@@ -18,7 +20,7 @@ pub enum Body {
 
 // A frame as it is listed. Spans and places count from the first byte of the stretch; bytes used, size and tail are no positions. The tail is 0
 // where the body is refused.
-#[derive(Drop)]
+#[derive(Clone, Copy)]
 pub struct Listed {
     pub at: usize,
     pub size: usize,
@@ -30,7 +32,7 @@ pub struct Listed {
 }
 
 // What is at a position: a frame; the end, where exactly nothing is left; or a refusal, with the position.
-#[derive(Drop)]
+#[derive(Clone, Copy)]
 pub enum Step {
     Frame(Listed),
     End(usize),

@@ -1,6 +1,8 @@
 // The bodies of a stretch's frames, read in place, for Rust: where `exports::stretches` finds a whole frame, these say what is in it. They
 // have a crate, and an archive, of their own, so that the readers of the bodies have one caller each here, too, and are not called.
 
+#![tactic(auto)]
+
 ghost use Rattle.layouts.specs.Tables.{table_t, table_r};
 ghost use Rattle.framing.specs.Raising.{body_from};
 ghost use Rattle.exports.specs.Frames.{BodyRead};

@@ -1,5 +1,7 @@
 // Strings: n[2] and n bytes of well-formed UTF-8 with no zero byte, read and put by spans.
 
+#![tactic(auto)]
+
 ghost use Rattle.std.specs.Prelude.{◌≡◌, ◌+◌, ◌≤◌, length, take, drop};
 ghost use Rattle.numbers.specs.Places.{over};
 ghost use Rattle.strings.specs.Spans.{TextCheck, Shown, SpanCheck, StrCheck, StrRead, SpanPut, StrPut};
@@ -7,14 +9,14 @@ ghost use Rattle.strings.specs.Spans.{TextCheck, Shown, SpanCheck, StrCheck, Str
 use numbers::{Place, Refusal};
 
 // A part of some bytes: where it starts among them, and its length.
-#[derive(Drop)]
+#[derive(Clone, Copy)]
 pub struct Span {
     pub start: usize,
     pub len: usize,
 }
 
 // The span of what was read, 0 and 0 if it was refused, and the place after it.
-#[derive(Drop)]
+#[derive(Clone, Copy)]
 pub struct ReadSpan {
     pub value: Span,
     pub next: Place,

@@ -1,5 +1,7 @@
 // Walks written from tables that the caller lends: names as spans of the lent bytes, qids as structs.
 
+#![tactic(auto)]
+
 ghost use Rattle.std.specs.Prelude.{◌≡◌, ◌+◌, ◌*◌, ◌<◌, ◌≤◌, length};
 ghost use Rattle.laying.specs.Laying.{Measured, PutAll};
 ghost use Rattle.tables.specs.Tables.{name_fields, name_values, walk_fields, walk_values, TwalkWritten, RwalkWritten};

@@ -10,12 +10,12 @@ use layouts::ids::Fid;
 use numbers::Place;
 use stats::unix::UnixStat;
 
-#[derive(Drop)]
+#[derive(Clone, Copy)]
 pub struct Rstat {
     pub stat: UnixStat,
 }
 
-#[derive(Drop)]
+#[derive(Clone, Copy)]
 pub struct ReadRstat {
     pub value: Rstat,
     pub next: Place,
@@ -40,13 +40,13 @@ pub fn write_rstat(out: &mut [u8], p: Place, lent: &[u8], m: Rstat) -> Place
     stats::unix::put_stat(out, start, lent, stat)
 }
 
-#[derive(Drop)]
+#[derive(Clone, Copy)]
 pub struct Twstat {
     pub fid: Fid,
     pub stat: UnixStat,
 }
 
-#[derive(Drop)]
+#[derive(Clone, Copy)]
 pub struct ReadTwstat {
     pub value: Twstat,
     pub next: Place,

@@ -10,7 +10,7 @@ use layouts::ids::Fid;
 use numbers::Place;
 use strings::Span;
 
-#[derive(Drop)]
+#[derive(Clone, Copy)]
 pub struct Tcreate {
     pub fid: Fid,
     pub name: Span,
@@ -19,7 +19,7 @@ pub struct Tcreate {
     pub extension: Span,
 }
 
-#[derive(Drop)]
+#[derive(Clone, Copy)]
 pub struct ReadTcreate {
     pub value: Tcreate,
     pub next: Place,

@@ -9,13 +9,13 @@ ghost use Rattle.unix.specs.Records.{rerror};
 use numbers::Place;
 use strings::Span;
 
-#[derive(Drop)]
+#[derive(Clone, Copy)]
 pub struct Rerror {
     pub ename: Span,
     pub errno: u32,
 }
 
-#[derive(Drop)]
+#[derive(Clone, Copy)]
 pub struct ReadRerror {
     pub value: Rerror,
     pub next: Place,

@@ -1,5 +1,7 @@
 // The functions of 9P2000.u's frames that Rust calls, as `plain_exports` has them for 9P2000. Nothing is decided in them.
 
+#![tactic(auto)]
+
 ghost use Rattle.std.specs.Prelude.{◌≡◌};
 ghost use Rattle.stats.specs.Unix.{table_t, table_r};
 ghost use Rattle.framing.specs.Frames.{read_frame, refused_whole};

@@ -1,6 +1,8 @@
 // Written by tools/messages from its table of messages.
 // The 13 requests in one enum: a body read by its type number, and written by its case.
 
+#![tactic(auto)]
+
 ghost use Rattle.std.specs.Prelude.{◌≡◌};
 ghost use Rattle.laying.specs.Laying.{Written};
 ghost use Rattle.stats.specs.Unix.{table_t};
@@ -17,7 +19,7 @@ use plain::files::Topen;
 use unix::attributes::Twstat;
 use unix::files::Tcreate;
 
-#[derive(Drop)]
+#[derive(Clone, Copy)]
 pub enum Tmessage {
     Version(Tversion),
     Auth(Tauth),
@@ -35,7 +37,7 @@ pub enum Tmessage {
 }
 
 // A body that was read: the message and the position after its fields; or why it is refused, and where.
-#[derive(Drop)]
+#[derive(Clone, Copy)]
 pub enum Tbody {
     Message(Tmessage, usize),
     Refused(Refusal, usize),

@@ -1,6 +1,8 @@
 // Written by tools/messages from crates/stretch/src/lib.rt.
 // A stretch: frames back to back, and one frame at a position.
 
+#![tactic(auto)]
+
 ghost use Rattle.std.specs.Prelude.{◌≡◌, ◌-◌};
 ghost use Rattle.unix_stretch.specs.Views.{BodyOf, Leaves, view_body, ListedAs, Asked};
 
@@ -11,7 +13,7 @@ use unix_replies::Rbody;
 use unix_requests::Tbody;
 
 // A frame's body as it was read: that of a request if the type is even, else that of a reply.
-#[derive(Drop)]
+#[derive(Clone, Copy)]
 pub enum Body {
     Request(Tbody),
     Reply(Rbody),
@@ -19,7 +21,7 @@ pub enum Body {
 
 // A frame as it is listed. Spans and places count from the first byte of the stretch; bytes used, size and tail are no positions. The tail is 0
 // where the body is refused.
-#[derive(Drop)]
+#[derive(Clone, Copy)]
 pub struct Listed {
     pub at: usize,
     pub size: usize,
@@ -31,7 +33,7 @@ pub struct Listed {
 }
 
 // What is at a position: a frame; the end, where exactly nothing is left; or a refusal, with the position.
-#[derive(Drop)]
+#[derive(Clone, Copy)]
 pub enum Step {
     Frame(Listed),
     End(usize),

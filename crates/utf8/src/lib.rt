@@ -1,5 +1,7 @@
 // UTF-8 by the rows of RFC 3629, section 4.
 
+#![tactic(auto)]
+
 ghost use Rattle.std.specs.Prelude.{◌≡◌, [], ◌∷◌, ◌<◌, min, max, length};
 ghost use Rattle.utf8.specs.Utf8.{◌to◌, in_range, CharAt, utf8, sound_start, zero_at};
 ghost use Rattle.utf8.specs.Utf8Laws.{Rest, least_of, greatest_of};
@@ -8,7 +10,7 @@ ghost use Rattle.utf8.specs.Plain.{plain_at, short_plain};
 // ---- The rows of RFC 3629, section 4, in their order (F2.1): an arm a row, with the range of each of its octets
 
 // The octets from the first to the second, as the RFC's %x00-7F.
-#[derive(Drop)]
+#[derive(Clone, Copy)]
 struct Octets(u8, u8);
 
 // UTF8-tail = %x80-BF
@@ -199,7 +201,7 @@ fn greatest(a: u8, b: u8) -> u8
 }
 
 // The least and the greatest of some bytes; of none, 255 and 0.
-#[derive(Drop)]
+#[derive(Clone, Copy)]
 pub struct Extremes {
     pub low: u8,
     pub high: u8,
