@@ -1,0 +1,19 @@
+-- The span lies outside, it is too long, or its text says.
+use Rattle.strings.specs.SpanLaws.{span_lies}
+use Rattle.strings.proofs.Ways.{str_span, str_long, str_text}
+use Rattle.strings.proofs.check_str.Goals as goal
+
+pub returns-in_default : goal.returns-in_default
+returns-in_default c = str_span c.check_span-q.ensures c.in_default.is
+
+pub returns-then-v-gt65535 : goal.returns-then-v-gt65535
+returns-then-v-gt65535 c =
+    str_long c.check_span-q.ensures c.in-At.is c.if-v-gt65535.true
+
+pub check_text-requires : goal.check_text-requires
+check_text-requires c =
+    span_lies c.check_span-q.ensures c.in-At.is
+
+pub returns : goal.returns
+returns c =
+    str_text c.check_span-q.ensures c.in-At.is c.if-v-gt65535.false c.check_text.ensures
