@@ -1,0 +1,9 @@
+-- Checked, then the count and the bytes.
+use Rattle.numbers.specs.Numbers.{bytes_all}
+use Rattle.laying.proofs.Lays.{check_measured, sized, dat_check}
+use Rattle.laying.proofs.measure_data.Goals as goal
+
+pub returns : goal.returns
+returns c =
+    let b = bytes_all c.args.lent.now (λ i. (c.type_inv.lent i).fits) in
+    check_measured (sized tt b) (dat_check c.check_span-q.ensures) c.advanced.ensures c.advanced-2.ensures
