@@ -1,0 +1,10 @@
+-- A refused body, an output that is too short, and the three numbers one after another.
+use Rattle.framing.specs.WritingLaws.{head_full, head_put}
+use Rattle.framing.proofs.put_header.Goals as goal
+
+pub returns-then-out-lt-BODY : goal.returns-then-out-lt-BODY
+returns-then-out-lt-BODY c = head_full c.in-At.is c.if-out-lt-BODY.true
+
+pub returns : goal.returns
+returns c =
+    head_put c.in-At.is c.if-out-lt-BODY.false c.put_num-a.ensures c.put_u8-b.ensures c.put_u16.ensures

@@ -1,0 +1,15 @@
+-- The invariant: what the frames from the position on come to, after those before it, is what all of them come to.
+use Prim.Native.Nat.{◌≤◌, ◌-◌}
+use mathlib.Core.Path.{◌≡◌}
+use lib.ListN.{length}
+use Rattle.layouts.specs.Tables.{table_t, table_r}
+use Rattle.framing.specs.Stretch.{listing}
+use Rattle.framing.specs.ListingLaws.{listed}
+use Rattle.sealing.specs.Trailers.{extent_from, extent_of}
+use Rattle.sealing.proofs.measure.Given as goal
+
+abbrev pub invariant-loop-next : goal.invariant-loop-next
+invariant-loop-next l = (l.at ≤ length l.stretch) × (l.frames ≤ l.at) × (extent_from l.frames l.last (listed table_t table_r l.stretch l.at) ≡ extent_of (listing table_t table_r l.stretch))
+
+abbrev pub decreases-loop-next : goal.decreases-loop-next
+decreases-loop-next l = length l.stretch - l.at

@@ -1,0 +1,9 @@
+-- Its numbers together, then each string.
+use mathlib.Core.List.{[], ◌∷◌}
+use Rattle.laying.specs.LayingLaws.{measure_numbers, measure, measured_none}
+use Rattle.stats.proofs.measure_fields.Goals as goal
+
+pub returns : goal.returns
+returns c =
+    measure_numbers 2 (4 ∷ 1 ∷ 4 ∷ 8 ∷ 4 ∷ 4 ∷ 4 ∷ 8 ∷ []) c.advanced-p1.ensures
+    (measure c.measure_str-p2.ensures (measure c.measure_str-p3.ensures (measure c.measure_str-p4.ensures (measure c.measure_str.ensures measured_none))))

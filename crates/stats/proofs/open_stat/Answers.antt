@@ -1,0 +1,20 @@
+-- The count is cut off; or its bytes are; or they do not agree; or the fields are between their size and their end.
+use native.Mathlib.Omega.{arith}
+use Rattle.numbers.specs.PlaceLaws.{inside, num_holds}
+use Rattle.stats.specs.StatLaws.{open_cut, open_short, open_wrong, open_well}
+use Rattle.stats.proofs.open_stat.Goals as goal
+
+pub returns-in_default : goal.returns-in_default
+returns-in_default c = open_cut c.read_u16-count.ensures c.in_default.is
+
+pub returns-then-agree : goal.returns-then-agree
+returns-then-agree c =
+    open_well _ (num_holds (omega arith) c.read_u16-count.ensures c.in-At.is) (inside c.within.ensures c.if-within.true) c.agree.ensures c.if-agree.true
+
+pub returns-then-within : goal.returns-then-within
+returns-then-within c =
+    open_wrong _ (num_holds (omega arith) c.read_u16-count.ensures c.in-At.is) (inside c.within.ensures c.if-within.true) c.agree.ensures c.if-agree.false
+
+pub returns : goal.returns
+returns c =
+    open_short _ (num_holds (omega arith) c.read_u16-count.ensures c.in-At.is) c.within.ensures c.if-within.false

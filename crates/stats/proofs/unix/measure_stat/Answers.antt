@@ -1,0 +1,13 @@
+-- As a stat of 9P2000, and the fields after it; then its count.
+use mathlib.Core.List.{[], ◌∷◌}
+use mathlib.Core.Path.{refl}
+use Rattle.laying.specs.LayingLaws.{measure_numbers, measure, measured_none}
+use Rattle.stats.specs.Appending.{measured_then}
+use Rattle.stats.specs.StatLaws.{stat_measured}
+use Rattle.stats.proofs.unix.measure_stat.Goals as goal
+
+pub returns : goal.returns
+returns c =
+    stat_measured c.advanced-p1.ensures
+    (measured_then refl c.measure_fields-p2.ensures (measure c.measure_str-p3.ensures (measure_numbers 4 (4 ∷ 4 ∷ []) c.advanced-p4.ensures measured_none)))
+    c.size_of.ensures c.counted.ensures
