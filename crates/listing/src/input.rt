@@ -1,6 +1,8 @@
-// Standard input into a buffer. What is read no contract can say; a read that fails is told apart from the end.
+// A reader's bytes into a buffer. What is read no contract can say; a read that fails is told apart from the end.
 
 ghost use Rattle.listing.specs.Inputs.{Holds};
+
+use std::io::Read;
 
 #[derive(Clone, Copy)]
 pub enum Input {
@@ -9,17 +11,16 @@ pub enum Input {
 }
 
 // Reads until the buffer is full or the input ends: so many bytes stand at the front of the buffer.
-// `read_full` also stops at a read that fails. After the end another read gives nothing; after a failure it fails or gives bytes.
-pub fn read(buf: &mut [u8]) -> Input
+pub fn read<R: Read>(source: &mut R, buf: &mut [u8]) -> Input
     ensures { Holds buf.new result }
 {
-    let n = io::read_full(0, buf);
-    if n == buf.len() {
-        return Input::Read(n);
+    let mut n = 0;
+    while n < buf.len() {
+        match source.read(&mut buf[n..]) {
+            Ok(0) => return Input::Read(n),
+            Ok(more) => n += more,
+            Err(_) => return Input::Failed,
+        }
     }
-    let mut more = [0u8; 1];
-    if libc::read(0, &mut more) == 0 {
-        return Input::Read(n);
-    }
-    Input::Failed
+    Input::Read(n)
 }

@@ -87,7 +87,7 @@ pub fn next_line(line: &mut [u8]) -> usize
     let mut turns = u64::MAX;
     while 0 < turns {
         let mut c = [0u8; 1];
-        if libc::read(0, &mut c) != 1 {
+        if io::read_full(0, &mut c) != 1 {
             return ENDED;
         }
         if c[0] == b'\n' {

@@ -8,10 +8,10 @@ use listing::input::Input;
 
 // No contract can say what is printed: none speaks of what C's `write` does. A program has no status either, so the script `run` makes one
 // of what is said on standard error.
-fn main() {
+fn main(rt: HostRuntime) {
     // One byte more than may be followed, so that longer input is seen to be longer.
     let mut buf = [0u8; 65537];
-    let got = input::read(&mut buf);
+    let got = input::read(&mut rt.stdin(), &mut buf);
     let Input::Read(len) = got else {
         io::write_all(2, b"cannot read standard input\n");
         return;

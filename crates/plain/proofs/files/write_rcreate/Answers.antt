@@ -1,0 +1,13 @@
+-- Written by tools/messages from its table of messages.
+-- Each field measured, then each field put, by the law of every writer.
+use mathlib.Core.List.{[], ◌∷◌}
+use Rattle.numbers.specs.Numbers.{bytes_all}
+use Rattle.laying.specs.LayingLaws.{measure_numbers, measured_none, put_number, put_done}
+use Rattle.laying.specs.WritingLaws.{written}
+use Rattle.plain.proofs.files.write_rcreate.Goals as goal
+
+pub returns : goal.returns
+returns c =
+    let b = bytes_all c.args.lent.now (λ i. (c.type_inv.lent i).fits) in
+    written b (measure_numbers 1 (4 ∷ 8 ∷ 4 ∷ []) c.advanced-end.ensures measured_none) c.begun-start.ensures
+    (put_number c.put_u8-q1.ensures (put_number c.put_u32-q2.ensures (put_number c.put_u64-q3.ensures (put_number c.put_u32.ensures put_done))))

@@ -1,0 +1,8 @@
+-- Written by tools/messages from its table of messages.
+-- Each field by what its reader ensures, one after another.
+use Rattle.fields.specs.FieldLaws.{number_field, string_field, field, done}
+use Rattle.plain.proofs.sessions.read_tattach.Goals as goal
+
+pub returns : goal.returns
+returns c =
+    field (number_field c.read_u32-r1.ensures) (field (number_field c.read_u32-r2.ensures) (field (string_field c.read_str-r3.ensures) (field (string_field c.read_str-r4.ensures) done)))
