@@ -1,0 +1,11 @@
+-- The place after the fields says which case it is.
+use Rattle.requests.specs.Views.{view_t}
+use Rattle.requests.proofs.finish.Goals as goal
+
+pub returns-in-At : goal.returns-in-At
+unfolding view_t
+returns-in-At c = rw c.in-At.is
+
+pub returns-in-Refused : goal.returns-in-Refused
+unfolding view_t
+returns-in-Refused c = rw c.in-Refused.is
