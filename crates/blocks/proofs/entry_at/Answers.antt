@@ -1,0 +1,17 @@
+-- The end; or what the reader of entries says in place.
+use Rattle.numbers.specs.Numbers.{bytes_all}
+use Rattle.blocks.specs.StepLaws.{asked_end, asked_entry, asked_stop}
+use Rattle.blocks.proofs.entry_at.Goals as goal
+
+pub returns-then-position-block : goal.returns-then-position-block
+returns-then-position-block c = asked_end _ _ c.if-position-block.true
+
+pub returns-in-At : goal.returns-in-At
+returns-in-At c =
+    let b = bytes_all c.args.block.now (λ i. (c.type_inv.block i).fits) in
+    asked_entry _ _ b c.if-position-block.false c.read_dirent-read.ensures c.in-At.is
+
+pub returns-in-Refused : goal.returns-in-Refused
+returns-in-Refused c =
+    let b = bytes_all c.args.block.now (λ i. (c.type_inv.block i).fits) in
+    asked_stop _ _ b c.if-position-block.false c.read_dirent-read.ensures c.in-Refused.is

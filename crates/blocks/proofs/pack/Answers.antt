@@ -1,0 +1,13 @@
+-- How many fit, and then these are put.
+use Rattle.blocks.specs.PackLaws.{pack_ready, pack_put}
+use Rattle.blocks.proofs.pack.Goals as goal
+
+pub put_entries-requires : goal.put_entries-requires
+put_entries-requires c =
+    let a = c.args in
+    pack_ready a.count a.out.now c.min-room.ensures c.fitting-fit.ensures c.in-Packed.is
+
+pub returns : goal.returns
+returns c =
+    let a = c.args in
+    pack_put a.count a.out.now c.min-room.ensures c.fitting-fit.ensures c.in-Packed.is c.put_entries.ensures

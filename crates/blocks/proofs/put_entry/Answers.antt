@@ -1,0 +1,13 @@
+-- Put where there is room, which there is.
+use Rattle.numbers.specs.Numbers.{bytes_all}
+use Rattle.numbers.specs.PlaceLaws.{outside}
+use Rattle.blocks.specs.PackLaws.{put_row, no_entry}
+use Rattle.blocks.proofs.put_entry.Goals as goal
+
+pub returns-then-within : goal.returns-then-within
+returns-then-within c =
+    let b = bytes_all c.args.names.now (λ i. (c.type_inv.names i).fits) in
+    put_row b c.requires c.dirent_of-d.ensures c.put_dirent.ensures
+
+pub returns : goal.returns
+returns c = no_entry c.requires (outside c.within.ensures c.if-within.false)

@@ -1,0 +1,8 @@
+-- Written by tools/messages from its table of messages.
+-- Each field by what its reader ensures, one after another.
+use Rattle.fields.specs.FieldLaws.{number_field, field, done}
+use Rattle.unix.proofs.attributes.read_twstat.Goals as goal
+
+pub returns : goal.returns
+returns c =
+    field (number_field c.read_u32-r1.ensures) (field c.read_stat-r2.ensures done)

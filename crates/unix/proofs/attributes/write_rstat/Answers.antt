@@ -1,0 +1,13 @@
+-- Written by tools/messages from its table of messages.
+-- Each field measured, then each field put, by the law of every writer.
+use Rattle.numbers.specs.Numbers.{bytes_all}
+use Rattle.laying.specs.LayingLaws.{measure, measured_none, put_done}
+use Rattle.laying.specs.WritingLaws.{written}
+use Rattle.laying.specs.BoxLaws.{put_box}
+use Rattle.unix.proofs.attributes.write_rstat.Goals as goal
+
+pub returns : goal.returns
+returns c =
+    let b = bytes_all c.args.lent.now (λ i. (c.type_inv.lent i).fits) in
+    written b (measure c.measure_stat-end.ensures measured_none) c.begun-start.ensures
+    (put_box c.put_stat.ensures put_done)

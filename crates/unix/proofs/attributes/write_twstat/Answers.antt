@@ -1,0 +1,14 @@
+-- Written by tools/messages from its table of messages.
+-- Each field measured, then each field put, by the law of every writer.
+use mathlib.Core.List.{[]}
+use Rattle.numbers.specs.Numbers.{bytes_all}
+use Rattle.laying.specs.LayingLaws.{measure_numbers, measure, measured_none, put_number, put_done}
+use Rattle.laying.specs.WritingLaws.{written}
+use Rattle.laying.specs.BoxLaws.{put_box}
+use Rattle.unix.proofs.attributes.write_twstat.Goals as goal
+
+pub returns : goal.returns
+returns c =
+    let b = bytes_all c.args.lent.now (λ i. (c.type_inv.lent i).fits) in
+    written b (measure_numbers 4 ([]) c.advanced-p1.ensures (measure c.measure_stat-end.ensures measured_none)) c.begun-start.ensures
+    (put_number c.put_u32-q1.ensures (put_box c.put_stat.ensures put_done))

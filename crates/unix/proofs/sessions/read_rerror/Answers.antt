@@ -1,0 +1,8 @@
+-- Written by tools/messages from its table of messages.
+-- Each field by what its reader ensures, one after another.
+use Rattle.fields.specs.FieldLaws.{number_field, string_field, field, done}
+use Rattle.unix.proofs.sessions.read_rerror.Goals as goal
+
+pub returns : goal.returns
+returns c =
+    field (string_field c.read_str-r1.ensures) (field (number_field c.read_u32-r2.ensures) done)

@@ -1,0 +1,14 @@
+-- Written by tools/messages from its table of messages.
+-- Each field measured, then each field put, by the law of every writer.
+use mathlib.Core.List.{[]}
+use Rattle.numbers.specs.Numbers.{bytes_all}
+use Rattle.fields.specs.Layouts.{str}
+use Rattle.laying.specs.LayingLaws.{measure_numbers, measure, measured_none, put_number, put_counted, put_done}
+use Rattle.laying.specs.WritingLaws.{written}
+use Rattle.unix.proofs.sessions.write_rerror.Goals as goal
+
+pub returns : goal.returns
+returns c =
+    let b = bytes_all c.args.lent.now (λ i. (c.type_inv.lent i).fits) in
+    written b (measure c.measure_str-p1.ensures (measure_numbers 4 ([]) c.advanced-end.ensures measured_none)) c.begun-start.ensures
+    (put_counted str tt c.put_num-q1.ensures c.put_bytes-q2.ensures (put_number c.put_u32.ensures put_done))
