@@ -261,12 +261,12 @@ module _ (asked tag ty : ℕ) (whole : Bool) {b : Bool} (e : b ≡ pairs table_t
   unfolding only_closes
   closes_so h g k = rw (← e, h, ← g, k)
 
-  pub closes_more : (f : Effect) → b ≡ true → f ≡ effect_of asked ty whole → OneOf (1 ∷ 2 ∷ 3 ∷ 4 ∷ []) (tag_of Ef.the_type f) → false ≡ only_closes asked tag ty whole
+  pub closes_more : (f : Effect) → b ≡ true → f ≡ effect_of asked ty whole → (f ≡ E.Nothing → ⊥) → false ≡ only_closes asked tag ty whole
   unfolding only_closes
   closes_more f h g k = rw (← e, h, ← g) (go f k)
     where
-      go : (f : Effect) → OneOf (1 ∷ 2 ∷ 3 ∷ 4 ∷ []) (tag_of Ef.the_type f) → false ≡ nothing_else f
-      go E.Nothing k = absurd (miss (1 ∷ 2 ∷ 3 ∷ 4 ∷ []) 0 tt k)
+      go : (f : Effect) → (f ≡ E.Nothing → ⊥) → false ≡ nothing_else f
+      go E.Nothing k = absurd (k refl)
       go E.Empties k = refl
       go E.Flushes k = refl
       go E.Drops k = refl
@@ -335,17 +335,13 @@ pub fid_gives : {e : Effect} {w : Way} (to : ℕ) → e ≡ E.Gives w → to ≡
 unfolding fid_given
 fid_gives to h = rw h
 
--- all but the last
-abbrev others : List ℕ
-others = 0 ∷ 1 ∷ 2 ∷ 3 ∷ []
-
-pub fid_else : (e : Effect) (to : ℕ) → OneOf others (tag_of Ef.the_type e) → none ≡ fid_given e to
+pub fid_else : (e : Effect) (to : ℕ) → ((w : Way) → e ≡ E.Gives w → ⊥) → none ≡ fid_given e to
 unfolding fid_given
 fid_else E.Nothing to h = refl
 fid_else E.Empties to h = refl
 fid_else E.Flushes to h = refl
 fid_else E.Drops to h = refl
-fid_else (E.Gives w) to h = absurd (miss others 4 tt h)
+fid_else (E.Gives w) to h = absurd (h w refl)
 
 module _ (s : Session) (tag ty n : ℕ) {i : ℕ} (e : i ≡ row_of tag s.tags) where
   pub fid_open : {f : Effect} {x : ℕ} (r : Request) → i < 64 → r ≡ get_or s.requests i blank → f ≡ effect_of r.ty ty (eqb n r.count) → x ≡ fid_given f r.to → x ≡ answered_fid s tag ty n
