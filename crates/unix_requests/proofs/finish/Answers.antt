@@ -1,0 +1,12 @@
+-- Written by tools/messages from crates/requests/proofs/finish/Proof.antt.
+-- The place after the fields says which case it is.
+use Rattle.unix_requests.specs.Views.{view_t}
+use Rattle.unix_requests.proofs.finish.Goals as goal
+
+pub returns-in-At : goal.returns-in-At
+unfolding view_t
+returns-in-At c = rw c.in-At.is
+
+pub returns-in-Refused : goal.returns-in-Refused
+unfolding view_t
+returns-in-Refused c = rw c.in-Refused.is
