@@ -2,9 +2,6 @@
 use Prim.Native.Nat.{ℕ, ◌%◌}
 use mathlib.Core.Path.{◌≡◌, refl, ◌∙◌}
 use mathlib.Core.Bool.{true, false}
-use mathlib.Core.List.{List, [], ◌∷◌}
-use types.Run.{OneOf, miss}
-use denote.Enum.Declared.{tag_of}
 use lib.Dec.{eqb}
 use borrow.Author.Tests.{eq-eqb, ne_eqb}
 use Rattle.numbers.specs.declared.Refusal.{Refusal}
@@ -23,7 +20,6 @@ use Rattle.requests.specs.declared.Tmessage.TheVariants as M
 use Rattle.requests.specs.declared.Tbody.{Tbody}
 use Rattle.requests.specs.declared.Tbody.TheVariants as T
 use Rattle.common.specs.declared.walking.Rwalk.{Rwalk}
-use Rattle.replies.specs.contracts.Rmessage as Rm
 use Rattle.replies.specs.Views.{type_r, values_r, view_r}
 use Rattle.replies.specs.declared.Rmessage.{Rmessage}
 use Rattle.replies.specs.declared.Rmessage.TheVariants as N
@@ -165,15 +161,11 @@ pub walk_qids : {m : Rmessage} {w : Rwalk} → m ≡ N.Walk w → w.wqids.count 
 unfolding values_r
 walk_qids e = rw e
 
--- all but the third
-abbrev others : List ℕ
-others = 0 ∷ 1 ∷ 3 ∷ 4 ∷ 5 ∷ 6 ∷ 7 ∷ 8 ∷ 9 ∷ 10 ∷ 11 ∷ 12 ∷ 13 ∷ 14 ∷ 15 ∷ 16 ∷ 17 ∷ 18 ∷ 19 ∷ 20 ∷ 21 ∷ 22 ∷ 23 ∷ 24 ∷ 25 ∷ 26 ∷ 27 ∷ 28 ∷ []
-
-pub no_qids : (m : Rmessage) → OneOf others (tag_of Rm.the_type m) → 0 ≡ qids_in (values_r m)
+pub no_qids : (m : Rmessage) → ((w : Rwalk) → m ≡ N.Walk w → ⊥) → 0 ≡ qids_in (values_r m)
 unfolding values_r
 no_qids (N.Version m) h = refl
 no_qids N.Flush h = refl
-no_qids (N.Walk m) h = absurd (miss others 2 tt h)
+no_qids (N.Walk m) h = absurd (h m refl)
 no_qids (N.Read m) h = refl
 no_qids (N.Write m) h = refl
 no_qids N.Clunk h = refl

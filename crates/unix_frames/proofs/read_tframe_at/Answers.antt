@@ -1,0 +1,28 @@
+-- Written by tools/messages from crates/frames/proofs/read_tframe_at/Proof.antt.
+-- A header that can't be read, or a tag beside the body.
+use native.Mathlib.Omega.{arith}
+use mathlib.Core.Path.{sym}
+use lib.Seq.{length-take-le}
+use Rattle.numbers.specs.Numbers.{bytes_all}
+use Rattle.framing.specs.Standing.{own_held}
+use Rattle.unix_frames.specs.FrameLaws.{tframe_no, tframe_yes}
+use Rattle.unix_frames.proofs.read_tframe_at.Goals as goal
+
+pub returns-in_default : goal.returns-in_default
+returns-in_default c =
+    tframe_no _ _ c.min-at.ensures _ c.read_header-head.ensures c.in_default.is c.why.ensures
+
+pub overflow_add-at : goal.overflow_add-at
+overflow_add-at c =
+    let a = c.args in
+    omega (arith, (own_held a.s.now a.position c.min-at.ensures c.read_header-head.ensures c.in-Held.is).1)
+
+pub slice_bounds-request_at-end : goal.slice_bounds-request_at-end
+slice_bounds-request_at-end c =
+    let a = c.args in
+    sym (length-take-le _ _ (own_held a.s.now a.position c.min-at.ensures c.read_header-head.ensures c.in-Held.is).1)
+
+pub returns : goal.returns
+returns c =
+    let b = bytes_all c.args.s.now (λ i. (c.type_inv.s i).fits) in
+    tframe_yes _ _ c.min-at.ensures _ c.read_header-head.ensures _ b c.in-Held.is c.request_at-msg.ensures
