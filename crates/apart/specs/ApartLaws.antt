@@ -3,18 +3,19 @@ use Rattle.std.specs.Prelude.{ℕ, ◌+◌, ◌≡◌, refl, Bool, true, false, 
 use Rattle.std.proofs.Common.{arith, sym, ◌∙◌, length-append, eqb-true}
 use Rattle.std.proofs.Math.Option.{some}
 use Rattle.std.proofs.Math.Seq.{take-length, take-append_seam, drop-append_seam}
-use Rattle.numbers.specs.Numbers.{Bytes, bytes_join}
+use Rattle.numbers.specs.Numbers.{Bytes}
+use Rattle.numbers.proofs.Numbers.{bytes_join}
 use Rattle.numbers.specs.Reading.{ok}
 use Rattle.numbers.specs.declared.Refusal.TheVariants as R
 use Rattle.numbers.specs.declared.Place.{Place}
 use Rattle.numbers.specs.declared.Place.TheVariants.{Refused}
 use Rattle.strings.specs.Spans.{show_span, show_string}
-use Rattle.strings.specs.SpanLaws.{shown_in}
+use Rattle.strings.proofs.SpanLaws.{shown_in}
 use Rattle.fields.specs.Layouts.{num, str, dat, strs, quids, boxed, Layout}
 use Rattle.fields.specs.Values.{Value, span, show}
 use Rattle.laying.specs.Laying.{check_field, put_field, past_put_field, put_fields, past_put_fields, FieldMeasured, Measured, PutAll, Written, Begun}
-use Rattle.laying.specs.LayingLaws.{measure}
-use Rattle.laying.specs.WritingLaws.{written, written_length}
+use Rattle.laying.proofs.LayingLaws.{measure}
+use Rattle.laying.proofs.WritingLaws.{written, written_length}
 use Rattle.layouts.specs.Tables.{Row, row, table_t, lookup}
 use Rattle.layouts.specs.BodyLaws.{Nots}
 use Rattle.flat.specs.Flat.{field_values}

@@ -9,10 +9,10 @@ use Rattle.numbers.specs.declared.Refusal.TheVariants as R
 use Rattle.numbers.specs.declared.Place.{Place}
 use Rattle.numbers.specs.declared.Place.TheVariants.{At, Refused}
 use Rattle.utf8.specs.Utf8.{utf8, sound_start, no_zero, zero_at}
-use Rattle.utf8.specs.StartLaws.{sound_in, zero_in}
+use Rattle.utf8.proofs.StartLaws.{sound_in, zero_in}
 use Rattle.strings.specs.Strings.{ok_text}
 use Rattle.strings.specs.Spans.{show_span, show_string, check_at}
-use Rattle.strings.specs.SpanLaws.{string_inv}
+use Rattle.strings.proofs.SpanLaws.{string_inv}
 use Rattle.fields.specs.Layouts.{str, string}
 use Rattle.fields.specs.Values.{span, show}
 use Rattle.laying.specs.Laying.{advance, shown_size, check_field, FieldMeasured, Advanced}

@@ -1,7 +1,7 @@
 -- What crosses to Rust of a directory block: an outcome with the values of an entry, and how many entries were packed.
 use Rattle.std.specs.Prelude.{ℕ, ◌≡◌, refl, true, List, length}
 use Rattle.std.proofs.Common.{sym, ap, ◌∙◌}
-use Rattle.numbers.specs.PlaceLaws.{one_answer}
+use Rattle.numbers.proofs.PlaceLaws.{one_answer}
 use Rattle.numbers.specs.Refusals.{number_of}
 use Rattle.numbers.specs.declared.Refusal.{Refusal}
 use Rattle.numbers.specs.declared.Place.TheVariants.{At, Refused}

@@ -1,7 +1,6 @@
 -- What the functions answer, as the definition has it. What the contracts cite.
-use Rattle.std.specs.Prelude.{ℕ, ◌+◌, ◌≤◌, ◌<◌, ◌≡◌, List, [], ◌++◌, length, get_or}
+use Rattle.std.specs.Prelude.{ℕ, ◌≡◌, List, [], length}
 use Rattle.numbers.specs.Reading.{Result, ok, bad}
-use Rattle.numbers.specs.PlaceLaws.{one_answer}
 use Rattle.fields.specs.Layouts.{Item, items_bytes}
 use Rattle.layouts.specs.Records.{dirent}
 use Rattle.blocks.specs.declared.Step.{Step}
@@ -34,14 +33,6 @@ pub record Fitting (names : List ℕ) (room : ℕ) (rows : List (List ℕ)) (r :
 pub record PackedInto (count : ℕ) (names : List ℕ) (rows : List (List ℕ)) (o o' : List ℕ) (r : Packing) : Type 0 where
   pub answer : r ≡ told (pack_in count (length o) names rows)
   pub left : o' ≡ laid_in o (pack_in count (length o) names rows)
-
--- ---- any two answers that a promise allows are equal
-
-pub packed_one : {count : ℕ} {names : List ℕ} {rows : List (List ℕ)} {o o1 o2 : List ℕ} {r r' : Packing} → PackedInto count names rows o o1 r → PackedInto count names rows o o2 r' → (o1 ≡ o2) × (r ≡ r')
-packed_one a b = (one_answer a.left b.left, one_answer a.answer b.answer)
-
-pub asked_one : {s : List ℕ} {p : ℕ} {r r' : Step} → Asked s p r → Asked s p r' → view_step r ≡ view_step r'
-asked_one a b = one_answer a.is b.is
 
 -- ---- the bytes of the first entries of a table
 

@@ -8,13 +8,15 @@ use Rattle.std.proofs.Math.Option.{some}
 use Rattle.std.proofs.Math.ListN.{length, take, length-append}
 use Rattle.std.proofs.lemmas.List.{take-append-le}
 use Rattle.std.proofs.Math.Seq.{take-append_seam, drop-append_seam}
-use Rattle.numbers.specs.Numbers.{Bytes, from_le, to_le, length_to_le, from_to, to_from, bytes_take, bytes_drop}
+use Rattle.numbers.specs.Numbers.{Bytes, from_le, to_le}
+use Rattle.numbers.proofs.Numbers.{length_to_le, from_to, to_from, bytes_take, bytes_drop}
 use Rattle.numbers.specs.declared.Place.{Place}
 use Rattle.numbers.specs.declared.Place.TheVariants.{At, Refused}
 use Rattle.layouts.specs.Tables.{Row}
 use Rattle.framing.specs.Local.{size_in}
 use Rattle.framing.specs.Stretch.{Listing, entry, ends, stops, list_from, listing}
-use Rattle.framing.specs.ListingLaws.{Front, list_next}
+use Rattle.framing.specs.ListingLaws.{Front}
+use Rattle.framing.proofs.ListingLaws.{list_next}
 use Rattle.captures.specs.declared.Imported.TheVariants as I
 use Rattle.captures.specs.Captures.{from_order, num_in, headed, order_of, time_in, Packets, packet, complete, broken, packets_from, packets_of, bytes_in, times_in, tallied, frames_in, counted, fits, paired, header, record_bytes, records_of, file_of}
 use Rattle.captures.specs.Steps.{joined, Good, Goods}

@@ -3,7 +3,7 @@ use Rattle.std.specs.Prelude.{ℕ, ◌+◌, ◌-◌, ◌≤◌, ◌<◌, ◌≡�
 use Rattle.std.proofs.Common.{arith, sym, ap, ◌∙◌, length-drop, drop_of_length-le, length-take-le, take-take}
 use borrow.Author.Tests.{lt-ltb, le-ltb, ne_eqb}
 use Rattle.numbers.specs.Numbers.{from_le}
-use Rattle.numbers.specs.ReadingLaws.{or_else}
+use Rattle.numbers.proofs.ReadingLaws.{or_else}
 use Rattle.numbers.specs.declared.Refusal.{Refusal}
 use Rattle.numbers.specs.declared.Refusal.TheVariants as R
 use Rattle.numbers.specs.declared.Place.{Place}
@@ -11,9 +11,10 @@ use Rattle.numbers.specs.declared.Place.TheVariants.{At, Refused}
 use Rattle.layouts.specs.Bodies.{Answer}
 use Rattle.framing.specs.Local.{size_in}
 use Rattle.framing.specs.Stretch.{Step, frame, end, stop, listed_frame, front, frame_at, Listing, entry, ends, stops, list_from, listing}
-use Rattle.framing.specs.ListingLaws.{Front, front_case, list_step, whole_at, moves_on}
+use Rattle.framing.specs.ListingLaws.{Front}
+use Rattle.framing.proofs.ListingLaws.{front_case, list_step, whole_at, moves_on}
 use Rattle.framing.specs.Cuts.{WholeAt, CutAt, between}
-use Rattle.framing.specs.CutLaws.{cut_whole, cut_end, cut_stop, length_whole}
+use Rattle.framing.proofs.CutLaws.{cut_whole, cut_end, cut_stop, length_whole}
 use Rattle.framing.specs.declared.Cut.{Cut}
 use Rattle.framing.specs.declared.Cut.TheVariants as C
 use Rattle.captures.specs.Captures.{frames_in, counted, fits, cut_up}

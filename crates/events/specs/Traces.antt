@@ -9,11 +9,12 @@ use mathlib.Core.List.{List, [], ◌∷◌, ◌++◌, map, append_assoc, append-
 use Rattle.std.proofs.Math.Option.{some}
 use Rattle.std.proofs.Math.ListN.{length, take, drop, length-append, length-drop}
 use Rattle.std.proofs.Math.Seq.{drop-append_seam, length-take-le}
-use Rattle.numbers.specs.Numbers.{Bytes, to_le, length_to_le, from_bound, bytes_take, bytes_drop}
+use Rattle.numbers.specs.Numbers.{Bytes, to_le}
+use Rattle.numbers.proofs.Numbers.{length_to_le, from_bound, bytes_take, bytes_drop}
 use Rattle.numbers.specs.Reading.{ok}
 use Rattle.numbers.specs.declared.Place.TheVariants.{At}
 use Rattle.strings.specs.Strings.{read_string, string_bytes}
-use Rattle.strings.specs.StringLaws.{reads_string}
+use Rattle.strings.proofs.StringLaws.{reads_string}
 use Rattle.strings.specs.Spans.{past_str}
 use Rattle.places.specs.Reads.{NamesRead}
 use Rattle.fields.specs.Layouts.{num, str, strs, Layout, Item, number, string, bytes, strings, qids, box, kind, item_bytes, items_bytes, many_bytes, AllGood, Goods}
@@ -23,10 +24,11 @@ use Rattle.layouts.specs.Bodies.{accepted, refused}
 use Rattle.framing.specs.Frames.{Frame, headless, framed, read_frame}
 use Rattle.framing.specs.Raising.{raise_value, raise}
 use Rattle.framing.specs.Writing.{head_bytes}
-use Rattle.framing.specs.WritingLaws.{head_length}
-use Rattle.framing.specs.Accepted.{Accepts, accepts}
+use Rattle.framing.proofs.WritingLaws.{head_length}
+use Rattle.framing.specs.Accepted.{Accepts}
+use Rattle.framing.proofs.Accepted.{accepts}
 use Rattle.framing.specs.Stretch.{type_in, tag_in, table_for, answer_in, answer_of, Listing, entry, ends, stops, list_from, listing}
-use Rattle.framing.specs.ListingLaws.{front_case, list_next}
+use Rattle.framing.proofs.ListingLaws.{front_case, list_next}
 use Rattle.session.specs.Rules.{free, fresh, stepped}
 use Rattle.session.specs.Own.{OwnOf, own_answers}
 use Rattle.session.specs.Sound.{Fair, FairEvent, Sound, fresh_sound, step_sound}

@@ -5,22 +5,23 @@ use Rattle.std.proofs.Math.Path.{refl, ap}
 use mathlib.Core.List.{List, [], ◌∷◌, ◌++◌, append-nil}
 use Rattle.std.proofs.Math.ListN.{length}
 use borrow.Author.Tests.{ltb-true, eqb-true}
-use Rattle.numbers.specs.Numbers.{Bytes, length_to_le, bytes_take, bytes_drop}
+use Rattle.numbers.specs.Numbers.{Bytes}
+use Rattle.numbers.proofs.Numbers.{length_to_le, bytes_take, bytes_drop}
 use Rattle.numbers.specs.Reading.{Result, ok, bad, after}
-use Rattle.numbers.specs.ReadingLaws.{after_inv, cond_inv}
+use Rattle.numbers.proofs.ReadingLaws.{after_inv, cond_inv}
 use Rattle.numbers.specs.declared.Refusal.{Refusal}
 use Rattle.numbers.specs.declared.Refusal.TheVariants as R
 use Rattle.numbers.specs.declared.Place.{Place}
 use Rattle.numbers.specs.declared.Place.TheVariants.{At, Refused}
 use Rattle.strings.specs.Strings.{string_bytes}
-use Rattle.strings.specs.SpanLaws.{span_inv}
+use Rattle.strings.proofs.SpanLaws.{span_inv}
 use Rattle.fields.specs.Layouts.{Field, strs, quids, Item, strings, qids, read_many, many_bytes}
-use Rattle.fields.specs.LayoutLaws.{took_many}
+use Rattle.fields.proofs.LayoutLaws.{took_many}
 use Rattle.fields.specs.Values.{Value, start_of, len_of, count_of, part, show_part, whole_part, show}
-use Rattle.laying.specs.LayingLaws.{span_shown, part_inv, whole_inv}
+use Rattle.laying.proofs.LayingLaws.{span_shown, part_inv, whole_inv}
 use Rattle.strings.specs.declared.Span.{Span}
 use Rattle.laying.specs.Elements.{element_in, asked_for, element_at, view_element}
-use Rattle.laying.specs.ElementLaws.{asked_inv}
+use Rattle.laying.proofs.ElementLaws.{asked_inv}
 use Rattle.laying.specs.declared.elements.Element.{Element}
 use Rattle.laying.specs.declared.elements.Element.TheVariants as E
 use Rattle.flat.specs.Flat.{stored, laid}

@@ -14,9 +14,9 @@ use Rattle.layouts.specs.Tables.{Row, lookup}
 use Rattle.layouts.specs.Bodies.{Answer, accepted, refused, finish_at, body_at}
 use Rattle.framing.specs.Frames.{Frame, headless, framed, read_frame, refused_whole}
 use Rattle.framing.specs.Raising.{body_place, since, used_since, body_from}
-use Rattle.framing.specs.RaisedLaws.{from_body}
+use Rattle.framing.proofs.RaisedLaws.{from_body}
 use Rattle.framing.specs.Headers.{HeadIs}
-use Rattle.framing.specs.HeaderLaws.{head_yes, frame_is, frame_headless}
+use Rattle.framing.proofs.HeaderLaws.{head_yes, frame_is, frame_headless}
 use Rattle.framing.specs.declared.Head.{Head}
 use Rattle.framing.specs.declared.Head.TheVariants as H
 use Rattle.flat.specs.Flat.{laid, row_values, FlatRead}

@@ -9,7 +9,7 @@ use Rattle.numbers.specs.declared.Place.TheVariants.{At, Refused}
 use Rattle.fields.specs.Layouts.{Layout}
 use Rattle.layouts.specs.Tables.{Row, lookup}
 use Rattle.framing.specs.Writing.{frame_out, frame_past, head_out, head_past, HeadPut}
-use Rattle.framing.specs.WritingLaws.{frame_written}
+use Rattle.framing.proofs.WritingLaws.{frame_written}
 use Rattle.flat.specs.Flat.{shows_from, FlatWritten}
 use Rattle.exports.specs.Answers.{ended, Answered, wrote}
 use Rattle.exports.specs.declared.Outcome.{Outcome}

@@ -10,7 +10,7 @@ use Rattle.layouts.specs.Bodies.{Answer}
 use Rattle.framing.specs.Raising.{raise, body_from}
 use Rattle.framing.specs.Stretch.{table_for, answer_of, tail_in, Step, frame, end, stop, frame_at}
 use Rattle.framing.specs.Cuts.{between, WholeAt}
-use Rattle.framing.specs.CutLaws.{length_whole, answer_there, tail_raised, frame_same}
+use Rattle.framing.proofs.CutLaws.{length_whole, answer_there, tail_raised, frame_same}
 use Rattle.exports.specs.Answers.{outcomeOf, ended}
 use Rattle.exports.specs.declared.Outcome.{Outcome}
 

@@ -6,20 +6,22 @@ use mathlib.Core.Bool.{Bool, true, false, cond, ◌&&◌}
 use mathlib.Core.List.{List, [], ◌∷◌}
 use lib.ListN.{length, take, drop, get_or, length-drop, length-append}
 use lib.Seq.{drop-length, length-take-le}
-use Rattle.numbers.specs.Numbers.{length_to_le}
+use Rattle.numbers.proofs.Numbers.{length_to_le}
 use Rattle.numbers.specs.Reading.{Result, ok, bad, after}
-use Rattle.numbers.specs.ReadingLaws.{or_else}
+use Rattle.numbers.proofs.ReadingLaws.{or_else}
 use Rattle.numbers.specs.Places.{rest_at, NumRead}
-use Rattle.numbers.specs.PlaceLaws.{Held, num_holds, num_refused}
+use Rattle.numbers.specs.PlaceLaws.{Held}
+use Rattle.numbers.proofs.PlaceLaws.{num_holds, num_refused}
 use Rattle.numbers.specs.declared.Refusal.{Refusal}
 use Rattle.numbers.specs.declared.Refusal.TheVariants as R
 use Rattle.numbers.specs.declared.Place.{Place}
 use Rattle.numbers.specs.declared.Place.TheVariants.{At, Refused}
 use Rattle.utf8.specs.Utf8.{◌to◌, in_range, chars, utf8, no_zero}
-use Rattle.utf8.specs.Plain.{plain_at, plain_each}
-use Rattle.utf8.specs.Utf8Laws.{chars_over, plain_turn, plain_full, full_over}
+use Rattle.utf8.specs.Plain.{plain_at}
+use Rattle.utf8.proofs.Plain.{plain_each}
+use Rattle.utf8.proofs.Utf8Laws.{chars_over, plain_turn, plain_full, full_over}
 use Rattle.strings.specs.Strings.{ok_text, read_string, string_bytes}
-use Rattle.strings.specs.SpanLaws.{string_cut, string_held, string_short, text_refused, text_good}
+use Rattle.strings.proofs.SpanLaws.{string_cut, string_held, string_short, text_refused, text_good}
 use Rattle.strings.specs.Spans.{TextCheck}
 use Rattle.fields.specs.Layouts.{read_many}
 use Rattle.fields.specs.Fields.{ManyRead}

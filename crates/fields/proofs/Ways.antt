@@ -8,11 +8,14 @@ use lib.ListN.{length, take, drop, length-append, length-drop, drop_of_length-le
 use lib.Seq.{drop-drop, length-take-le}
 use lib.Dec.{leb}
 use borrow.Author.Tests.{le-leb, lt-leb}
-use Rattle.numbers.specs.Numbers.{Bytes, bytes_drop}
+use Rattle.numbers.specs.Numbers.{Bytes}
+use Rattle.numbers.proofs.Numbers.{bytes_drop}
 use Rattle.numbers.specs.Reading.{Result, ok, bad, after, raw, read_num}
-use Rattle.numbers.specs.ReadingLaws.{or_else, Took, raw_short}
+use Rattle.numbers.specs.ReadingLaws.{Took}
+use Rattle.numbers.proofs.ReadingLaws.{or_else, raw_short}
 use Rattle.numbers.specs.Places.{Within, read_at, read_from, rest_at, number_in, num_at, past_num, NumRead}
-use Rattle.numbers.specs.PlaceLaws.{inside, outside, Held, num_holds, num_refused}
+use Rattle.numbers.specs.PlaceLaws.{Held}
+use Rattle.numbers.proofs.PlaceLaws.{inside, outside, num_holds, num_refused}
 use Rattle.numbers.specs.declared.Refusal.{Refusal}
 use Rattle.numbers.specs.declared.Refusal.TheVariants as R
 use Rattle.numbers.specs.declared.Place.{Place}
@@ -20,8 +23,8 @@ use Rattle.numbers.specs.declared.Place.TheVariants.{At, Refused}
 use Rattle.strings.specs.Spans.{check_at}
 use Rattle.strings.specs.Strings.{read_string}
 use Rattle.fields.specs.Layouts.{Field, dat, strs, quids, Item, bytes, strings, qids, most, counted, ok_count, read_many, read_field, many_bytes}
-use Rattle.fields.specs.LayoutLaws.{took_many}
-use Rattle.fields.specs.FieldLaws.{few, many, count_passed}
+use Rattle.fields.proofs.LayoutLaws.{took_many}
+use Rattle.fields.proofs.FieldLaws.{few, many, count_passed}
 use Rattle.fields.specs.Values.{Value, span, part, place}
 use Rattle.fields.specs.Fields.{CountCheck, CountRead, nothing, placed_in, value_at, past_field, FieldRead, ManyRead, Nowhere}
 

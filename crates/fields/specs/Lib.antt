@@ -1,7 +1,6 @@
 pub mod Layouts
 pub mod LayoutLaws
 pub mod Values
-pub mod ValueLaws
 pub mod Fields
 pub mod Runs
 pub mod FieldLaws

@@ -4,21 +4,22 @@ use Rattle.std.proofs.Common.{mod-eq_of_lt, arith, sym, ap, ◌∙◌, lt-ltb, l
 use Rattle.std.proofs.Math.Option.{some}
 use Rattle.std.proofs.lemmas.Bool.{lt-leb}
 use Rattle.numbers.specs.Numbers.{from_le}
-use Rattle.numbers.specs.ReadingLaws.{or_else}
+use Rattle.numbers.proofs.ReadingLaws.{or_else}
 use Rattle.numbers.specs.Places.{Within}
-use Rattle.numbers.specs.PlaceLaws.{inside, outside, num_held, num_short}
+use Rattle.numbers.proofs.PlaceLaws.{inside, outside, num_held, num_short}
 use Rattle.numbers.specs.declared.Refusal.{Refusal}
 use Rattle.numbers.specs.declared.Refusal.TheVariants as R
 use Rattle.numbers.specs.declared.Place.{Place}
 use Rattle.numbers.specs.declared.Place.TheVariants.{At, Refused}
 use Rattle.fields.specs.Layouts.{num, str, dat, strs, quids, boxed, Layout}
-use Rattle.fields.specs.LayoutLaws.{both}
+use Rattle.fields.proofs.LayoutLaws.{both}
 use Rattle.fields.specs.Values.{Value}
 use Rattle.fields.specs.Fields.{past_field, values_at, past_fields, Fields}
-use Rattle.fields.specs.FieldLaws.{number_field, stays}
+use Rattle.fields.proofs.FieldLaws.{number_field, stays}
 use Rattle.laying.specs.Laying.{Written}
 use Rattle.layouts.specs.Tables.{Row, lookup, table_t, table_r}
-use Rattle.layouts.specs.BodyLaws.{Nots, no_row}
+use Rattle.layouts.specs.BodyLaws.{Nots}
+use Rattle.layouts.proofs.BodyLaws.{no_row}
 use Rattle.flat.specs.Flat.{flat_values, stored, laid, low, field_values, FlatRead, skipped, Skipped, FlatWritten, width_t, width_r, widest}
 
 -- so many values hold any request and any reply, and no fewer would

@@ -5,12 +5,7 @@ pub mod Local
 pub mod Stretch
 pub mod Headers
 pub mod Cuts
-pub mod HeaderLaws
 pub mod RaisedLaws
-pub mod WritingLaws
-pub mod CutLaws
-pub mod One
-pub mod Examples
 pub mod ListingLaws
 pub mod Accepted
 pub mod Stripped
@@ -18,14 +13,10 @@ pub mod Demand
 pub mod ReadBack
 pub mod Breaks
 pub mod Broken
-pub mod Positions
-pub mod Lent
 pub mod Shown
 pub mod Joining
-pub mod JoiningLaws
 pub mod Damage
 pub mod DamageLaws
 pub mod Limits
 pub mod Dialects
 pub mod Standing
-pub mod Typed

@@ -6,19 +6,21 @@ use mathlib.Core.List.{List, [], ◌∷◌}
 use lib.ListN.{length, take, drop, length-append}
 use lib.Seq.{length-take-le}
 use borrow.Author.Tests.{eq-eqb, ne_eqb, lt-ltb, le-ltb, le-leb, lt-leb}
-use Rattle.numbers.specs.Numbers.{Bytes, to_le, length_to_le, bytes_take, bytes_drop}
+use Rattle.numbers.specs.Numbers.{Bytes, to_le}
+use Rattle.numbers.proofs.Numbers.{length_to_le, bytes_take, bytes_drop}
 use Rattle.numbers.specs.Reading.{Result, ok, bad, after}
-use Rattle.numbers.specs.ReadingLaws.{or_else}
+use Rattle.numbers.proofs.ReadingLaws.{or_else}
 use Rattle.numbers.specs.Places.{rest_at}
 use Rattle.numbers.specs.declared.Refusal.{Refusal}
 use Rattle.numbers.specs.declared.Refusal.TheVariants as R
 use Rattle.numbers.specs.declared.Place.{Place}
 use Rattle.numbers.specs.declared.Place.TheVariants.{At, Refused}
 use Rattle.strings.specs.Spans.{show_span, show_string, check_at, SpanCheck, StrCheck}
-use Rattle.strings.specs.SpanLaws.{first_refuses, passing, shown_length}
+use Rattle.strings.proofs.SpanLaws.{first_refuses, passing, shown_length}
 use Rattle.fields.specs.Layouts.{Field, str, dat, strs, quids, Item, string, bytes, strings, ok_count, read_many, many_bytes, item_bytes}
-use Rattle.fields.specs.LayoutLaws.{took_many}
-use Rattle.laying.specs.LayingLaws.{drop_take, Unless, part_passed, after_count, advance_twice}
+use Rattle.fields.proofs.LayoutLaws.{took_many}
+use Rattle.laying.specs.LayingLaws.{Unless}
+use Rattle.laying.proofs.LayingLaws.{drop_take, part_passed, after_count, advance_twice}
 use Rattle.fields.specs.Values.{Value, span, part, len_of, cut_off, show_part, whole_part, show}
 use Rattle.fields.specs.Fields.{CountCheck, ManyRead}
 use Rattle.laying.specs.Laying.{limit, advance, shown_size, check_field, head_width, head_of, FieldMeasured, Advanced, PartCheck, ShowCheck, filled_at, Filled, Settled, Begun}

@@ -1,1 +1,5 @@
 pub mod Lays
+pub mod BoxLaws
+pub mod ElementLaws
+pub mod LayingLaws
+pub mod WritingLaws

@@ -1,6 +1,5 @@
 pub mod Laying
 pub mod LayingLaws
-pub mod WritingLaws
 pub mod BoxLaws
 pub mod Elements
 pub mod ElementLaws

@@ -6,7 +6,7 @@ use Rattle.numbers.specs.Refusals.{number_of}
 use Rattle.layouts.specs.Tables.{Row, table_t, table_r}
 use Rattle.framing.specs.Stretch.{Listing, entry, ends, stops, listing}
 use Rattle.framing.specs.Damage.{Has, Damaged, EqualBut, there, other}
-use Rattle.framing.specs.DamageLaws.{damaged_listing}
+use Rattle.framing.proofs.DamageLaws.{damaged_listing}
 use Rattle.listing.specs.Text.{joined, answer_number, line_pieces, header, end_word, stop_word, last_pieces, lines_from, too_long, report, Reported}
 
 -- ---- lines

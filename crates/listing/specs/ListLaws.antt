@@ -11,7 +11,8 @@ use Rattle.numbers.specs.declared.Place.{Place}
 use Rattle.numbers.specs.declared.Place.TheVariants.{At}
 use Rattle.layouts.specs.Tables.{table_t, table_r}
 use Rattle.framing.specs.Stretch.{entry, ends, stops, frame_at, listing}
-use Rattle.framing.specs.ListingLaws.{goes_on, listed, Moved, moves_on}
+use Rattle.framing.specs.ListingLaws.{goes_on}
+use Rattle.framing.proofs.ListingLaws.{listed, Moved, moves_on}
 use Rattle.stretch.specs.Functions.{answered}
 use Rattle.stretch.specs.Views.{view_body, view_step, Asked}
 use Rattle.stretch.specs.declared.Listed.{Listed}

@@ -4,8 +4,9 @@ use Rattle.std.proofs.Common.{arith, sym, ap, ◌∙◌, length-append, length-t
 use Rattle.std.proofs.Math.Nat.{pow-le-pow_right}
 use Rattle.std.proofs.Math.Path.{refl}
 use Rattle.io.specs.Digits.{last_digits, hex_digit_ascii}
-use Rattle.numbers.specs.Numbers.{Bytes, from_le, from_bound, bytes_take, bytes_drop}
-use Rattle.numbers.specs.ReadingLaws.{or_else}
+use Rattle.numbers.specs.Numbers.{Bytes, from_le}
+use Rattle.numbers.proofs.Numbers.{from_bound, bytes_take, bytes_drop}
+use Rattle.numbers.proofs.ReadingLaws.{or_else}
 use Rattle.numbers.specs.Refusals.{number_of}
 use Rattle.numbers.specs.Places.{over}
 use Rattle.numbers.specs.declared.Refusal.{Refusal}
@@ -15,7 +16,7 @@ use Rattle.numbers.specs.declared.Place.TheVariants.{At, Refused}
 use Rattle.layouts.specs.Tables.{Row, table_t, table_r}
 use Rattle.layouts.specs.Bodies.{Answer, accepted, refused}
 use Rattle.framing.specs.Stretch.{type_in, tag_in, tail_in, answer_of, front, stop, Listing, entry, ends, stops, list_from, listing}
-use Rattle.framing.specs.ListingLaws.{front_case, list_next}
+use Rattle.framing.proofs.ListingLaws.{front_case, list_next}
 use Rattle.listing.specs.Text.{figures, decimal, joined, newline, field_pieces, answer_number, line_pieces, end_word, stop_word, last_pieces, header, lines_from, report, ReportPut, position_of, room, Reported}
 use Rattle.listing.specs.TextLaws.{all_fits}
 

@@ -6,16 +6,16 @@ use Rattle.std.proofs.Math.Seq.{take-length}
 use Rattle.io.specs.Counts.{IsPrefixLen}
 use Rattle.io.specs.Digits.{last_digits, IsDigitCount}
 use Rattle.numbers.specs.Reading.{ok}
-use Rattle.numbers.specs.ReadingLaws.{or_else}
+use Rattle.numbers.proofs.ReadingLaws.{or_else}
 use Rattle.numbers.specs.Places.{over, put_at, past_put, Put}
-use Rattle.numbers.specs.PlaceLaws.{put_then, length_over, length_put, one_answer}
+use Rattle.numbers.proofs.PlaceLaws.{put_then, length_over, length_put, one_answer}
 use Rattle.numbers.specs.declared.Refusal.{Refusal}
 use Rattle.numbers.specs.declared.Place.{Place}
 use Rattle.numbers.specs.declared.Place.TheVariants.{At, Refused}
 use Rattle.strings.specs.Spans.{bytes_in, show_span, check_at, SpanPut}
-use Rattle.strings.specs.SpanLaws.{shown_in, passing}
+use Rattle.strings.proofs.SpanLaws.{shown_in, passing}
 use Rattle.layouts.specs.Tables.{table_t, table_r}
-use Rattle.framing.specs.WritingLaws.{put_fits, past_fits, put_over, over_none}
+use Rattle.framing.proofs.WritingLaws.{put_fits, past_fits, put_over, over_none}
 use Rattle.listing.specs.Text.{figures, decimal, put_all, past_all, PiecesPut, joined, space, newline, answer_number, DecimalPut, FieldPut, TailPut, FramePut, LinePut, LastPut, report, Reported}
 use Rattle.stretch.specs.Views.{view_body}
 use Rattle.stretch.specs.declared.Listed.{Listed}

@@ -7,7 +7,8 @@ use mathlib.Core.List.{List}
 use lib.Dec.{lit<}
 use lib.ListN.{length, take, drop, get_or, set, length-drop}
 use lib.Seq.{drop-cons, length-take-le, sets, sets-eq}
-use Rattle.numbers.specs.Numbers.{Bytes, from_le, to_le, length_to_le, from_bound, bytes_take, bytes_drop}
+use Rattle.numbers.specs.Numbers.{Bytes, from_le, to_le}
+use Rattle.numbers.proofs.Numbers.{length_to_le, from_bound, bytes_take, bytes_drop}
 use Rattle.numbers.specs.Places.{over}
 
 -- ---- reading: the highest byte first, so that each turn multiplies what it has

@@ -8,16 +8,17 @@ use Rattle.std.proofs.Math.Bool.{true, false}
 use Rattle.std.proofs.Math.Seq.{get_or-set_same, get_or-set_other}
 use Rattle.std.proofs.Math.Dec.{ltb}
 use borrow.Author.Tests.{ltb-true}
-use Rattle.numbers.specs.Numbers.{Bytes, to_le, length_to_le, bytes_drop}
+use Rattle.numbers.specs.Numbers.{Bytes, to_le}
+use Rattle.numbers.proofs.Numbers.{length_to_le, bytes_drop}
 use Rattle.numbers.specs.Reading.{Result, ok, bad}
-use Rattle.numbers.specs.ReadingLaws.{or_else}
+use Rattle.numbers.proofs.ReadingLaws.{or_else}
 use Rattle.numbers.specs.Places.{rest_at}
 use Rattle.numbers.specs.declared.Refusal.TheVariants as R
 use Rattle.numbers.specs.declared.Place.{Place}
 use Rattle.numbers.specs.declared.Place.TheVariants as P
 use Rattle.strings.specs.Strings.{read_string, string_bytes}
 use Rattle.strings.specs.Spans.{bytes_in, start_in, str_start, str_len, past_str}
-use Rattle.strings.specs.StringLaws.{took_string}
+use Rattle.strings.proofs.StringLaws.{took_string}
 use Rattle.places.specs.declared.Places.{Places}
 use Rattle.places.specs.declared.Spot.{Spot}
 use Rattle.places.specs.declared.Spot.TheVariants.{At, Refused}

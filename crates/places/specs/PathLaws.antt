@@ -10,9 +10,9 @@ use Rattle.std.proofs.Math.Dec.{ltb}
 use borrow.Author.Tests.{ltb-true, lt-ltb, le-ltb, le-leb, lt-leb}
 use Rattle.numbers.specs.Numbers.{to_le}
 use Rattle.numbers.specs.Reading.{Result, ok, bad}
-use Rattle.numbers.specs.ReadingLaws.{or_else}
+use Rattle.numbers.proofs.ReadingLaws.{or_else}
 use Rattle.numbers.specs.Places.{over, put_at, past_put, Put}
-use Rattle.numbers.specs.PlaceLaws.{over_then, length_over}
+use Rattle.numbers.proofs.PlaceLaws.{over_then, length_over}
 use Rattle.numbers.specs.declared.Refusal.TheVariants as R
 use Rattle.numbers.specs.declared.Place.{Place}
 use Rattle.numbers.specs.declared.Place.TheVariants.{At, Refused}

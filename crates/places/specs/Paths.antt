@@ -9,7 +9,7 @@ use Rattle.std.proofs.lemmas.List.{drop-append-le, take-append-le}
 use Rattle.std.proofs.Math.Dec.{ltb}
 use borrow.Author.Tests.{ltb-true, lt-ltb}
 use Rattle.strings.specs.Spans.{bytes_in}
-use Rattle.strings.specs.SpanLaws.{shown_in}
+use Rattle.strings.proofs.SpanLaws.{shown_in}
 use Rattle.places.specs.declared.Places.{Places}
 use Rattle.places.specs.declared.Spot.TheVariants.{At}
 use Rattle.places.specs.Places.{rowed, added, root, child, name_in, is_up, step, path_within, path}

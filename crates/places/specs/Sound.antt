@@ -2,7 +2,7 @@
 use Rattle.std.specs.Prelude.{ℕ, zero, suc, ◌<◌, ◌≤◌, ◌≡◌, refl, Bool, true, false, cond, List, length, get_or, ltb}
 use Rattle.std.proofs.Common.{arith, not-suc-le-zero, ◌∙◌, length-set, get_or-set_same, get_or-set_other, ltb-true}
 use Rattle.std.proofs.lemmas.List.{length-replicate}
-use Rattle.numbers.specs.ReadingLaws.{or_else}
+use Rattle.numbers.proofs.ReadingLaws.{or_else}
 use Rattle.numbers.specs.declared.Refusal.TheVariants as R
 use Rattle.numbers.specs.declared.Place.{Place}
 use Rattle.numbers.specs.declared.Place.TheVariants as P

@@ -36,7 +36,8 @@ use Rattle.plain_frames.specs.declared.ReadTframe.TheVariants as T
 use Rattle.plain_frames.specs.declared.ReadRframe.{ReadRframe}
 use Rattle.plain_frames.specs.declared.ReadRframe.TheVariants as Q
 use Rattle.framing.specs.Stretch.{type_in, tag_in, table_for, answer_in, answer_of, Listing, entry, ends, stops, listing}
-use Rattle.framing.specs.ListingLaws.{goes_on, listed, stops_at}
+use Rattle.framing.specs.ListingLaws.{goes_on, stops_at}
+use Rattle.framing.proofs.ListingLaws.{listed}
 use Rattle.plain_stretch.specs.Views.{view_body, view_step, Asked}
 use Rattle.framing.specs.ReadBack.{Back}
 use Rattle.framing.specs.Limits.{Limited}
@@ -47,9 +48,11 @@ use Rattle.framing.specs.Demand.{Whole, Edited, old_lines, new_lines, repeated}
 use Rattle.framing.specs.Shown.{records_in}
 use Rattle.framing.specs.Joining.{joined, Ends}
 use Rattle.framing.specs.Damage.{Has, Damaged, EqualBut}
-use Rattle.framing.specs.Positions.{listed_written}
+use Rattle.framing.proofs.Positions.{listed_written}
 use Rattle.framing.specs.Cuts.{between}
-use Rattle.framing.specs.Dialects.{frames, ended, stopped, Lists, listed_by, lists, lists_edited, lists_once, lists_joined, lists_damaged, Direction, stripped, written, written_again, cut, back, local_read}
+use Rattle.framing.specs.Dialects.{Direction}
+use Rattle.framing.proofs.Dialects.{frames, ended, stopped}
+use Rattle.framing.proofs.Dialects.{Lists, listed_by, lists, lists_edited, lists_once, lists_joined, lists_damaged, stripped, written, written_again, cut, back, local_read}
 use Rattle.plain_stretch.specs.declared.Body.TheVariants as B
 use Rattle.plain_stretch.specs.declared.Listed.{Listed}
 use Rattle.plain_stretch.specs.declared.Step.{Step}

@@ -4,7 +4,7 @@ use Rattle.std.specs.Prelude.{◌^◌, ◌<◌, ◌≡◌, refl}
 use Rattle.std.proofs.Math.Option.{some}
 use Rattle.layouts.specs.Tables.{lookup}
 use Rattle.layouts.specs.Plain.{table_t, table_r}
-use Rattle.layouts.specs.TableLaws.{small_row}
+use Rattle.layouts.proofs.TableLaws.{small_row}
 use Rattle.plain_requests.specs.Views.{type_t, layout_t}
 use Rattle.plain_requests.specs.declared.Tmessage.{Tmessage}
 use Rattle.plain_requests.specs.declared.Tmessage.TheVariants as M

@@ -1,1 +1,4 @@
 pub mod Loops
+pub mod Examples
+pub mod FewestLaws
+pub mod PlanLaws

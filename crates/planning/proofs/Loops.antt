@@ -10,7 +10,8 @@ use borrow.Author.Tests.{eq-eqb, ne_eqb, eqb-true, eqb-false}
 use lib.Seq.{sets, sets-eq, drop-cons}
 use native.Mathlib.Numerals.{add-one}
 use Rattle.planning.specs.Plans.{cut, runs_on, most_data, offset, size}
-use Rattle.planning.specs.PlanLaws.{length_cut, Follows, runs_step, runs_stop}
+use Rattle.planning.specs.PlanLaws.{Follows}
+use Rattle.planning.proofs.PlanLaws.{length_cut, runs_step, runs_stop}
 
 -- ---- putting
 

@@ -1,4 +1,2 @@
 pub mod Plans
 pub mod PlanLaws
-pub mod Fewest
-pub mod Examples

@@ -1,8 +1,8 @@
 -- One answer for each line and each place.
 use Rattle.std.specs.Prelude.{◌≡◌, ℕ, Bool, true, false, List}
 use Rattle.std.proofs.Common.{sym, ap₂, ◌∙◌}
-use Rattle.numbers.specs.PlaceLaws.{one_answer}
-use Rattle.numbers.specs.Refusals.{number_one}
+use Rattle.numbers.proofs.PlaceLaws.{one_answer}
+use Rattle.numbers.proofs.Refusals.{number_one}
 use Rattle.numbers.specs.declared.Place.{Place}
 use Rattle.numbers.specs.declared.Place.TheVariants.{At, Refused}
 use Rattle.questions.specs.declared.Question.{Question}

@@ -5,11 +5,12 @@ use Rattle.std.specs.Prelude.{◌≡◌, refl, Bool, true, false, cond, List, �
 use Rattle.std.proofs.Common.{sym, ◌∙◌, length-append, length-take-le, lt-ltb, le-ltb}
 use Rattle.std.proofs.Math.Path.{ap}
 use Rattle.io.specs.Counts.{IsPrefixLen}
-use Rattle.numbers.specs.Numbers.{Bytes, bytes_take}
-use Rattle.numbers.specs.ReadingLaws.{or_else}
+use Rattle.numbers.specs.Numbers.{Bytes}
+use Rattle.numbers.proofs.Numbers.{bytes_take}
+use Rattle.numbers.proofs.ReadingLaws.{or_else}
 use Rattle.numbers.specs.Refusals.{number_of}
 use Rattle.numbers.specs.Places.{Put}
-use Rattle.numbers.specs.PlaceLaws.{one_answer}
+use Rattle.numbers.proofs.PlaceLaws.{one_answer}
 use Rattle.numbers.specs.declared.Refusal.{Refusal}
 use Rattle.numbers.specs.declared.Refusal.TheVariants as R
 use Rattle.numbers.specs.declared.Place.{Place}
@@ -17,7 +18,8 @@ use Rattle.numbers.specs.declared.Place.TheVariants.{At}
 use Rattle.layouts.specs.Tables.{table_t, table_r}
 use Rattle.layouts.specs.Bodies.{Answer, accepted, refused}
 use Rattle.framing.specs.Stretch.{Listing, entry, ends, stops, listing}
-use Rattle.framing.specs.ListingLaws.{goes_on, listed}
+use Rattle.framing.specs.ListingLaws.{goes_on}
+use Rattle.framing.proofs.ListingLaws.{listed}
 use Rattle.stretch.specs.Functions.{answered}
 use Rattle.stretch.specs.Views.{view_body, view_step, Asked}
 use Rattle.stretch.specs.declared.Listed.{Listed}

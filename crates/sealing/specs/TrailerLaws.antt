@@ -6,21 +6,23 @@ use Rattle.std.proofs.Common.{◌∙◌, append_assoc, append-nil, length-append
 use Rattle.std.proofs.Math.ListN.{length, take}
 use Rattle.std.proofs.Math.Seq.{take-append_seam, drop-append_seam}
 use borrow.Author.Tests.{lt-ltb, le-ltb, eq-eqb, ne_eqb}
-use Rattle.numbers.specs.Numbers.{to_le, length_to_le}
+use Rattle.numbers.specs.Numbers.{to_le}
+use Rattle.numbers.proofs.Numbers.{length_to_le}
 use Rattle.numbers.specs.Reading.{read_num}
-use Rattle.numbers.specs.ReadingLaws.{reads_num}
+use Rattle.numbers.proofs.ReadingLaws.{reads_num}
 use Rattle.numbers.specs.Places.{Within, number_in, num_at, Put, NumRead}
-use Rattle.numbers.specs.PlaceLaws.{put_stays, put_full, put_then}
+use Rattle.numbers.proofs.PlaceLaws.{put_stays, put_full, put_then}
 use Rattle.numbers.specs.declared.Refusal.{Refusal}
 use Rattle.numbers.specs.declared.Refusal.TheVariants as R
 use Rattle.numbers.specs.declared.Place.{Place}
 use Rattle.numbers.specs.declared.Place.TheVariants.{At, Refused}
 use Rattle.layouts.specs.Tables.{table_t, table_r}
 use Rattle.framing.specs.Stretch.{Listing, entry, ends, stops, list_from, listing}
-use Rattle.framing.specs.ListingLaws.{front_case, list_frame, list_stop, goes_on, listed, list_step}
+use Rattle.framing.specs.ListingLaws.{goes_on}
+use Rattle.framing.proofs.ListingLaws.{front_case, list_frame, list_stop, listed, list_step}
 use Rattle.framing.specs.Joining.{Ends}
 use Rattle.framing.specs.Cuts.{between, CutAt}
-use Rattle.framing.specs.CutLaws.{length_whole, cut_whole, cut_end, cut_stop}
+use Rattle.framing.proofs.CutLaws.{length_whole, cut_whole, cut_end, cut_stop}
 use Rattle.framing.specs.declared.Cut.{Cut}
 use Rattle.framing.specs.declared.Cut.TheVariants as C
 use Rattle.sealing.specs.Trailers.{extent_from, extent_of, tells, stretch_in, sealed, trailer_bytes, told, trailer_of, start_of, ExtentPut, TrailerPut}

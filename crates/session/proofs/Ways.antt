@@ -11,7 +11,7 @@ use lib.ListN.{get_or, set, replicate}
 use lib.Dec.{eqb}
 use borrow.Author.Tests.{lt-ltb, le-ltb, eq-eqb, ne_eqb}
 use Rattle.numbers.specs.Places.{Put}
-use Rattle.numbers.specs.PlaceLaws.{put_stays}
+use Rattle.numbers.proofs.PlaceLaws.{put_stays}
 use Rattle.numbers.specs.declared.Refusal.{Refusal}
 use Rattle.numbers.specs.declared.Refusal.TheVariants as R
 use Rattle.numbers.specs.declared.Place.{Place}

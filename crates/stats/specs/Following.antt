@@ -7,9 +7,9 @@ use Rattle.std.proofs.Math.Seq.{drop-drop}
 use borrow.Author.Tests.{le-leb, lt-leb, eq-eqb, ne_eqb}
 use Rattle.numbers.specs.Numbers.{from_le}
 use Rattle.numbers.specs.Reading.{Result, ok, bad, after, raw, read_num}
-use Rattle.numbers.specs.ReadingLaws.{or_else, after_inv, raw_short}
+use Rattle.numbers.proofs.ReadingLaws.{or_else, after_inv, raw_short}
 use Rattle.numbers.specs.Places.{Within, read_at, rest_at, NumRead}
-use Rattle.numbers.specs.PlaceLaws.{inside, outside, short_num, held_num, num_holds, num_refused}
+use Rattle.numbers.proofs.PlaceLaws.{inside, outside, short_num, held_num, num_holds, num_refused}
 use Rattle.numbers.specs.declared.Refusal.{Refusal}
 use Rattle.numbers.specs.declared.Refusal.TheVariants as R
 use Rattle.numbers.specs.declared.Place.{Place}

@@ -8,23 +8,25 @@ use Rattle.std.proofs.Math.Seq.{drop-drop}
 use borrow.Author.Tests.{le-leb, lt-leb, eq-eqb, ne_eqb}
 use Rattle.numbers.specs.Numbers.{from_le, to_le}
 use Rattle.numbers.specs.Reading.{Result, ok, bad, after, raw, read_num}
-use Rattle.numbers.specs.ReadingLaws.{or_else, raw_short}
+use Rattle.numbers.proofs.ReadingLaws.{or_else, raw_short}
 use Rattle.numbers.specs.Places.{Within, read_at, read_from, rest_at, NumRead, Put}
-use Rattle.numbers.specs.PlaceLaws.{inside, outside, Held, held_num, num_holds, num_refused}
+use Rattle.numbers.specs.PlaceLaws.{Held}
+use Rattle.numbers.proofs.PlaceLaws.{inside, outside, held_num, num_holds, num_refused}
 use Rattle.numbers.specs.declared.Refusal.{Refusal}
 use Rattle.numbers.specs.declared.Refusal.TheVariants as R
 use Rattle.numbers.specs.declared.Place.{Place}
 use Rattle.numbers.specs.declared.Place.TheVariants.{At, Refused}
 use Rattle.strings.specs.Spans.{SpanPut}
 use Rattle.fields.specs.Layouts.{Shape, fixed, worded, boxed, box, read_cells, follow, at_end, agrees, read_field}
-use Rattle.fields.specs.LayoutLaws.{agreed}
+use Rattle.fields.proofs.LayoutLaws.{agreed}
 use Rattle.fields.specs.Values.{Slot, slot, text, block}
 use Rattle.fields.specs.Fields.{no_slot, past_field, FieldRead}
 use Rattle.fields.specs.BoxLaws.{plain_of, Box, Opened}
 use Rattle.laying.specs.Laying.{with_sizes, sized, FieldMeasured, Measured, CellsPut, Countable, Advanced}
-use Rattle.laying.specs.BoxLaws.{value_of, box_measured, cells_done, put_amount, put_words, put_cells_length}
+use Rattle.laying.specs.BoxLaws.{value_of}
+use Rattle.laying.proofs.BoxLaws.{box_measured, cells_done, put_amount, put_words, put_cells_length}
 use Rattle.layouts.specs.Plain.{stat_shape}
-use Rattle.laying.specs.LayingLaws.{drop_take}
+use Rattle.laying.proofs.LayingLaws.{drop_take}
 use Rattle.stats.specs.Unix as U
 use Rattle.stats.specs.Stats.{Followed, Blank, Sized}
 use Rattle.stats.specs.Following.{length_follow, then_follow, merged}

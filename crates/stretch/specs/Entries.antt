@@ -1,14 +1,15 @@
 -- A directory entry alone: how long it is at the most, and so that 10 is never answered for it but at a place near the largest frame's end.
 use Rattle.std.specs.Prelude.{ℕ, ◌+◌, ◌≤◌, ◌<◌, ◌≡◌, refl, Bool, true, false, List, [], ◌∷◌, ◌++◌, length}
 use Rattle.std.proofs.Common.{arith, sym, ap, ◌∙◌, length-append, lt-ltb}
-use Rattle.numbers.specs.Numbers.{to_le, length_to_le}
+use Rattle.numbers.specs.Numbers.{to_le}
+use Rattle.numbers.proofs.Numbers.{length_to_le}
 use Rattle.numbers.specs.Reading.{ok}
-use Rattle.numbers.specs.ReadingLaws.{after_inv}
+use Rattle.numbers.proofs.ReadingLaws.{after_inv}
 use Rattle.numbers.specs.Places.{past_put}
 use Rattle.numbers.specs.declared.Place.TheVariants.{At}
 use Rattle.strings.specs.Strings.{string_bytes}
 use Rattle.strings.specs.Spans.{show_string}
-use Rattle.strings.specs.SpanLaws.{shown_length, string_inv}
+use Rattle.strings.proofs.SpanLaws.{shown_length, string_inv}
 use Rattle.fields.specs.Layouts.{Field, num, str, dat, strs, quids, boxed, Layout, Item, number, string, item_bytes, items_bytes}
 use Rattle.fields.specs.Values.{Value, num_of, start_of, len_of, show, first_of, others_of, shows}
 use Rattle.laying.specs.Laying.{limit, written_past}

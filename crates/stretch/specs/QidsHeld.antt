@@ -8,7 +8,7 @@ use denote.Struct.Laws.{lawful}
 use Rattle.layouts.specs.declared.qids.Qid.{Qid}
 use Rattle.layouts.specs.contracts.qids.Qid.{the_type as typeQid, the_row as rowQid}
 use Rattle.layouts.proofs.qids.Qid.TheLaws.{the_laws as lawsQid, lowered as loweredQid, lowers as lowersQid}
-use Rattle.framing.specs.Typed.{typed_low}
+use Rattle.framing.proofs.Typed.{typed_low}
 use Rattle.stretch.specs.TablesBack.{QidsFit}
 
 pub qid_held : {M : Type 1} {𝓤 : Ura M} (𝓛 : Logic 𝓤) → (v : Qid) (vs : List Val) → Is rowQid v vs → WT (loweredQid v)

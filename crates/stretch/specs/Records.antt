@@ -5,7 +5,7 @@ use Rattle.numbers.specs.declared.Place.{Place}
 use Rattle.fields.specs.Layouts.{Layout}
 use Rattle.fields.specs.Values.{Value, val, num_of, start_of, len_of}
 use Rattle.fields.specs.Fields.{Fields}
-use Rattle.fields.specs.FieldLaws.{fields_one}
+use Rattle.fields.proofs.FieldLaws.{fields_one}
 use Rattle.layouts.specs.Records.{qid, dirent}
 use Rattle.layouts.specs.declared.qids.Qid.{Qid}
 use Rattle.layouts.specs.declared.dirents.Dirent.{Dirent}

@@ -3,17 +3,18 @@ use Rattle.std.specs.Prelude.{ℕ, suc, ◌+◌, ◌*◌, ◌^◌, ◌≤◌, �
 use Rattle.std.proofs.Common.{arith, sym, ap, ap₂, ◌∙◌, append_assoc, append-nil, length-append, lit<, le-leb}
 use Rattle.std.proofs.Math.Option.{some}
 use Rattle.std.proofs.lemmas.Bool.{lt-leb}
-use Rattle.numbers.specs.Numbers.{Bytes, to_le, length_to_le}
+use Rattle.numbers.specs.Numbers.{Bytes, to_le}
+use Rattle.numbers.proofs.Numbers.{length_to_le}
 use Rattle.numbers.specs.Reading.{Result, ok, bad, after}
-use Rattle.numbers.specs.ReadingLaws.{or_else, after_inv}
+use Rattle.numbers.proofs.ReadingLaws.{or_else, after_inv}
 use Rattle.numbers.specs.declared.Refusal.TheVariants as R
 use Rattle.numbers.specs.declared.Place.TheVariants.{At}
 use Rattle.strings.specs.Strings.{string_bytes}
 use Rattle.strings.specs.Spans.{show_string}
 use Rattle.fields.specs.Layouts.{num, Item, number, string, strings, qids, kind, counted, read_fields, many_bytes, item_bytes, items_bytes, AllGood, Goods}
-use Rattle.fields.specs.LayoutLaws.{reads_fields}
+use Rattle.fields.proofs.LayoutLaws.{reads_fields}
 use Rattle.fields.specs.Values.{val, span, places, show, shows}
-use Rattle.fields.specs.ValueLaws.{shows_items}
+use Rattle.fields.proofs.ValueLaws.{shows_items}
 use Rattle.layouts.specs.Tables.{Row, lookup, layout_twalk, layout_rwalk}
 use Rattle.layouts.specs.Tables as L
 use Rattle.layouts.specs.Plain as P
@@ -21,11 +22,13 @@ use Rattle.layouts.specs.Bodies.{accepted}
 use Rattle.layouts.specs.declared.qids.Qid.{Qid}
 use Rattle.framing.specs.Frames.{framed, read_frame}
 use Rattle.framing.specs.Writing.{head_bytes, frame_out, frame_past}
-use Rattle.framing.specs.WritingLaws.{head_length}
+use Rattle.framing.proofs.WritingLaws.{head_length}
 use Rattle.tables.specs.Tables.{TableWritten, name_fields, name_values, walk_fields, walk_values, TwalkWritten, qid_items, RwalkWritten}
 use Rattle.tables.specs.QidLaws.{qids_bytes, qids_length}
-use Rattle.framing.specs.Accepted.{Stands, reads_frame}
-use Rattle.framing.specs.ReadBack.{good_text, Wrote, wrote}
+use Rattle.framing.specs.Accepted.{Stands}
+use Rattle.framing.proofs.Accepted.{reads_frame}
+use Rattle.framing.specs.ReadBack.{Wrote}
+use Rattle.framing.proofs.ReadBack.{good_text, wrote}
 
 -- what a table that was written had: no more elements than a walk may
 in_table : (k : ℕ) (m : Result (List Item)) {ty tag n : ℕ} {o o' : List ℕ} → TableWritten ty tag (counted k m) o o' (At n) → (k ≤ 16) × Wrote m ty tag o o' n

@@ -9,20 +9,23 @@ use native.Mathlib.Numerals.{add-one, unary_clauses}
 use lib.Seq.{length-take-le, take_at, take-add, take-take, take-append-le, take-append-add, drop-append-add, drop-drop, get_or-drop, paste, paste-suc}
 use lib.Dec.{leb}
 use borrow.Author.Tests.{le-leb, lt-leb, leb-true}
-use Rattle.numbers.specs.Numbers.{to_le, length_to_le}
+use Rattle.numbers.specs.Numbers.{to_le}
+use Rattle.numbers.proofs.Numbers.{length_to_le}
 use Rattle.numbers.specs.Reading.{Result, ok, bad, after, raw, read_num}
-use Rattle.numbers.specs.ReadingLaws.{or_else, after_inv, cond_inv, raw_short}
+use Rattle.numbers.proofs.ReadingLaws.{or_else, after_inv, cond_inv, raw_short}
 use Rattle.numbers.specs.Places.{Within, read_from, rest_at, NumRead, over, Put}
-use Rattle.numbers.specs.PlaceLaws.{inside, outside, Held, num_holds, num_refused, put_stays, put_full, put_done, put_then, over_then}
+use Rattle.numbers.specs.PlaceLaws.{Held}
+use Rattle.numbers.proofs.PlaceLaws.{inside, outside, num_holds, num_refused, put_stays, put_full, put_done, put_then, over_then}
 use Rattle.numbers.specs.declared.Refusal.{Refusal}
 use Rattle.numbers.specs.declared.Refusal.TheVariants as R
 use Rattle.numbers.specs.declared.Place.{Place}
 use Rattle.numbers.specs.declared.Place.TheVariants.{At, Refused}
 use Rattle.utf8.specs.Utf8.{utf8, sound_start, no_zero, zero_at}
-use Rattle.utf8.specs.Plain.{short_plain, short_text}
-use Rattle.utf8.specs.StartLaws.{zero_in}
+use Rattle.utf8.specs.Plain.{short_plain}
+use Rattle.utf8.proofs.Plain.{short_text}
+use Rattle.utf8.proofs.StartLaws.{zero_in}
 use Rattle.strings.specs.Strings.{ok_text, read_string, string_bytes}
-use Rattle.strings.specs.SpanLaws.{first_refuses, shown_in, shown_out, shown_length, passed, string_passed, passing, string_cut, start_bad, string_held, string_short, text_refused, text_passed}
+use Rattle.strings.proofs.SpanLaws.{first_refuses, shown_in, shown_out, shown_length, passed, string_passed, passing, string_cut, start_bad, string_held, string_short, text_refused, text_passed}
 use Rattle.strings.specs.Spans.{bytes_in, show_span, show_string, check_at, Shown, TextCheck, SpanCheck, StrCheck, start_in, str_start, str_len, past_str, StrRead, SpanPut, StrPut}
 
 -- ---- a string's bytes, cut out to be looked at

@@ -1,4 +1,3 @@
 pub mod Strings
 pub mod Spans
-pub mod StringLaws
 pub mod SpanLaws

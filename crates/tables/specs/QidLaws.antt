@@ -7,22 +7,23 @@ use mathlib.Core.List.{List, [], ◌∷◌, ◌++◌, append_assoc, append-nil}
 use Rattle.std.proofs.Math.ListN.{length, length-append}
 use Rattle.std.proofs.Math.Seq.{take-length}
 use borrow.Author.Tests.{le-leb, lt-leb, lt-ltb, le-ltb}
-use Rattle.numbers.specs.Numbers.{to_le, length_to_le}
+use Rattle.numbers.specs.Numbers.{to_le}
+use Rattle.numbers.proofs.Numbers.{length_to_le}
 use Rattle.numbers.specs.Reading.{ok}
-use Rattle.numbers.specs.ReadingLaws.{or_else}
+use Rattle.numbers.proofs.ReadingLaws.{or_else}
 use Rattle.numbers.specs.Places.{over, put_at, past_put, Put}
-use Rattle.numbers.specs.PlaceLaws.{length_over, put_then}
+use Rattle.numbers.proofs.PlaceLaws.{length_over, put_then}
 use Rattle.numbers.specs.declared.Refusal.{Refusal}
 use Rattle.numbers.specs.declared.Refusal.TheVariants as R
 use Rattle.numbers.specs.declared.Place.{Place}
 use Rattle.numbers.specs.declared.Place.TheVariants.{At, Refused}
 use Rattle.fields.specs.Layouts.{Item, number, item_bytes, items_bytes}
 use Rattle.fields.specs.Fields.{CountCheck}
-use Rattle.fields.specs.FieldLaws.{count_passed, count_refused}
+use Rattle.fields.proofs.FieldLaws.{count_passed, count_refused}
 use Rattle.laying.specs.Laying.{limit}
 use Rattle.layouts.specs.declared.qids.Qid.{Qid}
 use Rattle.framing.specs.Writing.{head_bytes, frame_bytes, frame_out, frame_past, HeadPut}
-use Rattle.framing.specs.WritingLaws.{head_length, put_fits, past_fits, put_over, put_full, frame_length, over_none}
+use Rattle.framing.proofs.WritingLaws.{head_length, put_fits, past_fits, put_over, put_full, frame_length, over_none}
 use Rattle.tables.specs.Tables.{qid_items, RwalkWritten}
 use Rattle.tables.specs.Qids.{no_qid, qid_bytes, put_qid, placed, rwalk_past, all_of, to_follow, head_at, headed}
 

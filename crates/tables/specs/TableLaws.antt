@@ -5,7 +5,7 @@ use Rattle.std.proofs.Math.Seq.{drop-length}
 use borrow.Author.Tests.{lt-leb, le-leb}
 use Rattle.numbers.specs.Numbers.{Bytes, to_le}
 use Rattle.numbers.specs.Places.{Put}
-use Rattle.numbers.specs.PlaceLaws.{one_answer}
+use Rattle.numbers.proofs.PlaceLaws.{one_answer}
 use Rattle.numbers.specs.declared.Refusal.{Refusal}
 use Rattle.numbers.specs.declared.Refusal.TheVariants as R
 use Rattle.numbers.specs.declared.Place.{Place}
@@ -13,14 +13,14 @@ use Rattle.numbers.specs.declared.Place.TheVariants.{At, Refused}
 use Rattle.numbers.specs.Reading.{Result}
 use Rattle.strings.specs.Spans.{SpanPut}
 use Rattle.fields.specs.Fields.{CountCheck}
-use Rattle.fields.specs.FieldLaws.{count_passed, count_refused}
+use Rattle.fields.proofs.FieldLaws.{count_passed, count_refused}
 use Rattle.fields.specs.Layouts.{str, Item}
 use Rattle.fields.specs.Values.{span}
 use Rattle.laying.specs.Laying.{FieldMeasured, Measured, PutAll, Advanced, Begun}
-use Rattle.laying.specs.LayingLaws.{measured_none, measure, measure_numbers, put_done, put_number, put_counted}
-use Rattle.laying.specs.WritingLaws.{written}
+use Rattle.laying.proofs.LayingLaws.{measured_none, measure, measure_numbers, put_done, put_number, put_counted}
+use Rattle.laying.proofs.WritingLaws.{written}
 use Rattle.framing.specs.Writing.{frame_out, frame_past, FrameWritten, HeadPut}
-use Rattle.framing.specs.WritingLaws.{frame_written}
+use Rattle.framing.proofs.WritingLaws.{frame_written}
 use Rattle.tables.specs.Tables.{TableWritten, name_fields, name_values, walk_fields, walk_values, TwalkWritten}
 
 -- ---- the names, one after another

@@ -6,7 +6,8 @@ use Rattle.std.proofs.Math.Option.{Option, none, some}
 use Rattle.fields.specs.Layouts.{Layout}
 use Rattle.fields.specs.Values.{Slot, Value, val, span, part, block}
 use Rattle.layouts.specs.Tables.{Row, row, lookup, layout_tauth, layout_tattach}
-use Rattle.layouts.specs.BodyLaws.{Nots, no_row}
+use Rattle.layouts.specs.BodyLaws.{Nots}
+use Rattle.layouts.proofs.BodyLaws.{no_row}
 use Rattle.layouts.specs.Plain as P
 use Rattle.stats.specs.Stats.{more_slots}
 use Rattle.stats.specs.declared.unix.UnixStat.{UnixStat}

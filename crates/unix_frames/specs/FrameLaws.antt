@@ -10,9 +10,10 @@ use Rattle.stats.specs.Unix.{table_t, table_r}
 use Rattle.layouts.specs.Bodies.{accepted, read_body}
 use Rattle.framing.specs.Frames.{framed, refused_whole}
 use Rattle.framing.specs.Raising.{read_frame_at, body_place, body_from}
-use Rattle.framing.specs.RaisedLaws.{from_body}
+use Rattle.framing.proofs.RaisedLaws.{from_body}
 use Rattle.framing.specs.Headers.{HeadIs}
-use Rattle.framing.specs.Standing.{Why, no_header, header_there}
+use Rattle.framing.specs.Standing.{Why}
+use Rattle.framing.proofs.Standing.{no_header, header_there}
 use Rattle.framing.specs.declared.Head.{Head}
 use Rattle.framing.specs.declared.Head.TheVariants as H
 use Rattle.unix_requests.specs.Views.{type_t, values_t, view_t}

@@ -6,15 +6,15 @@ use Rattle.std.proofs.Math.Option.{some}
 use Rattle.std.proofs.Math.ListN.{length}
 use Rattle.numbers.specs.Numbers.{from_le}
 use Rattle.numbers.specs.Reading.{Result, ok, bad, after, raw, read_num}
-use Rattle.numbers.specs.ReadingLaws.{after_inv, cond_inv}
+use Rattle.numbers.proofs.ReadingLaws.{after_inv, cond_inv}
 use Rattle.numbers.specs.declared.Refusal.TheVariants as R
 use Rattle.fields.specs.Layouts.{Shape, boxed, Layout, Item, follow, at_end, agrees, read_field, read_fields, items_bytes}
-use Rattle.fields.specs.LayoutLaws.{agreed}
+use Rattle.fields.proofs.LayoutLaws.{agreed}
 use Rattle.fields.specs.Values.{Value}
 use Rattle.layouts.specs.Tables.{Row, lookup}
 use Rattle.layouts.specs.Bodies.{accepted, refused, items_at}
 use Rattle.framing.specs.Frames.{framed, read_header, read_frame}
-use Rattle.framing.specs.Accepted.{frame_inv, body_inv}
+use Rattle.framing.proofs.Accepted.{frame_inv, body_inv}
 use Rattle.stats.specs.Following.{follow_append}
 use Rattle.unix_stretch.specs.Prefix.{lastly, more_read}
 

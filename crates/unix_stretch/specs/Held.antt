@@ -6,7 +6,7 @@ use mir.Val.{Val, WT}
 use types.Logic.{Logic}
 use denote.Laws.{Is}
 use denote.Struct.Laws.{lawful}
-use Rattle.framing.specs.Typed.{typed_low}
+use Rattle.framing.proofs.Typed.{typed_low}
 use Rattle.unix_frames.specs.declared.Tframe.{Tframe}
 use Rattle.unix_frames.specs.contracts.Tframe.{the_type as type_t, the_row as rowT}
 use Rattle.unix_frames.proofs.Tframe.TheLaws.{the_laws as lawsT, lowered as loweredT, lowers as lowersT}

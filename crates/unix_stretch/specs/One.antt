@@ -2,7 +2,7 @@
 -- Any two answers that the promises of this crate allow are equal.
 use Rattle.std.specs.Prelude.{ℕ, ◌+◌, ◌-◌, ◌%◌, ◌≤◌, ◌≡◌, refl, List, length}
 use Rattle.std.proofs.Common.{arith, sym, ap, ◌∙◌}
-use Rattle.numbers.specs.PlaceLaws.{one_answer}
+use Rattle.numbers.proofs.PlaceLaws.{one_answer}
 use Rattle.unix_requests.specs.Built.{one_body}
 use Rattle.unix_replies.specs.Built.{one_body as one-reply}
 use Rattle.layouts.specs.declared.ids.Tag.{Tag}

@@ -5,23 +5,25 @@ use Rattle.std.proofs.Math.Path.{sym, ap}
 use mathlib.Core.List.{List, [], ◌∷◌, ◌++◌, append_assoc}
 use Rattle.std.proofs.Math.Option.{Option, some}
 use Rattle.std.proofs.Math.ListN.{length, length-append}
-use Rattle.numbers.specs.Numbers.{Bytes, to_le, from_le, length_to_le, from_to}
+use Rattle.numbers.specs.Numbers.{Bytes, to_le, from_le}
+use Rattle.numbers.proofs.Numbers.{length_to_le, from_to}
 use Rattle.numbers.specs.Reading.{Result, ok, bad, after, raw, read_num}
-use Rattle.numbers.specs.ReadingLaws.{after_inv, raw_short}
+use Rattle.numbers.proofs.ReadingLaws.{after_inv, raw_short}
 use Rattle.numbers.specs.declared.Refusal.{Refusal}
 use Rattle.numbers.specs.declared.Refusal.TheVariants as R
 use Rattle.strings.specs.Strings.{read_string, string_bytes}
 use Rattle.fields.specs.Layouts.{Field, num, str, Layout, Item, number, string, read_field, read_fields, item_bytes, items_bytes}
-use Rattle.fields.specs.LayoutLaws.{took_fields}
+use Rattle.fields.proofs.LayoutLaws.{took_fields}
 use Rattle.fields.specs.Values.{Value, val, span, place, places}
 use Rattle.layouts.specs.Tables.{Row, lookup}
 use Rattle.layouts.specs.Bodies.{Answer, accepted, refused, items_at, body_of}
 use Rattle.framing.specs.Frames.{Header, read_header, framed, read_frame}
 use Rattle.framing.specs.Writing.{head_bytes}
-use Rattle.framing.specs.WritingLaws.{head_length}
+use Rattle.framing.proofs.WritingLaws.{head_length}
 use Rattle.framing.specs.Local.{size_in}
 use Rattle.framing.specs.Stretch.{tail_in}
-use Rattle.framing.specs.Accepted.{frame_inv, body_inv, Headed, header_inv}
+use Rattle.framing.specs.Accepted.{Headed}
+use Rattle.framing.proofs.Accepted.{frame_inv, body_inv, header_inv}
 
 -- ---- one more field after a layout's
 

@@ -8,7 +8,7 @@ use Rattle.stats.specs.Unix.{table_t, table_r}
 use Rattle.framing.specs.Raising.{raise, body_from}
 use Rattle.framing.specs.Stretch.{answer_of, tail_in, end, stop, frame_at}
 use Rattle.framing.specs.Cuts.{between, WholeAt}
-use Rattle.framing.specs.CutLaws.{answer_there, tail_raised, frame_same, length_whole}
+use Rattle.framing.proofs.CutLaws.{answer_there, tail_raised, frame_same, length_whole}
 use Rattle.unix_stretch.specs.Views.{view_body, BodyOf, Leaves, ListedAs, view_step, Asked}
 use Rattle.unix_requests.specs.Views.{view_t}
 use Rattle.unix_requests.specs.declared.Tmessage.{Tmessage}

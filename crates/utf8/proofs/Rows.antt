@@ -10,7 +10,8 @@ use lib.Seq.{drop-cons}
 use lib.Dec.{leb, ltb}
 use borrow.Author.Tests.{le-leb, lt-leb, leb-true, ltb-true}
 use Rattle.utf8.specs.Utf8.{Range, ◌to◌, in_range, rows, fits, char_in, char, CharAt}
-use Rattle.utf8.specs.Utf8Laws.{Rest, fits_length}
+use Rattle.utf8.specs.Utf8Laws.{Rest}
+use Rattle.utf8.proofs.Utf8Laws.{fits_length}
 
 never : (t : Bool) → (t && false) ≡ false
 never true = refl

@@ -1,6 +1,6 @@
 -- The count, then all of the slice.
 use Rattle.fields.specs.Layouts.{str}
-use Rattle.laying.specs.LayingLaws.{put_counted, put_done}
+use Rattle.laying.proofs.LayingLaws.{put_counted, put_done}
 use Rattle.apart.proofs.put.Goals as goal
 
 pub returns : goal.returns

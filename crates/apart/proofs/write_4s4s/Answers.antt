@@ -1,7 +1,7 @@
 -- Each field measured, then each field put, and both strings in the two slices lent as one.
 use mathlib.Core.List.{[]}
-use Rattle.numbers.specs.Numbers.{bytes_all}
-use Rattle.laying.specs.LayingLaws.{measure, measure_numbers, measured_none, put_number, put_done}
+use Rattle.numbers.proofs.Numbers.{bytes_all}
+use Rattle.laying.proofs.LayingLaws.{measure, measure_numbers, measured_none, put_number, put_done}
 use Rattle.apart.specs.SecondLaws.{first_passed, passed_on}
 use Rattle.apart.specs.ApartLaws.{measure_first, put_first, put_second, apart_written}
 use Rattle.apart.proofs.write_4s4s.Goals as goal

@@ -1,5 +1,5 @@
 -- A short plain name passes; any other is checked as strings are.
-use Rattle.blocks.specs.PackLaws.{short_name}
+use Rattle.blocks.proofs.PackLaws.{short_name}
 use Rattle.blocks.proofs.check_name.Goals as goal
 
 pub returns-then-short_plain : goal.returns-then-short_plain

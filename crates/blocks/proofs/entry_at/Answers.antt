@@ -1,6 +1,6 @@
 -- The end; or what the reader of entries says in place.
-use Rattle.numbers.specs.Numbers.{bytes_all}
-use Rattle.blocks.specs.StepLaws.{asked_end, asked_entry, asked_stop}
+use Rattle.numbers.proofs.Numbers.{bytes_all}
+use Rattle.blocks.proofs.StepLaws.{asked_end, asked_entry, asked_stop}
 use Rattle.blocks.proofs.entry_at.Goals as goal
 
 pub returns-then-position-block : goal.returns-then-position-block

@@ -1,7 +1,7 @@
 use native.Mathlib.Omega.{arith}
 use mathlib.Core.List.{[]}
 use lib.ListN.{get_or}
-use Rattle.blocks.specs.PackLaws.{fit_next, fit_full, fit_bad, fit_all, entry_passes, entry_fails}
+use Rattle.blocks.proofs.PackLaws.{fit_next, fit_full, fit_bad, fit_all, entry_passes, entry_fails}
 use Rattle.blocks.proofs.fitting.Goals as goal
 
 pub returns-in-Refused : goal.returns-in-Refused

@@ -1,5 +1,5 @@
 -- How many fit, and then these are put.
-use Rattle.blocks.specs.PackLaws.{pack_ready, pack_put}
+use Rattle.blocks.proofs.PackLaws.{pack_ready, pack_put}
 use Rattle.blocks.proofs.pack.Goals as goal
 
 pub put_entries-requires : goal.put_entries-requires

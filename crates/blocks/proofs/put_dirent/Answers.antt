@@ -1,6 +1,6 @@
 -- Each field put, one after another.
 use Rattle.fields.specs.Layouts.{str}
-use Rattle.laying.specs.LayingLaws.{put_number, put_counted, put_done}
+use Rattle.laying.proofs.LayingLaws.{put_number, put_counted, put_done}
 use Rattle.blocks.proofs.put_dirent.Goals as goal
 
 pub returns : goal.returns

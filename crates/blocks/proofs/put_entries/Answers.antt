@@ -1,6 +1,6 @@
 use native.Mathlib.Omega.{arith}
 use mathlib.Core.Path.{refl}
-use Rattle.blocks.specs.PackLaws.{put_none, put_room, put_fit, put_length, put_next}
+use Rattle.blocks.proofs.PackLaws.{put_none, put_room, put_fit, put_length, put_next}
 use Rattle.blocks.proofs.put_entries.Goals as goal
 
 pub loop-i-init : goal.loop-i-init

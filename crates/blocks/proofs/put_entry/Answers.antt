@@ -1,7 +1,7 @@
 -- Put where there is room, which there is.
-use Rattle.numbers.specs.Numbers.{bytes_all}
-use Rattle.numbers.specs.PlaceLaws.{outside}
-use Rattle.blocks.specs.PackLaws.{put_row, no_entry}
+use Rattle.numbers.proofs.Numbers.{bytes_all}
+use Rattle.numbers.proofs.PlaceLaws.{outside}
+use Rattle.blocks.proofs.PackLaws.{put_row, no_entry}
 use Rattle.blocks.proofs.put_entry.Goals as goal
 
 pub returns-then-within : goal.returns-then-within

@@ -1,5 +1,5 @@
 -- The count is cut off, a name is refused, or the part ends where the scan does.
-use Rattle.numbers.specs.Numbers.{bytes_all}
+use Rattle.numbers.proofs.Numbers.{bytes_all}
 use Rattle.fields.proofs.Ways.{count_lies, strs_cut, strs_bad, strs_on, strs_good}
 use Rattle.fields.proofs.read_names.Goals as goal
 

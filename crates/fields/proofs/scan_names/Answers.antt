@@ -1,8 +1,8 @@
 use Prim.Native.Nat.{◌<◌}
 use native.Mathlib.Omega.{arith}
-use Rattle.numbers.specs.Numbers.{bytes_all}
-use Rattle.numbers.specs.PlaceLaws.{num_fits}
-use Rattle.strings.specs.SpanLaws.{str_is_text}
+use Rattle.numbers.proofs.Numbers.{bytes_all}
+use Rattle.numbers.proofs.PlaceLaws.{num_fits}
+use Rattle.strings.proofs.SpanLaws.{str_is_text}
 use Rattle.fields.proofs.Names.{plain_run, all_good, the_name, none_left, count_cut, bytes_cut, text_bad, one_off}
 use Rattle.fields.proofs.scan_names.Goals as goal
 

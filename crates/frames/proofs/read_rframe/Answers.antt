@@ -1,6 +1,6 @@
 -- At 0, nothing is raised.
 use mathlib.Core.Path.{ap, ◌∙◌}
-use Rattle.framing.specs.RaisedLaws.{single}
+use Rattle.framing.proofs.RaisedLaws.{single}
 use Rattle.framing.specs.Frames.{refused_whole}
 use Rattle.frames.proofs.read_rframe.Goals as goal
 

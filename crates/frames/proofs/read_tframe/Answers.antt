@@ -1,6 +1,6 @@
 -- At 0, nothing is raised.
 use mathlib.Core.Path.{◌∙◌}
-use Rattle.framing.specs.RaisedLaws.{single}
+use Rattle.framing.proofs.RaisedLaws.{single}
 use Rattle.frames.proofs.read_tframe.Goals as goal
 
 pub returns : goal.returns

@@ -1,5 +1,5 @@
 -- The body after the header's seven bytes, then the header.
-use Rattle.framing.specs.WritingLaws.{frame_as}
+use Rattle.framing.proofs.WritingLaws.{frame_as}
 use Rattle.frames.proofs.write_rframe.Goals as goal
 
 pub returns : goal.returns

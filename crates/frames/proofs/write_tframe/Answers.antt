@@ -1,5 +1,5 @@
 -- A refusal is 16; a message is a body after the header's seven bytes, then the header.
-use Rattle.framing.specs.WritingLaws.{frame_as}
+use Rattle.framing.proofs.WritingLaws.{frame_as}
 use Rattle.frames.specs.RequestLaws.{request_written, request_refused}
 use Rattle.frames.proofs.write_tframe.Goals as goal
 

@@ -1,6 +1,6 @@
 -- A law of CutLaws for each way out, in the order of F6.2.
 use native.Mathlib.Omega.{arith}
-use Rattle.framing.specs.CutLaws.{at_past, at_end_lem, at_cut, at_small, at_long, whole_cut, ends_there, stops_there}
+use Rattle.framing.proofs.CutLaws.{at_past, at_end_lem, at_cut, at_small, at_long, whole_cut, ends_there, stops_there}
 use Rattle.framing.proofs.cut_at.Goals as goal
 
 pub returns-then-bytes-position : goal.returns-then-bytes-position

@@ -1,5 +1,5 @@
 -- A refused body, an output that is too short, and the three numbers one after another.
-use Rattle.framing.specs.WritingLaws.{head_full, head_put}
+use Rattle.framing.proofs.WritingLaws.{head_full, head_put}
 use Rattle.framing.proofs.put_header.Goals as goal
 
 pub returns-then-out-lt-BODY : goal.returns-then-out-lt-BODY

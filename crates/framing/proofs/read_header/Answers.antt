@@ -1,6 +1,6 @@
 -- The size is cut off, it is below four, or what follows it says.
 use Rattle.framing.specs.Headers.{HeadIs}
-use Rattle.framing.specs.HeaderLaws.{size_below, size_cut, head_on}
+use Rattle.framing.proofs.HeaderLaws.{size_below, size_cut, head_on}
 use Rattle.framing.proofs.read_header.Goals as goal
 
 pub returns-then-size-lt4 : goal.returns-then-size-lt4

@@ -1,6 +1,6 @@
 -- The frame's bytes hold both, or they end before.
 use Rattle.framing.specs.Headers.{TypeTag}
-use Rattle.framing.specs.HeaderLaws.{tagged, untagged}
+use Rattle.framing.proofs.HeaderLaws.{tagged, untagged}
 use Rattle.framing.proofs.type_and_tag.Goals as goal
 
 pub returns-in-At : goal.returns-in-At

@@ -2,8 +2,8 @@
 use native.Mathlib.Omega.{arith}
 use mathlib.Core.Path.{sym}
 use lib.Seq.{length-take-le}
-use Rattle.numbers.specs.Numbers.{bytes_all}
-use Rattle.laying.specs.LayingLaws.{part_lies}
+use Rattle.numbers.proofs.Numbers.{bytes_all}
+use Rattle.laying.proofs.LayingLaws.{part_lies}
 use Rattle.laying.proofs.Lays.{strs_outside, strs_scanned}
 use Rattle.laying.proofs.check_names.Goals as goal
 

@@ -1,5 +1,5 @@
 -- Checked, then the count and the bytes.
-use Rattle.numbers.specs.Numbers.{bytes_all}
+use Rattle.numbers.proofs.Numbers.{bytes_all}
 use Rattle.laying.proofs.Lays.{check_measured, sized, dat_check}
 use Rattle.laying.proofs.measure_data.Goals as goal
 

@@ -1,7 +1,7 @@
 -- Measured, settled, then put: one law over the field.
-use Rattle.numbers.specs.Numbers.{bytes_all}
+use Rattle.numbers.proofs.Numbers.{bytes_all}
 use Rattle.fields.specs.Layouts.{quids}
-use Rattle.laying.specs.WritingLaws.{counted_written}
+use Rattle.laying.proofs.WritingLaws.{counted_written}
 use Rattle.laying.proofs.write_qids.Goals as goal
 
 pub returns : goal.returns

@@ -1,6 +1,6 @@
 -- The room is long enough for the text of any input.
 use native.Mathlib.Omega.{arith}
-use Rattle.numbers.specs.Numbers.{bytes_all}
+use Rattle.numbers.proofs.Numbers.{bytes_all}
 use Rattle.listing.specs.RoomLaws.{reported}
 use Rattle.listing.proofs.report.Goals as goal
 

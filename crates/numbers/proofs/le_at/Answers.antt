@@ -1,7 +1,7 @@
 use Prim.Native.Nat.{◌-◌, ◌+◌}
 use borrow.Author.Rules.{rules}
 use native.Mathlib.Omega.{arith}
-use Rattle.numbers.specs.Numbers.{bytes_all}
+use Rattle.numbers.proofs.Numbers.{bytes_all}
 use Rattle.numbers.proofs.Loops.{read_begins, read_turn, read_bound}
 use Rattle.numbers.proofs.le_at.Goals as goal
 

@@ -1,6 +1,6 @@
 -- Refused already, put, or no room.
-use Rattle.numbers.specs.Numbers.{length_to_le}
-use Rattle.numbers.specs.PlaceLaws.{put_stays, put_done, put_full}
+use Rattle.numbers.proofs.Numbers.{length_to_le}
+use Rattle.numbers.proofs.PlaceLaws.{put_stays, put_done, put_full}
 use Rattle.numbers.proofs.put_num.Goals as goal
 
 pub returns-in_default : goal.returns-in_default

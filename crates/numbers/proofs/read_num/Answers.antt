@@ -1,6 +1,6 @@
 -- Refused already, held, or short; and the number fits its width, since the slice holds bytes.
-use Rattle.numbers.specs.Numbers.{bytes_all}
-use Rattle.numbers.specs.PlaceLaws.{num_stays, num_held, num_short, num_fits}
+use Rattle.numbers.proofs.Numbers.{bytes_all}
+use Rattle.numbers.proofs.PlaceLaws.{num_stays, num_held, num_short, num_fits}
 use Rattle.numbers.proofs.read_num.Goals as goal
 
 pub returns-in_default : goal.returns-in_default

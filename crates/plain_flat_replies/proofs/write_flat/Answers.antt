@@ -1,7 +1,7 @@
 -- Written by tools/messages from its table of messages.
 -- Each arm is the row of its number, written by its record's writer; the rest is a number that has no row.
 use mathlib.Core.Path.{refl}
-use Rattle.laying.specs.WritingLaws.{written_nothing}
+use Rattle.laying.proofs.WritingLaws.{written_nothing}
 use Rattle.flat.specs.FlatLaws.{written_known}
 use Rattle.plain_flat_replies.proofs.write_flat.Goals as goal
 

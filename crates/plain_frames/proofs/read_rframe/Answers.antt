@@ -1,7 +1,7 @@
 -- Written by tools/messages from crates/frames/proofs/read_rframe/Proof.antt.
 -- At 0, nothing is raised.
 use mathlib.Core.Path.{ap, ◌∙◌}
-use Rattle.framing.specs.RaisedLaws.{single}
+use Rattle.framing.proofs.RaisedLaws.{single}
 use Rattle.framing.specs.Frames.{refused_whole}
 use Rattle.plain_frames.proofs.read_rframe.Goals as goal
 

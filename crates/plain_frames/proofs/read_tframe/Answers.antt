@@ -1,7 +1,7 @@
 -- Written by tools/messages from crates/frames/proofs/read_tframe/Proof.antt.
 -- At 0, nothing is raised.
 use mathlib.Core.Path.{◌∙◌}
-use Rattle.framing.specs.RaisedLaws.{single}
+use Rattle.framing.proofs.RaisedLaws.{single}
 use Rattle.plain_frames.proofs.read_tframe.Goals as goal
 
 pub returns : goal.returns

@@ -1,6 +1,6 @@
 -- Written by tools/messages from crates/frames/proofs/write_tframe/Proof.antt.
 -- A refusal is 16; a message is a body after the header's seven bytes, then the header.
-use Rattle.framing.specs.WritingLaws.{frame_as}
+use Rattle.framing.proofs.WritingLaws.{frame_as}
 use Rattle.plain_frames.specs.RequestLaws.{request_written, request_refused}
 use Rattle.plain_frames.proofs.write_tframe.Goals as goal
 

@@ -1,9 +1,9 @@
 -- Written by tools/messages from its table of messages.
 -- Each arm is the row of its number; the rest is a number that has no row.
 use mathlib.Core.Path.{◌∙◌}
-use Rattle.fields.specs.FieldLaws.{done}
+use Rattle.fields.proofs.FieldLaws.{done}
 use Rattle.layouts.specs.Plain.{table_r}
-use Rattle.layouts.specs.BodyLaws.{known_body, unknown_body}
+use Rattle.layouts.proofs.BodyLaws.{known_body, unknown_body}
 use Rattle.plain_replies.specs.Views.{values_r, view_r}
 use Rattle.plain_replies.proofs.read_rmessage.Goals as goal
 

@@ -1,7 +1,7 @@
 use Prim.Native.Nat.{◌+◌}
 use mathlib.Core.Path.{◌∙◌, sym}
 use native.Mathlib.Omega.{arith}
-use Rattle.planning.specs.PlanLaws.{good, accepted_refused, accepted_runs}
+use Rattle.planning.proofs.PlanLaws.{good, accepted_refused, accepted_runs}
 use Rattle.planning.proofs.Loops.{follows_in, look_turn, look_stop, look_ends}
 use Rattle.planning.proofs.accepts.Goals as goal
 

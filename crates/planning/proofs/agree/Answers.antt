@@ -1,6 +1,6 @@
 -- 26, then 27: that the end is not formed loses nothing.
 use native.Mathlib.Omega.{arith}
-use Rattle.planning.specs.PlanLaws.{small, far, neither}
+use Rattle.planning.proofs.PlanLaws.{small, far, neither}
 use Rattle.planning.proofs.agree.Goals as goal
 
 pub returns-then-msize-le-HEAD : goal.returns-then-msize-le-HEAD

@@ -1,6 +1,6 @@
 -- The quotient of one byte less, and one more, is the quotient that rounds up; the sum never exceeds the length.
 use native.Mathlib.Omega.{arith}
-use Rattle.planning.specs.PlanLaws.{fewest_none, fewest_some}
+use Rattle.planning.proofs.PlanLaws.{fewest_none, fewest_some}
 use Rattle.planning.proofs.fewest.Goals as goal
 
 pub returns-then-len-eq0 : goal.returns-then-len-eq0

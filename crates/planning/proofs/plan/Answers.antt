@@ -1,7 +1,7 @@
 -- Refused before the table is looked at; too few rows; or the pieces put.
 use native.Mathlib.Omega.{arith}
 use mathlib.Core.Path.{sym, ◌∙◌}
-use Rattle.planning.specs.PlanLaws.{most_some, good, planned_refused, planned_full, planned_fits}
+use Rattle.planning.proofs.PlanLaws.{most_some, good, planned_refused, planned_full, planned_fits}
 use Rattle.planning.proofs.plan.Goals as goal
 
 pub returns-in_default : goal.returns-in_default

@@ -1,6 +1,6 @@
 -- The room is long enough for the text of any file.
 use native.Mathlib.Omega.{arith}
-use Rattle.numbers.specs.Numbers.{bytes_all}
+use Rattle.numbers.proofs.Numbers.{bytes_all}
 use Rattle.replaying.specs.ReplayLaws.{replay_reported}
 use Rattle.replaying.proofs.report.Goals as goal
 

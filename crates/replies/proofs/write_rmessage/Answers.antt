@@ -1,6 +1,6 @@
 -- Written by tools/messages from its table of messages.
 -- Each arm is the record that its case holds.
-use Rattle.laying.specs.WritingLaws.{written_nothing}
+use Rattle.laying.proofs.WritingLaws.{written_nothing}
 use Rattle.replies.specs.Views.{layout_r, values_r}
 use Rattle.replies.proofs.write_rmessage.Goals as goal
 

@@ -1,8 +1,8 @@
 -- The header can't be read, or the body is read flat, and told beside its tag.
 use mathlib.Core.Path.{refl, sym}
 use lib.Seq.{length-take-le}
-use Rattle.numbers.specs.Numbers.{bytes_all}
-use Rattle.framing.specs.HeaderLaws.{head_yes}
+use Rattle.numbers.proofs.Numbers.{bytes_all}
+use Rattle.framing.proofs.HeaderLaws.{head_yes}
 use Rattle.layouts.specs.Tables.{table_t}
 use Rattle.exports.specs.FrameReading.{flat_requests, headless_read, request_read}
 use Rattle.request_exports.proofs.sheafsledge_read_tframe.Goals as goal

@@ -1,6 +1,6 @@
 use native.Mathlib.Omega.{arith}
 use mathlib.Core.Path.{◌∙◌}
-use Rattle.framing.specs.CutLaws.{cut_whole}
+use Rattle.framing.proofs.CutLaws.{cut_whole}
 use Rattle.sealing.specs.TrailerLaws.{extent_start, extent_on, extent_end, extent_stop}
 use Rattle.sealing.proofs.measure.Goals as goal
 

@@ -4,7 +4,7 @@ use mathlib.Core.Path.{◌≡◌}
 use lib.ListN.{length}
 use Rattle.layouts.specs.Tables.{table_t, table_r}
 use Rattle.framing.specs.Stretch.{listing}
-use Rattle.framing.specs.ListingLaws.{listed}
+use Rattle.framing.proofs.ListingLaws.{listed}
 use Rattle.sealing.specs.Trailers.{extent_from, extent_of}
 use Rattle.sealing.proofs.measure.Given as goal
 

@@ -1,6 +1,6 @@
 -- Its numbers together, then each string.
 use mathlib.Core.List.{[], ◌∷◌}
-use Rattle.laying.specs.LayingLaws.{measure_numbers, measure, measured_none}
+use Rattle.laying.proofs.LayingLaws.{measure_numbers, measure, measured_none}
 use Rattle.stats.proofs.measure_fields.Goals as goal
 
 pub returns : goal.returns

@@ -1,6 +1,6 @@
 -- The count is cut off; or its bytes are; or they do not agree; or the fields are between their size and their end.
 use native.Mathlib.Omega.{arith}
-use Rattle.numbers.specs.PlaceLaws.{inside, num_holds}
+use Rattle.numbers.proofs.PlaceLaws.{inside, num_holds}
 use Rattle.stats.specs.StatLaws.{open_cut, open_short, open_wrong, open_well}
 use Rattle.stats.proofs.open_stat.Goals as goal
 

@@ -1,6 +1,6 @@
 -- Opened, then its fields; refused, a blank stat.
-use Rattle.numbers.specs.Numbers.{bytes_all}
-use Rattle.fields.specs.BoxLaws.{box_read, box_refused}
+use Rattle.numbers.proofs.Numbers.{bytes_all}
+use Rattle.fields.proofs.BoxLaws.{box_read, box_refused}
 use Rattle.stats.specs.StatLaws.{blank_read}
 use Rattle.stats.proofs.read_stat.Goals as goal
 

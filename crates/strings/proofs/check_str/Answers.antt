@@ -1,5 +1,5 @@
 -- The span lies outside, it is too long, or its text says.
-use Rattle.strings.specs.SpanLaws.{span_lies}
+use Rattle.strings.proofs.SpanLaws.{span_lies}
 use Rattle.strings.proofs.Ways.{str_span, str_long, str_text}
 use Rattle.strings.proofs.check_str.Goals as goal
 

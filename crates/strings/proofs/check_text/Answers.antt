@@ -3,8 +3,8 @@ use mathlib.Core.Path.{◌≡◌, sym, ◌∙◌}
 use mathlib.Core.Bool.{true}
 use native.Mathlib.Omega.{arith}
 use Rattle.utf8.specs.Utf8.{utf8}
-use Rattle.utf8.specs.Utf8Laws.{ascii_text, zero_text, full_text}
-use Rattle.utf8.specs.StartLaws.{sound_whole, sound_part}
+use Rattle.utf8.proofs.Utf8Laws.{ascii_text, zero_text, full_text}
+use Rattle.utf8.proofs.StartLaws.{sound_whole, sound_part}
 use Rattle.strings.proofs.Ways.{zero_lies, text_bad, text_zero, text_fine}
 use Rattle.strings.proofs.check_text.Goals as goal
 use Rattle.strings.proofs.check_text.Goals.{then-e-ge128+else-n-text, else-e-ge128}

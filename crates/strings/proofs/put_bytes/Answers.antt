@@ -1,6 +1,6 @@
 -- The check refuses, there is no room, or the bytes are put.
-use Rattle.numbers.specs.PlaceLaws.{inside}
-use Rattle.strings.specs.SpanLaws.{span_lies}
+use Rattle.numbers.proofs.PlaceLaws.{inside}
+use Rattle.strings.proofs.SpanLaws.{span_lies}
 use Rattle.strings.proofs.Ways.{bytes_refused, bytes_full, bytes_done}
 use Rattle.strings.proofs.put_bytes.Goals as goal
 

@@ -1,6 +1,6 @@
 use native.Mathlib.Omega.{arith}
 use mathlib.Core.Path.{◌∙◌}
-use Rattle.numbers.specs.PlaceLaws.{put_length}
+use Rattle.numbers.proofs.PlaceLaws.{put_length}
 use Rattle.tables.specs.TableLaws.{put_to_next, put_to_all}
 use Rattle.tables.proofs.put_names.Goals as goal
 

@@ -1,6 +1,6 @@
 -- Too many names; or measured, settled, put, and the header put before them.
 use mathlib.Core.Path.{refl}
-use Rattle.numbers.specs.Numbers.{bytes_all}
+use Rattle.numbers.proofs.Numbers.{bytes_all}
 use Rattle.tables.specs.TableLaws.{twalk_long, twalk_put}
 use Rattle.tables.proofs.write_twalk.Goals as goal
 

@@ -3,8 +3,8 @@
 use borrow.Author.Rules.{rules}
 use mathlib.Core.Path.{refl, sym, ap, ◌∙◌}
 use lib.Seq.{length-take-le}
-use Rattle.numbers.specs.Numbers.{bytes_all}
-use Rattle.framing.specs.HeaderLaws.{head_yes}
+use Rattle.numbers.proofs.Numbers.{bytes_all}
+use Rattle.framing.proofs.HeaderLaws.{head_yes}
 use Rattle.exports.specs.Answers.{ended}
 use Rattle.stats.specs.Unix.{table_r}
 use Rattle.exports.specs.FrameReading.{flat_replies, headless_read, frame_read, body_failed}

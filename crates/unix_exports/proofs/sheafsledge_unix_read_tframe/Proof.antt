@@ -3,8 +3,8 @@
 use borrow.Author.Rules.{rules}
 use mathlib.Core.Path.{refl, sym}
 use lib.Seq.{length-take-le}
-use Rattle.numbers.specs.Numbers.{bytes_all}
-use Rattle.framing.specs.HeaderLaws.{head_yes}
+use Rattle.numbers.proofs.Numbers.{bytes_all}
+use Rattle.framing.proofs.HeaderLaws.{head_yes}
 use Rattle.stats.specs.Unix.{table_t}
 use Rattle.exports.specs.FrameReading.{flat_requests, headless_read, request_read}
 use Rattle.unix_exports.proofs.sheafsledge_unix_read_tframe.Statement.{statement}

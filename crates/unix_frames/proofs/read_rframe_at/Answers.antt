@@ -3,8 +3,8 @@
 use native.Mathlib.Omega.{arith}
 use mathlib.Core.Path.{sym}
 use lib.Seq.{length-take-le}
-use Rattle.numbers.specs.Numbers.{bytes_all}
-use Rattle.framing.specs.Standing.{own_held}
+use Rattle.numbers.proofs.Numbers.{bytes_all}
+use Rattle.framing.proofs.Standing.{own_held}
 use Rattle.unix_frames.specs.FrameLaws.{rframe_no, rframe_yes, rframe_bad}
 use Rattle.unix_frames.proofs.read_rframe_at.Goals as goal
 

@@ -1,6 +1,6 @@
 -- Written by tools/messages from crates/frames/proofs/write_rframe/Proof.antt.
 -- The body after the header's seven bytes, then the header.
-use Rattle.framing.specs.WritingLaws.{frame_as}
+use Rattle.framing.proofs.WritingLaws.{frame_as}
 use Rattle.unix_frames.proofs.write_rframe.Goals as goal
 
 pub returns : goal.returns

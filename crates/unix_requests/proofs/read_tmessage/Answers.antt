@@ -2,7 +2,7 @@
 -- Each arm is the row of its number; the rest is a number that has no row.
 use mathlib.Core.Path.{◌∙◌}
 use Rattle.stats.specs.Unix.{table_t}
-use Rattle.layouts.specs.BodyLaws.{known_body, unknown_body}
+use Rattle.layouts.proofs.BodyLaws.{known_body, unknown_body}
 use Rattle.unix_requests.specs.Views.{values_t, view_t}
 use Rattle.unix_requests.proofs.read_tmessage.Goals as goal
 

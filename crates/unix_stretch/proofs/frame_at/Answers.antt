@@ -2,9 +2,9 @@
 -- A whole frame, the end, or a refusal, as the cut says.
 use mathlib.Core.Path.{sym}
 use lib.Seq.{length-take-le}
-use Rattle.numbers.specs.Numbers.{bytes_all}
+use Rattle.numbers.proofs.Numbers.{bytes_all}
 use Rattle.stats.specs.Unix.{table_t, table_r}
-use Rattle.framing.specs.CutLaws.{cut_whole, cut_end, cut_stop}
+use Rattle.framing.proofs.CutLaws.{cut_whole, cut_end, cut_stop}
 use Rattle.unix_stretch.specs.StepLaws.{at_frame, asked_end, asked_stop}
 use Rattle.unix_stretch.proofs.frame_at.Goals as goal
 

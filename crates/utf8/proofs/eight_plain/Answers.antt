@@ -1,6 +1,6 @@
 -- All eight are plain exactly if every test says so.
 use native.Mathlib.Omega.{arith}
-use Rattle.utf8.specs.Plain.{one_plain, more_plain, plain_held, plain_past}
+use Rattle.utf8.proofs.Plain.{one_plain, more_plain, plain_held, plain_past}
 use Rattle.utf8.proofs.eight_plain.Goals as goal
 
 pub returns-then-s-lt8 : goal.returns-then-s-lt8

@@ -1,8 +1,8 @@
 -- With no byte above 127 it is UTF-8; else it is looked at character by character.
 use mathlib.Core.Path.{sym}
 use native.Mathlib.Omega.{arith}
-use Rattle.utf8.specs.Utf8Laws.{ascii_text}
-use Rattle.utf8.specs.StartLaws.{sound_test}
+use Rattle.utf8.proofs.Utf8Laws.{ascii_text}
+use Rattle.utf8.proofs.StartLaws.{sound_test}
 use Rattle.utf8.proofs.is_utf8.Goals as goal
 
 pub returns-then-e-lt128 : goal.returns-then-e-lt128

@@ -1,6 +1,6 @@
 -- The first eight and the last eight are all of it.
 use native.Mathlib.Omega.{arith}
-use Rattle.utf8.specs.Plain.{short_is, short_few, short_many}
+use Rattle.utf8.proofs.Plain.{short_is, short_few, short_many}
 use Rattle.utf8.proofs.short_plain.Goals as goal
 
 pub returns-then-s-lt8 : goal.returns-then-s-lt8

@@ -1,6 +1,6 @@
 use native.Mathlib.Omega.{arith}
-use Rattle.utf8.specs.Utf8Laws.{char_in_lem}
-use Rattle.utf8.specs.StartLaws.{sound_turn, sound_lost, sound_plain, sound_over}
+use Rattle.utf8.proofs.Utf8Laws.{char_in_lem}
+use Rattle.utf8.proofs.StartLaws.{sound_turn, sound_lost, sound_plain, sound_over}
 use Rattle.utf8.proofs.sound_start.Goals as goal
 
 pub loop-i-preserved-then-b-lt128 : goal.loop-i-preserved-then-b-lt128

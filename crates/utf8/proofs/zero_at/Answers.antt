@@ -1,5 +1,5 @@
 use native.Mathlib.Omega.{arith}
-use Rattle.utf8.specs.StartLaws.{zero_turn, zero_found, zero_over}
+use Rattle.utf8.proofs.StartLaws.{zero_turn, zero_found, zero_over}
 use Rattle.utf8.proofs.zero_at.Goals as goal
 
 pub returns-then-s-i-eq0 : goal.returns-then-s-i-eq0

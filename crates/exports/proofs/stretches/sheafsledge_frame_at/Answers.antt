@@ -1,7 +1,7 @@
 -- A whole frame, the end, or a refusal, as the cut says.
 use mathlib.Core.Path.{ap, ◌∙◌}
 use Rattle.layouts.specs.Tables.{table_t, table_r}
-use Rattle.framing.specs.CutLaws.{cut_whole, cut_end, cut_stop}
+use Rattle.framing.proofs.CutLaws.{cut_whole, cut_end, cut_stop}
 use Rattle.exports.specs.Steps.{step_outcome, step_there}
 use Rattle.exports.proofs.stretches.sheafsledge_frame_at.Goals as goal
 

@@ -1,6 +1,6 @@
 -- What the element's function found, and that it lies within the lent bytes.
 use native.Mathlib.Omega.{arith}
-use Rattle.numbers.specs.Numbers.{bytes_all}
+use Rattle.numbers.proofs.Numbers.{bytes_all}
 use Rattle.exports.specs.Elements.{name_lies}
 use Rattle.exports.proofs.walks.sheafsledge_name_at.Goals as goal
 

@@ -1,5 +1,5 @@
 -- The part is refused; else the number is below the count, or it is not.
-use Rattle.laying.specs.ElementLaws.{asked_outside, asked_below, asked_past}
+use Rattle.laying.proofs.ElementLaws.{asked_outside, asked_below, asked_past}
 use Rattle.laying.proofs.elements.asked.Goals as goal
 
 pub returns-in_default : goal.returns-in_default

@@ -2,9 +2,9 @@
 use native.Mathlib.Omega.{arith}
 use mathlib.Core.Path.{sym}
 use lib.Seq.{length-take-le}
-use Rattle.numbers.specs.Numbers.{bytes_all}
+use Rattle.numbers.proofs.Numbers.{bytes_all}
 use Rattle.laying.specs.Elements.{view_element}
-use Rattle.laying.specs.ElementLaws.{element, element_lies, element_refused, name_found}
+use Rattle.laying.proofs.ElementLaws.{element, element_lies, element_refused, name_found}
 use Rattle.laying.proofs.elements.name_at.Goals as goal
 
 pub overflow_add-stop : goal.overflow_add-stop

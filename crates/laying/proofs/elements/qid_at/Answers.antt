@@ -1,7 +1,7 @@
 -- Once all checks are passed, the qid stands after 13 bytes for each before it.
 use native.Mathlib.Omega.{arith}
 use Rattle.laying.specs.Elements.{view_element}
-use Rattle.laying.specs.ElementLaws.{element, element_refused, qid_found}
+use Rattle.laying.proofs.ElementLaws.{element, element_refused, qid_found}
 use Rattle.laying.proofs.elements.qid_at.Goals as goal
 
 pub overflow_mul-start : goal.overflow_mul-start

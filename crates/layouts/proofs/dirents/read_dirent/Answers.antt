@@ -1,5 +1,5 @@
 -- Each field by what its reader ensures, one after another.
-use Rattle.fields.specs.FieldLaws.{number_field, string_field, field, qid_fields, done}
+use Rattle.fields.proofs.FieldLaws.{number_field, string_field, field, qid_fields, done}
 use Rattle.layouts.proofs.dirents.read_dirent.Goals as goal
 
 pub returns : goal.returns

@@ -1,9 +1,9 @@
 -- Each field measured, settled, then each field put.
 use mathlib.Core.List.{[], ◌∷◌}
-use Rattle.numbers.specs.Numbers.{bytes_all}
+use Rattle.numbers.proofs.Numbers.{bytes_all}
 use Rattle.fields.specs.Layouts.{str}
-use Rattle.laying.specs.LayingLaws.{measure_numbers, measure, measured_none, put_number, put_counted, put_done}
-use Rattle.laying.specs.WritingLaws.{written}
+use Rattle.laying.proofs.LayingLaws.{measure_numbers, measure, measured_none, put_number, put_counted, put_done}
+use Rattle.laying.proofs.WritingLaws.{written}
 use Rattle.layouts.proofs.dirents.write_dirent.Goals as goal
 
 pub returns : goal.returns

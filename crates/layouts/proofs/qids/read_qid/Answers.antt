@@ -1,5 +1,5 @@
 -- Each field by what its reader ensures, one after another.
-use Rattle.fields.specs.FieldLaws.{number_field, field, done}
+use Rattle.fields.proofs.FieldLaws.{number_field, field, done}
 use Rattle.layouts.proofs.qids.read_qid.Goals as goal
 
 pub returns : goal.returns

@@ -1,7 +1,7 @@
 -- The three numbers measured, settled, then put.
 use mathlib.Core.List.{[], ◌∷◌}
-use Rattle.laying.specs.LayingLaws.{measure_numbers, measured_none, put_number, put_done}
-use Rattle.laying.specs.WritingLaws.{written}
+use Rattle.laying.proofs.LayingLaws.{measure_numbers, measured_none, put_number, put_done}
+use Rattle.laying.proofs.WritingLaws.{written}
 use Rattle.layouts.proofs.qids.write_qid.Goals as goal
 
 pub returns : goal.returns

@@ -1,9 +1,9 @@
 -- Written by tools/messages from its table of messages.
 -- Each field measured, then each field put, by the law of every writer.
-use Rattle.numbers.specs.Numbers.{bytes_all}
+use Rattle.numbers.proofs.Numbers.{bytes_all}
 use Rattle.fields.specs.Layouts.{dat}
-use Rattle.laying.specs.LayingLaws.{measure, measured_none, put_counted, put_done}
-use Rattle.laying.specs.WritingLaws.{written}
+use Rattle.laying.proofs.LayingLaws.{measure, measured_none, put_counted, put_done}
+use Rattle.laying.proofs.WritingLaws.{written}
 use Rattle.messages.proofs.directories.write_rreaddir.Goals as goal
 
 pub returns : goal.returns

@@ -1,6 +1,6 @@
 -- Written by tools/messages from its table of messages.
 -- Each field by what its reader ensures, one after another.
-use Rattle.fields.specs.FieldLaws.{number_field, string_field, field, done}
+use Rattle.fields.proofs.FieldLaws.{number_field, string_field, field, done}
 use Rattle.metadata.proofs.attributes.read_txattrcreate.Goals as goal
 
 pub returns : goal.returns

@@ -3,14 +3,15 @@
 -- over plain variables: said of the code itself, each field would carry the types of all that follow, which took 2.7 GB
 use Prim.Native.Nat.{ℕ}
 use mathlib.Core.List.{List, [], ◌∷◌}
-use Rattle.numbers.specs.Numbers.{bytes_all, to_le}
+use Rattle.numbers.specs.Numbers.{to_le}
+use Rattle.numbers.proofs.Numbers.{bytes_all}
 use Rattle.numbers.specs.Places.{Put}
 use Rattle.numbers.specs.declared.Place.{Place}
 use Rattle.fields.specs.Values.{val}
 use Rattle.laying.specs.Laying.{PutAll}
 use Rattle.layouts.specs.Tables.{layout_rgetattr}
-use Rattle.laying.specs.LayingLaws.{measure_numbers, measured_none, put_number, put_done}
-use Rattle.laying.specs.WritingLaws.{written}
+use Rattle.laying.proofs.LayingLaws.{measure_numbers, measured_none, put_number, put_done}
+use Rattle.laying.proofs.WritingLaws.{written}
 use Rattle.metadata.proofs.attributes.write_rgetattr.Goals as goal
 
 all_put : {lent : List ℕ} {n1 n2 n3 n4 n5 n6 n7 n8 n9 n10 n11 n12 n13 n14 n15 n16 n17 n18 n19 n20 n21 n22 : ℕ} {o0 o1 o2 o3 o4 o5 o6 o7 o8 o9 o10 o11 o12 o13 o14 o15 o16 o17 o18 o19 o20 o21 o22 : List ℕ} {p0 p1 p2 p3 p4 p5 p6 p7 p8 p9 p10 p11 p12 p13 p14 p15 p16 p17 p18 p19 p20 p21 p22 : Place}

@@ -1,9 +1,9 @@
 -- Written by tools/messages from its table of messages.
 -- Each field measured, then each field put, by the law of every writer.
 use mathlib.Core.List.{[], ◌∷◌}
-use Rattle.numbers.specs.Numbers.{bytes_all}
-use Rattle.laying.specs.LayingLaws.{measure_numbers, measured_none, put_number, put_done}
-use Rattle.laying.specs.WritingLaws.{written}
+use Rattle.numbers.proofs.Numbers.{bytes_all}
+use Rattle.laying.proofs.LayingLaws.{measure_numbers, measured_none, put_number, put_done}
+use Rattle.laying.proofs.WritingLaws.{written}
 use Rattle.metadata.proofs.attributes.write_rstatfs.Goals as goal
 
 pub returns : goal.returns

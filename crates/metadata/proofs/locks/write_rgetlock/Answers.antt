@@ -1,10 +1,10 @@
 -- Written by tools/messages from its table of messages.
 -- Each field measured, then each field put, by the law of every writer.
 use mathlib.Core.List.{[], ◌∷◌}
-use Rattle.numbers.specs.Numbers.{bytes_all}
+use Rattle.numbers.proofs.Numbers.{bytes_all}
 use Rattle.fields.specs.Layouts.{str}
-use Rattle.laying.specs.LayingLaws.{measure_numbers, measure, measured_none, put_number, put_counted, put_done}
-use Rattle.laying.specs.WritingLaws.{written}
+use Rattle.laying.proofs.LayingLaws.{measure_numbers, measure, measured_none, put_number, put_counted, put_done}
+use Rattle.laying.proofs.WritingLaws.{written}
 use Rattle.metadata.proofs.locks.write_rgetlock.Goals as goal
 
 pub returns : goal.returns

@@ -1,9 +1,9 @@
 -- Written by tools/messages from its table of messages.
 -- Each field measured, then each field put, by the law of every writer.
-use Rattle.numbers.specs.Numbers.{bytes_all}
-use Rattle.laying.specs.LayingLaws.{measure, measured_none, put_done}
-use Rattle.laying.specs.WritingLaws.{written}
-use Rattle.laying.specs.BoxLaws.{put_box}
+use Rattle.numbers.proofs.Numbers.{bytes_all}
+use Rattle.laying.proofs.LayingLaws.{measure, measured_none, put_done}
+use Rattle.laying.proofs.WritingLaws.{written}
+use Rattle.laying.proofs.BoxLaws.{put_box}
 use Rattle.plain.proofs.attributes.write_rstat.Goals as goal
 
 pub returns : goal.returns

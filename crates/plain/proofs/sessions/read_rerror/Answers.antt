@@ -1,6 +1,6 @@
 -- Written by tools/messages from its table of messages.
 -- Each field by what its reader ensures, one after another.
-use Rattle.fields.specs.FieldLaws.{string_field, field, done}
+use Rattle.fields.proofs.FieldLaws.{string_field, field, done}
 use Rattle.plain.proofs.sessions.read_rerror.Goals as goal
 
 pub returns : goal.returns

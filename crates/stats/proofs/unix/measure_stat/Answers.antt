@@ -1,7 +1,7 @@
 -- As a stat of 9P2000, and the fields after it; then its count.
 use mathlib.Core.List.{[], ◌∷◌}
 use mathlib.Core.Path.{refl}
-use Rattle.laying.specs.LayingLaws.{measure_numbers, measure, measured_none}
+use Rattle.laying.proofs.LayingLaws.{measure_numbers, measure, measured_none}
 use Rattle.stats.specs.Appending.{measured_then}
 use Rattle.stats.specs.StatLaws.{stat_measured}
 use Rattle.stats.proofs.unix.measure_stat.Goals as goal

@@ -1,6 +1,6 @@
 -- Its count, its size, the fields of 9P2000's stat, those after them.
 use mathlib.Core.Path.{refl}
-use Rattle.laying.specs.BoxLaws.{cells_done, put_amount, put_words}
+use Rattle.laying.proofs.BoxLaws.{cells_done, put_amount, put_words}
 use Rattle.stats.specs.Appending.{put_then}
 use Rattle.stats.specs.StatLaws.{stat_put}
 use Rattle.stats.proofs.unix.put_stat.Goals as goal

@@ -1,7 +1,7 @@
 -- Opened, then the fields of 9P2000's stat and those after them; refused, a blank stat.
-use Rattle.numbers.specs.Numbers.{bytes_all}
-use Rattle.fields.specs.FieldLaws.{number_field, string_field, field, done}
-use Rattle.fields.specs.BoxLaws.{box_read, box_refused}
+use Rattle.numbers.proofs.Numbers.{bytes_all}
+use Rattle.fields.proofs.FieldLaws.{number_field, string_field, field, done}
+use Rattle.fields.proofs.BoxLaws.{box_read, box_refused}
 use Rattle.stats.specs.Appending.{fields_then}
 use Rattle.stats.specs.StatLaws.{blank_read}
 use Rattle.stats.proofs.unix.read_stat.Goals as goal

@@ -1,31 +1,35 @@
 -- What a frame that is listed shows of the stretch, and what is written of that; over any tables (F6.9).
-use Rattle.std.specs.Prelude.{ℕ, ◌+◌, ◌-◌, ◌≤◌, ◌≡◌, refl, List, [], ◌++◌, map, length, take, drop}
+use Rattle.std.specs.Prelude.{ℕ, ◌+◌, ◌-◌, ◌≤◌, ◌≡◌, List, [], ◌++◌, map, length, take, drop}
 use Rattle.std.proofs.Common.{arith, sym, ap, ap₂, ◌∙◌, append_assoc, length-append, length-drop, take-append-drop, length-take-le, drop-drop, take-take}
 use Rattle.std.proofs.Math.Option.{some}
-use Rattle.numbers.specs.Numbers.{Bytes, from_le, bytes_take, bytes_drop}
+use Rattle.numbers.specs.Numbers.{Bytes, from_le}
+use Rattle.numbers.proofs.Numbers.{bytes_take, bytes_drop}
 use Rattle.numbers.specs.Reading.{ok}
 use Rattle.numbers.specs.Places.{over}
 use Rattle.numbers.specs.declared.Refusal.{Refusal}
 use Rattle.numbers.specs.declared.Refusal.TheVariants as R
 use Rattle.numbers.specs.declared.Place.TheVariants.{At}
-use Rattle.fields.specs.Layouts.{Layout, Item, kind, items_bytes}
+use Rattle.fields.specs.Layouts.{Layout, kind, items_bytes}
 use Rattle.fields.specs.Values.{Value, places, shows}
-use Rattle.fields.specs.ValueLaws.{shows_items}
-use Rattle.laying.specs.LayingLaws.{drop_take}
+use Rattle.fields.proofs.ValueLaws.{shows_items}
+use Rattle.laying.proofs.LayingLaws.{drop_take}
 use Rattle.layouts.specs.Tables.{Row, lookup}
 use Rattle.layouts.specs.Bodies.{Answer, accepted, refused}
 use Rattle.framing.specs.Frames.{framed, read_frame}
 use Rattle.framing.specs.Raising.{raise_value, raise_place, raise}
-use Rattle.framing.specs.RaisedLaws.{places_raised}
+use Rattle.framing.proofs.RaisedLaws.{places_raised}
 use Rattle.framing.specs.Writing.{head_bytes, frame_out, frame_past}
-use Rattle.framing.specs.WritingLaws.{head_length}
+use Rattle.framing.proofs.WritingLaws.{head_length}
 use Rattle.framing.specs.Stretch.{type_in, tag_in, table_for, answer_of, frame, frame_at}
 use Rattle.framing.specs.Cuts.{between}
-use Rattle.framing.specs.CutLaws.{whole_frame}
-use Rattle.framing.specs.ListingLaws.{Front, whole_at}
-use Rattle.framing.specs.Accepted.{Accepts, accepts}
-use Rattle.framing.specs.Broken.{NotUtf8In, ZeroIn, frame_five, frame_six}
-use Rattle.framing.specs.Stripped.{resized, shows_record, stripped_written}
+use Rattle.framing.proofs.CutLaws.{whole_frame}
+use Rattle.framing.proofs.ListingLaws.{whole_at}
+use Rattle.framing.specs.Accepted.{Accepts}
+use Rattle.framing.proofs.Accepted.{accepts}
+use Rattle.framing.specs.Broken.{NotUtf8In, ZeroIn}
+use Rattle.framing.proofs.Broken.{frame_five, frame_six}
+use Rattle.framing.specs.Stripped.{resized}
+use Rattle.framing.proofs.Stripped.{shows_record, stripped_written}
 
 module _ (rows : List Row) (f : List ℕ) {l : Layout} {ty tag used : ℕ} {vs : List Value} (A : Accepts rows f ty tag vs used) (known : lookup rows ty ≡ some l) where
   -- with any bytes before it and after it

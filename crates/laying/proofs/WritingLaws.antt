@@ -5,19 +5,20 @@ use Rattle.std.proofs.Math.ListN.{length}
 use borrow.Author.Tests.{le-leb, lt-leb, lt-ltb, le-ltb}
 use Rattle.numbers.specs.Numbers.{Bytes, to_le}
 use Rattle.numbers.specs.Reading.{Result, ok, bad, after}
-use Rattle.numbers.specs.ReadingLaws.{or_else, after_inv}
+use Rattle.numbers.proofs.ReadingLaws.{or_else, after_inv}
 use Rattle.numbers.specs.Places.{put_at, past_put, Put}
-use Rattle.numbers.specs.PlaceLaws.{one_answer, length_put}
+use Rattle.numbers.proofs.PlaceLaws.{one_answer, length_put}
 use Rattle.numbers.specs.declared.Refusal.{Refusal}
 use Rattle.numbers.specs.declared.Refusal.TheVariants as R
 use Rattle.numbers.specs.declared.Place.{Place}
 use Rattle.numbers.specs.declared.Place.TheVariants.{At, Refused}
 use Rattle.strings.specs.Spans.{SpanPut}
-use Rattle.fields.specs.FieldLaws.{others_bad}
+use Rattle.fields.proofs.FieldLaws.{others_bad}
 use Rattle.fields.specs.Layouts.{Shape, fixed, worded, Field, num, str, dat, strs, quids, boxed, Layout, Item, item_bytes, items_bytes}
 use Rattle.fields.specs.Values.{Slot, first_slot, other_slots, slots_of, Value, start_of, len_of, show, first_of, others_of, shows}
 use Rattle.laying.specs.Laying.{limit, check_field, check_fields, put_fields, past_put_fields, head_width, head_of, FieldMeasured, Measured, PutAll, written_out, Written, settled_at, Settled, begun_at, Begun, put_cell, past_put_cell, put_cells, past_put_cells, with_sizes, sized, put_field, past_put_field}
-use Rattle.laying.specs.LayingLaws.{put_fields_lem, Unless, measured_none, measure, put_done, put_counted}
+use Rattle.laying.specs.LayingLaws.{Unless}
+use Rattle.laying.proofs.LayingLaws.{put_fields_lem, measured_none, measure, put_done, put_counted}
 
 pub written_one : {fs : Layout} {lent o o1 o2 : List ℕ} {vs : List Value} {p q q' : Place} → Written fs lent vs o p o1 q → Written fs lent vs o p o2 q' → (o1 ≡ o2) × (q ≡ q')
 written_one a b = (one_answer a.bytes b.bytes, one_answer a.next b.next)

@@ -2,14 +2,14 @@
 use Rattle.std.specs.Prelude.{ℕ, ◌+◌, ◌*◌, ◌≡◌, refl, List, [], ◌∷◌, ◌++◌, map, length}
 use Rattle.std.proofs.Common.{arith, ap, ◌∙◌, append_assoc, append-nil, length-append, drop_at, le-leb, eq-eqb}
 use Rattle.std.proofs.Math.Seq.{take-append_seam}
-use Rattle.numbers.specs.Numbers.{to_le, length_to_le}
+use Rattle.numbers.specs.Numbers.{to_le}
+use Rattle.numbers.proofs.Numbers.{length_to_le}
 use Rattle.numbers.specs.Reading.{ok}
-use Rattle.numbers.specs.ReadingLaws.{Reads}
 use Rattle.strings.specs.Strings.{string_bytes, GoodText}
 use Rattle.strings.specs.Spans.{show_span, show_string}
-use Rattle.fields.specs.Layouts.{Cell, amount, words, shape, Item, number, string, bytes, strings, qids, box, kind, read_many, many_bytes, cell_bytes, cells_bytes, item_bytes, items_bytes, GoodCell, GoodCells, Good, Goods}
-use Rattle.fields.specs.LayoutLaws.{reads_many}
-use Rattle.fields.specs.Values.{span, place_cell, place_cells, place, places, show_cell, show_cells, show, shows}
+use Rattle.fields.specs.Layouts.{Cell, amount, words, shape, Item, number, string, bytes, strings, qids, box, kind, many_bytes, cell_bytes, cells_bytes, item_bytes, items_bytes, GoodCell, GoodCells, Good, Goods}
+use Rattle.fields.proofs.LayoutLaws.{reads_many}
+use Rattle.fields.specs.Values.{place_cell, place_cells, place, places, show_cell, show_cells, show, shows}
 
 -- bytes that stand after a and in front of c
 shown_at : (a b c : List ℕ) (p : ℕ) → length a ≡ p → show_span (a ++ (b ++ c)) p (length b) ≡ ok b []

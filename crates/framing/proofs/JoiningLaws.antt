@@ -14,9 +14,10 @@ use Rattle.fields.specs.Values.{Slot, slot, text, Value, val, span, part, block}
 use Rattle.layouts.specs.Tables.{Row}
 use Rattle.layouts.specs.Bodies.{Answer, accepted, refused}
 use Rattle.framing.specs.Raising.{raise_slot, raise_value, raise_place, raise}
-use Rattle.framing.specs.RaisedLaws.{raise_zero}
-use Rattle.framing.specs.Stretch.{type_in, tag_in, answer_of, tail_in, listed_frame, front, Listing, entry, ends, stops, list_from, listing}
-use Rattle.framing.specs.ListingLaws.{Front, front_either, front_frame, list_frame, list_stop, stops_at}
+use Rattle.framing.proofs.RaisedLaws.{raise_zero}
+use Rattle.framing.specs.Stretch.{type_in, tag_in, answer_of, tail_in, listed_frame, Listing, entry, ends, stops, list_from, listing}
+use Rattle.framing.specs.ListingLaws.{Front, stops_at}
+use Rattle.framing.proofs.ListingLaws.{front_either, front_frame, list_frame, list_stop}
 use Rattle.framing.specs.Joining.{raise_listing, joined, Ends}
 
 -- ---- raised twice

@@ -1,15 +1,16 @@
 -- Where a frame that is written, or an element that is asked for, is refused with 5 or 6, a text among the lent bytes breaks at that place, counted
 -- from the first of them (F2.7).
-use Rattle.std.specs.Prelude.{ℕ, ◌+◌, ◌*◌, ◌≤◌, ◌<◌, refl, Bool, drop, leb, ltb, eqb}
+use Rattle.std.specs.Prelude.{ℕ, ◌+◌, ◌*◌, ◌≤◌, Bool, drop, leb, ltb, eqb}
 use native.Mathlib.Omega.{arith}
 use Rattle.std.proofs.Math.Path.{◌≡◌}
-use Rattle.std.proofs.Common.{sym, ap, ap₂, ◌∙◌}
+use Rattle.std.proofs.Common.{sym, ap₂, ◌∙◌}
 use Rattle.std.proofs.Math.Bool.{true, false, cond}
 use mathlib.Core.List.{List, [], ◌∷◌}
 use Rattle.std.proofs.Math.ListN.{length, take}
-use Rattle.numbers.specs.Numbers.{Bytes, bytes_take, bytes_drop}
+use Rattle.numbers.specs.Numbers.{Bytes}
+use Rattle.numbers.proofs.Numbers.{bytes_take, bytes_drop}
 use Rattle.numbers.specs.Reading.{Result, ok, bad, after}
-use Rattle.numbers.specs.ReadingLaws.{or_else}
+use Rattle.numbers.proofs.ReadingLaws.{or_else}
 use Rattle.numbers.specs.Places.{past_put}
 use Rattle.numbers.specs.Refusals.{number_of}
 use Rattle.numbers.specs.declared.Refusal.{Refusal}
@@ -18,14 +19,15 @@ use Rattle.numbers.specs.declared.Place.{Place}
 use Rattle.numbers.specs.declared.Place.TheVariants.{At, Refused}
 use Rattle.strings.specs.Strings.{ok_text}
 use Rattle.strings.specs.Spans.{show_span, show_string}
-use Rattle.strings.specs.SpanLaws.{shown_in, shown_out, span_inv}
-use Rattle.fields.specs.Layouts.{Shape, fixed, worded, Field, num, str, dat, strs, quids, boxed, Layout, Cell, words, Item, string, bytes, strings, qids, box, read_many, cells_bytes, items_bytes}
+use Rattle.strings.proofs.SpanLaws.{shown_in, shown_out, span_inv}
+use Rattle.fields.specs.Layouts.{Shape, fixed, worded, Field, num, str, dat, strs, quids, boxed, Layout, Cell, words, Item, qids, box, read_many, cells_bytes, items_bytes}
 use Rattle.fields.specs.Values.{Slot, slot_start, slot_len, first_slot, other_slots, slots_of, show_cell, show_cells, Value, start_of, len_of, count_of, cut_off, show_part, whole_part, show, first_of, others_of, shows}
 use Rattle.laying.specs.Laying.{limit}
-use Rattle.laying.specs.LayingLaws.{span_shown, part_inv}
-use Rattle.laying.specs.Elements.{element_in, asked_for, element_at}
+use Rattle.laying.proofs.LayingLaws.{span_shown, part_inv}
+use Rattle.laying.specs.Elements.{asked_for, element_at}
 use Rattle.framing.specs.Writing.{frame_bytes, frame_past, FrameWritten}
-use Rattle.framing.specs.Broken.{OfText, below, above, of_five, of_six, Text, bad_inv, not_bad, any_rest, later, uncut, many_text, NotUtf8In, ZeroIn, five_in, six_in}
+use Rattle.framing.specs.Broken.{OfText, Text, NotUtf8In, ZeroIn}
+use Rattle.framing.proofs.Broken.{above, of_five, of_six, bad_inv, not_bad, any_rest, later, uncut, many_text, five_in, six_in}
 
 module _ {k : Refusal} {n : ℕ} (t : OfText k) where
   span_no : (lent : List ℕ) (x y : ℕ) → show_span lent x y ≡ bad k n → ⊥

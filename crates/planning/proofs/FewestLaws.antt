@@ -1,18 +1,18 @@
 -- What the promise of `plan` comes to (F12.5): its plan is accepted, no accepted plan has fewer pieces, and 24 is answered exactly where each is longer than the table.
-use Rattle.std.specs.Prelude.{ℕ, zero, ◌+◌, ◌≤◌, ◌<◌, Bool, List, [], ◌∷◌, ◌++◌, length, take, drop}
+use Rattle.std.specs.Prelude.{ℕ, ◌+◌, ◌≤◌, ◌<◌, Bool, List, ◌++◌, length, take, drop}
 use native.Mathlib.Omega.{arith}
 use Rattle.std.proofs.Math.Path.{◌≡◌, refl}
-use Rattle.std.proofs.Common.{sym, ap, ◌∙◌, take_at, drop_at}
+use Rattle.std.proofs.Common.{sym, ◌∙◌, take_at, drop_at}
 use Rattle.std.proofs.Math.Bool.{true, false, cond}
 use Rattle.std.proofs.Math.Dec.{ltb}
 use borrow.Author.Tests.{ltb-true, ltb-false}
-use Rattle.numbers.specs.PlaceLaws.{one_answer}
+use Rattle.numbers.proofs.PlaceLaws.{one_answer}
 use Rattle.numbers.specs.declared.Refusal.{Refusal}
 use Rattle.numbers.specs.declared.Refusal.TheVariants as R
 use Rattle.numbers.specs.declared.Place.{Place}
 use Rattle.numbers.specs.declared.Place.TheVariants.{At, Refused}
-use Rattle.planning.specs.Plans.{runs_on, greatest, agreed, accepted, most_data, fewest, cut, room_for, laid, planned, table_of, Planned}
-use Rattle.planning.specs.PlanLaws.{most_some, fewest_least, fewest_none, runs_within, cut_runs, length_cut, small, far, neither, Good, good, accepted_refused, accepted_runs, planned_full, planned_fits}
+use Rattle.planning.specs.Plans.{greatest, agreed, accepted, most_data, fewest, cut, room_for, planned, table_of, Planned}
+use Rattle.planning.proofs.PlanLaws.{most_some, fewest_least, fewest_none, runs_within, cut_runs, length_cut, neither, Good, good, accepted_refused, accepted_runs, planned_full, planned_fits}
 
 -- ---- an accepted plan is of a write that is neither 26 nor 27, and it has enough pieces
 

@@ -1,23 +1,25 @@
 -- The header's ways, and a frame read at places as the definition reads it.
-use Rattle.std.specs.Prelude.{ℕ, ◌+◌, ◌-◌, ◌≤◌, ◌<◌, min, ◌≡◌, refl, Bool, true, false, cond, List, [], ◌∷◌, length, take, drop, leb}
-use Rattle.std.proofs.Common.{arith, sym, ap, ◌∙◌, length-take, length-drop, length-take-le, take_all}
+use Rattle.std.specs.Prelude.{ℕ, ◌+◌, ◌-◌, ◌≤◌, ◌<◌, min, ◌≡◌, refl, Bool, true, false, cond, List, length, take, drop, leb}
+use Rattle.std.proofs.Common.{arith, sym, ap, ◌∙◌, length-drop, length-take-le, take_all}
 use Rattle.std.proofs.Math.Nat.{min-eq_left, min-eq_right}
 use Rattle.std.proofs.Math.Seq.{take-length}
 use borrow.Author.Tests.{lt-ltb, le-ltb}
-use Rattle.numbers.specs.Numbers.{Bytes, from_le, bytes_take}
+use Rattle.numbers.specs.Numbers.{Bytes, from_le}
+use Rattle.numbers.proofs.Numbers.{bytes_take}
 use Rattle.numbers.specs.Reading.{Result, ok, bad, after, raw, read_num}
-use Rattle.numbers.specs.ReadingLaws.{or_else}
-use Rattle.numbers.specs.Places.{read_at, rest_at, NumRead}
-use Rattle.numbers.specs.PlaceLaws.{Held, Refuses, num_holds, num_refused}
+use Rattle.numbers.proofs.ReadingLaws.{or_else}
+use Rattle.numbers.specs.Places.{read_at, NumRead}
+use Rattle.numbers.specs.PlaceLaws.{Held}
+use Rattle.numbers.proofs.PlaceLaws.{num_holds, num_refused}
 use Rattle.numbers.specs.declared.Refusal.{Refusal}
 use Rattle.numbers.specs.declared.Refusal.TheVariants as R
 use Rattle.numbers.specs.declared.Place.{Place}
 use Rattle.numbers.specs.declared.Place.TheVariants.{At, Refused}
-use Rattle.laying.specs.LayingLaws.{drop_take}
-use Rattle.layouts.specs.Tables.{Row, lookup}
-use Rattle.layouts.specs.Bodies.{Answer, body_of, read_body}
-use Rattle.layouts.specs.BodyLaws.{body_is}
-use Rattle.framing.specs.Frames.{Header, read_type_tag, read_header, Frame, headless, framed, frame_of, read_frame}
+use Rattle.laying.proofs.LayingLaws.{drop_take}
+use Rattle.layouts.specs.Tables.{Row}
+use Rattle.layouts.specs.Bodies.{read_body}
+use Rattle.layouts.proofs.BodyLaws.{body_is}
+use Rattle.framing.specs.Frames.{Header, read_type_tag, read_header, headless, framed, read_frame}
 use Rattle.framing.specs.Headers.{Headed, HeadIs, Tagged, TypeTag}
 use Rattle.framing.specs.declared.Head.{Head}
 use Rattle.framing.specs.declared.Head.TheVariants as H

@@ -1,14 +1,14 @@
 -- What each way of cutting a stretch at a position answers, over plain variables.
-use Rattle.std.specs.Prelude.{ℕ, ◌+◌, ◌-◌, ◌%◌, ◌≤◌, ◌<◌, ◌≡◌, refl, Bool, true, false, cond, List, [], length, take, drop, ltb, eqb}
-use Rattle.std.proofs.Common.{arith, sym, ap, ap₂, ◌∙◌, length-take-le, take_all, take-take}
+use Rattle.std.specs.Prelude.{ℕ, ◌+◌, ◌-◌, ◌≤◌, ◌<◌, ◌≡◌, refl, Bool, true, false, List, length, take, drop}
+use Rattle.std.proofs.Common.{arith, sym, ap, ◌∙◌, length-take-le, take_all, take-take}
 use Rattle.std.proofs.Math.ListN.{length-drop}
 use Rattle.std.proofs.Math.Seq.{take-length}
 use borrow.Author.Tests.{lt-ltb, le-ltb, eq-eqb, ne_eqb}
-use Rattle.numbers.specs.Numbers.{Bytes, from_le, bytes_take, bytes_drop}
-use Rattle.numbers.specs.Reading.{Result, ok, bad, read_num}
-use Rattle.numbers.specs.ReadingLaws.{or_else}
-use Rattle.numbers.specs.Places.{Within, read_at, number_in, num_at, NumRead}
-use Rattle.numbers.specs.PlaceLaws.{inside, outside, num_holds, held_num, short_num, num_refused}
+use Rattle.numbers.specs.Numbers.{Bytes, from_le}
+use Rattle.numbers.proofs.Numbers.{bytes_take}
+use Rattle.numbers.proofs.ReadingLaws.{or_else}
+use Rattle.numbers.specs.Places.{Within, num_at, NumRead}
+use Rattle.numbers.proofs.PlaceLaws.{inside, outside, num_holds, held_num, num_refused}
 use Rattle.numbers.specs.declared.Refusal.{Refusal}
 use Rattle.numbers.specs.declared.Refusal.TheVariants as R
 use Rattle.numbers.specs.declared.Place.{Place}
@@ -17,9 +17,9 @@ use Rattle.layouts.specs.Tables.{Row, lookup}
 use Rattle.layouts.specs.Bodies.{Answer, accepted, refused, body_of}
 use Rattle.framing.specs.Frames.{read_type_tag, read_header, framed, read_frame}
 use Rattle.framing.specs.Raising.{raise, body_from}
-use Rattle.framing.specs.RaisedLaws.{body_there, after_header}
+use Rattle.framing.proofs.RaisedLaws.{body_there, after_header}
 use Rattle.framing.specs.Local.{size_in}
-use Rattle.framing.specs.Stretch.{type_in, tag_in, table_for, answer_in, answer_of, tail_in, frame, end, stop, listed_frame, front, frame_at}
+use Rattle.framing.specs.Stretch.{type_in, tag_in, table_for, answer_of, tail_in, frame, end, stop, listed_frame, front, frame_at}
 use Rattle.framing.specs.Headers.{Headed}
 use Rattle.framing.specs.Cuts.{between, WholeAt, CutAt}
 use Rattle.framing.specs.declared.Cut.{Cut}

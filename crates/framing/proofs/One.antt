@@ -1,18 +1,18 @@
 -- Any two answers that the promises of this crate allow are equal.
-use Rattle.std.specs.Prelude.{ℕ, ◌+◌, ◌-◌, ◌≤◌, ◌≡◌, refl, List, [], length, take, drop}
+use Rattle.std.specs.Prelude.{ℕ, ◌-◌, ◌≤◌, ◌≡◌, refl, List, [], length, take, drop}
 use Rattle.std.proofs.Common.{arith, sym, ap, ◌∙◌, length-drop, length-take-le}
-use Rattle.numbers.specs.Reading.{Result, ok, bad}
-use Rattle.numbers.specs.PlaceLaws.{one_answer}
+use Rattle.numbers.specs.Reading.{ok, bad}
+use Rattle.numbers.proofs.PlaceLaws.{one_answer}
 use Rattle.numbers.specs.declared.Refusal.{Refusal}
 use Rattle.numbers.specs.declared.Place.{Place}
 use Rattle.fields.specs.Layouts.{Layout}
 use Rattle.fields.specs.Values.{Value}
-use Rattle.framing.specs.Frames.{Header, read_header}
+use Rattle.framing.specs.Frames.{Header}
 use Rattle.framing.specs.Writing.{FrameWritten, HeadPut}
 use Rattle.framing.specs.Stretch.{type_in, tag_in}
 use Rattle.framing.specs.Headers.{Headed, HeadIs}
 use Rattle.framing.specs.Cuts.{between, CutAt}
-use Rattle.framing.specs.CutLaws.{length_whole}
+use Rattle.framing.proofs.CutLaws.{length_whole}
 use Rattle.framing.specs.declared.Head.{Head}
 use Rattle.framing.specs.declared.Head.TheVariants as H
 use Rattle.framing.specs.declared.Cut.{Cut}

@@ -1,5 +1,5 @@
 -- F10, frames to try: A to N, read as its table says; G in both directions.
-use Rattle.std.specs.Prelude.{ℕ, ◌≡◌, refl, List, [], ◌∷◌}
+use Rattle.std.specs.Prelude.{◌≡◌, refl, [], ◌∷◌}
 use Rattle.numbers.specs.Numbers.{from_le, to_le}
 use Rattle.numbers.specs.Reading.{raw, read_num}
 use Rattle.numbers.specs.Places.{put_at, past_put}

@@ -1,0 +1,5 @@
+pub mod Back
+pub mod ListingLaws
+pub mod PackLaws
+pub mod StepLaws
+pub mod Views
