@@ -1,5 +1,5 @@
 -- What holds of the definitions in specs/ReadingLaws.antt.
-use Rattle.std.specs.Prelude.{ℕ, ◌+◌, ◌-◌, ◌^◌, ◌<◌, ◌≤◌, ◌≡◌, refl, Bool, true, false, cond, List, [], ◌++◌, length, take, drop, leb}
+use Rattle.std.specs.Prelude.{ℕ, ◌-◌, ◌^◌, ◌<◌, ◌≤◌, ◌≡◌, refl, Bool, true, false, cond, List, [], ◌++◌, length, take, drop, leb}
 use Rattle.std.proofs.Common.{arith, add-sub_of_le, le_of_lt, lt_of_not-le, not-suc-le-zero, sym, ap, ◌∙◌, subst, append_assoc, length-append, take-append-drop, length-take-le, le-leb, leb-true}
 use Rattle.std.proofs.Math.Decide.{dec_le}
 use Rattle.std.proofs.Math.Seq.{take-append_seam, drop-append_seam, take-append-add}

@@ -1,5 +1,5 @@
 -- The laws of readers, put together as readers are: reading after writing, a cut, writing after reading. Every layout's laws are made of these.
-use Rattle.std.specs.Prelude.{ℕ, ◌+◌, ◌<◌, ◌≡◌, List, ◌++◌, length, take}
+use Rattle.std.specs.Prelude.{ℕ, ◌<◌, ◌≡◌, List, ◌++◌, length, take}
 use Rattle.numbers.specs.Numbers.{Bytes}
 use Rattle.numbers.specs.Reading.{Result, ok, bad}
 use Rattle.numbers.specs.declared.Refusal.TheVariants.{Short}
