@@ -1,5 +1,5 @@
 -- Capture files as Rust has them: what was lent, and the outcome.
-use Rattle.std.specs.Prelude.{ℕ, ◌≡◌, refl, List, [], ◌∷◌, length, set}
+use Rattle.std.specs.Prelude.{ℕ, ◌≡◌, List, length, set}
 use Rattle.std.proofs.Common.{sym, ap, ◌∙◌}
 use Rattle.numbers.proofs.PlaceLaws.{one_answer}
 use Rattle.numbers.specs.declared.Refusal.{Refusal}

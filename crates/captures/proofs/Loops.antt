@@ -11,11 +11,11 @@ use lib.Seq.{sets, sets-eq, drop-cons}
 use Rattle.numbers.specs.Places.{over}
 use Rattle.numbers.proofs.PlaceLaws.{over_then, length_over}
 use Rattle.numbers.specs.declared.Place.{Place}
-use Rattle.numbers.specs.declared.Place.TheVariants.{At, Refused}
+use Rattle.numbers.specs.declared.Place.TheVariants.{At}
 use Rattle.strings.specs.Spans.{SpanPut}
 use Rattle.strings.proofs.SpanLaws.{shown_length}
 use Rattle.framing.proofs.WritingLaws.{over_none}
-use Rattle.captures.specs.Captures.{num_in, bytes_in, times_in, frames_in, paired, record_bytes, records_of, cut_up}
+use Rattle.captures.specs.Captures.{num_in, bytes_in, times_in, frames_in, paired, record_bytes, records_of}
 use Rattle.captures.specs.Steps.{from, Roomy, rest, records, Ready}
 use Rattle.captures.specs.FileLaws.{Stands, bytes_turn, times_turn}
 use Rattle.captures.specs.StretchLaws.{Next, frames_turn, starts}

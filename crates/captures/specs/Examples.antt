@@ -1,7 +1,7 @@
 -- F10.C in a capture file, computed: in either order the same; with its size in the file's order, with a byte after it, or cut, broken.
 use Rattle.std.specs.Prelude.{ℕ, ◌≡◌, refl, List, [], ◌∷◌, ◌++◌}
 use Rattle.numbers.specs.Numbers.{from_le, to_le}
-use Rattle.captures.specs.Captures.{from_order, headed, order_of, taken, Packets, packet, complete, broken, packets_from, packets_of, header, record_bytes, records_of, file_of}
+use Rattle.captures.specs.Captures.{from_order, headed, order_of, taken, Packets, packet, complete, broken, packets_from, packets_of, records_of, file_of}
 
 abbrev rflush : List ℕ
 rflush = 7 ∷ 0 ∷ 0 ∷ 0 ∷ 109 ∷ 1 ∷ 0 ∷ []

@@ -1,7 +1,7 @@
 -- Of a file: its numbers, its header, and its records one by one.
 use Prim.Native.Nat.{ℕ, zero, suc, ◌+◌, ◌*◌, ◌-◌, ◌≤◌, ◌<◌}
 use Rattle.std.proofs.Common.{arith, add-zero, add-one, ap₂, ◌∙◌, drop_of_length-le, drop-cons, drop-drop, take-add, length-take-le}
-use Rattle.std.specs.Prelude.{◌≡◌, Bool, length, take, drop, get_or, leb, ltb, eqb}
+use Rattle.std.specs.Prelude.{◌≡◌, Bool, length, take, drop, get_or, ltb, eqb}
 use Rattle.std.proofs.Math.Path.{refl, sym, ap}
 use Rattle.std.proofs.Math.Bool.{true, false, cond}
 use mathlib.Core.List.{List, [], ◌∷◌, ◌++◌}

@@ -1,19 +1,18 @@
 -- A stretch that is not refused is its frames back to back, each of the size that it declares.
-use Rattle.std.specs.Prelude.{ℕ, ◌+◌, ◌-◌, ◌≤◌, ◌<◌, refl, Bool, true, false, cond, List, [], ◌∷◌, ◌++◌, take, drop, ltb}
+use Rattle.std.specs.Prelude.{ℕ, ◌+◌, ◌-◌, ◌≤◌, refl, Bool, true, false, cond, List, take, drop, ltb}
 use native.Mathlib.Omega.{arith}
 use Rattle.std.proofs.Math.Path.{◌≡◌, sym}
-use Rattle.std.proofs.Common.{ap, ◌∙◌, drop_of_length-le, take-append-drop, ltb-false}
+use Rattle.std.proofs.Common.{◌∙◌, drop_of_length-le, take-append-drop, ltb-false}
 use Rattle.std.proofs.Math.ListN.{length, length-drop}
 use Rattle.std.proofs.Math.Seq.{length-take-le, drop-drop}
-use Rattle.numbers.specs.declared.Refusal.{Refusal}
 use Rattle.numbers.specs.declared.Refusal.TheVariants as R
 use Rattle.numbers.specs.declared.Place.{Place}
 use Rattle.numbers.specs.declared.Place.TheVariants.{At, Refused}
 use Rattle.layouts.specs.Bodies.{Answer}
 use Rattle.framing.specs.Stretch.{Listing, entry, ends, stops}
-use Rattle.captures.specs.Captures.{frames_in, counted, fits, cut_up}
-use Rattle.captures.specs.Steps.{rest, joined, Good, Goods}
-use Rattle.captures.specs.StretchLaws.{Next, rest_case, at_end_lem, frames_end, frames_turn, starts}
+use Rattle.captures.specs.Captures.{frames_in, counted, fits}
+use Rattle.captures.specs.Steps.{rest, joined, Goods}
+use Rattle.captures.specs.StretchLaws.{Next, rest_case, at_end_lem}
 
 -- what is listed from p on, after m frames, is k frames in all
 pub record Whole (s : List ℕ) (l : Listing) (p m k : ℕ) : Type 0 where

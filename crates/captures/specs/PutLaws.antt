@@ -1,16 +1,16 @@
 -- Of what is put: the header, a record, the records; and how long a file is.
-use Rattle.std.specs.Prelude.{ℕ, ◌+◌, ◌*◌, ◌-◌, ◌≤◌, ◌<◌, ◌≡◌, refl, List, [], ◌∷◌, ◌++◌, length, take, drop}
-use Rattle.std.proofs.Common.{arith, sym, ap, ◌∙◌, length-append}
+use Rattle.std.specs.Prelude.{ℕ, ◌+◌, ◌*◌, ◌-◌, ◌≤◌, ◌≡◌, refl, List, [], ◌∷◌, length, take, drop}
+use Rattle.std.proofs.Common.{arith, ◌∙◌, length-append}
 use Rattle.numbers.specs.Numbers.{to_le}
 use Rattle.numbers.proofs.Numbers.{length_to_le}
-use Rattle.numbers.specs.Places.{over, put_at, past_put, Put}
+use Rattle.numbers.specs.Places.{over, Put}
 use Rattle.numbers.proofs.PlaceLaws.{put_then}
 use Rattle.numbers.specs.declared.Place.{Place}
-use Rattle.numbers.specs.declared.Place.TheVariants.{At, Refused}
-use Rattle.strings.specs.Spans.{bytes_in as shownIn, show_span, check_at, SpanPut}
+use Rattle.numbers.specs.declared.Place.TheVariants.{At}
+use Rattle.strings.specs.Spans.{SpanPut}
 use Rattle.strings.proofs.SpanLaws.{shown_in, shown_length, passing}
 use Rattle.framing.proofs.WritingLaws.{put_fits}
-use Rattle.captures.specs.Captures.{Packets, packet, complete, broken, paired, header, record_bytes, records_of}
+use Rattle.captures.specs.Captures.{paired, header, record_bytes, records_of}
 use Rattle.captures.specs.Steps.{joined}
 
 -- ---- where there is room

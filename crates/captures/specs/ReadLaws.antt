@@ -1,5 +1,5 @@
 -- What is written is read back, and what is read is written back: records and files, and frames back to back.
-use Rattle.std.specs.Prelude.{ℕ, suc, ◌+◌, ◌^◌, ◌≤◌, ◌<◌, ◌≡◌, refl, Bool, true, false, cond, drop, get_or, ltb, eqb}
+use Rattle.std.specs.Prelude.{ℕ, suc, ◌+◌, ◌^◌, ◌≤◌, ◌<◌, ◌≡◌, refl, Bool, true, false, drop, get_or}
 use native.Mathlib.Omega.{arith}
 use Rattle.std.proofs.Math.Path.{sym, ap, ap₂}
 use Rattle.std.proofs.Common.{◌∙◌, length-drop, take-append-drop, length-take-le, take_at, drop_at, drop-drop, take-take, le-ltb}
@@ -10,11 +10,10 @@ use Rattle.std.proofs.lemmas.List.{take-append-le}
 use Rattle.std.proofs.Math.Seq.{take-append_seam, drop-append_seam}
 use Rattle.numbers.specs.Numbers.{Bytes, from_le, to_le}
 use Rattle.numbers.proofs.Numbers.{length_to_le, from_to, to_from, bytes_take, bytes_drop}
-use Rattle.numbers.specs.declared.Place.{Place}
-use Rattle.numbers.specs.declared.Place.TheVariants.{At, Refused}
+use Rattle.numbers.specs.declared.Place.TheVariants.{At}
 use Rattle.layouts.specs.Tables.{Row}
 use Rattle.framing.specs.Local.{size_in}
-use Rattle.framing.specs.Stretch.{Listing, entry, ends, stops, list_from, listing}
+use Rattle.framing.specs.Stretch.{Listing, list_from, listing}
 use Rattle.framing.specs.ListingLaws.{Front}
 use Rattle.framing.proofs.ListingLaws.{list_next}
 use Rattle.captures.specs.declared.Imported.TheVariants as I

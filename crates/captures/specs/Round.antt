@@ -1,8 +1,8 @@
 -- The theorems of capture files (F13): there and back again both ways, what an imported stretch is, what a refusal leaves, and that there is one answer.
-use Rattle.std.specs.Prelude.{ℕ, ◌+◌, ◌≤◌, ◌<◌, ◌≡◌, refl, Bool, true, false, cond, List, [], ◌∷◌, ◌++◌, length, take, drop, ltb}
-use Rattle.std.proofs.Common.{arith, zero-add, sym, ap, ap₂, ◌∙◌, length-append, length-take, take-append-drop, length-take-le, le-ltb, ltb-false}
+use Rattle.std.specs.Prelude.{ℕ, ◌+◌, ◌≤◌, ◌≡◌, refl, Bool, true, false, cond, List, [], ◌++◌, length, take, drop, ltb}
+use Rattle.std.proofs.Common.{arith, zero-add, sym, ap, ap₂, ◌∙◌, take-append-drop, length-take-le, le-ltb, ltb-false}
 use Rattle.std.proofs.Math.Option.{Option, none, some}
-use Rattle.std.proofs.Math.Seq.{take-append_seam, drop-append_seam}
+use Rattle.std.proofs.Math.Seq.{take-append_seam}
 use Rattle.numbers.specs.Numbers.{Bytes}
 use Rattle.numbers.proofs.Numbers.{bytes_drop}
 use Rattle.numbers.proofs.PlaceLaws.{one_answer}
@@ -14,13 +14,12 @@ use Rattle.layouts.specs.Tables.{Row}
 use Rattle.framing.specs.Stretch.{listing}
 use Rattle.captures.specs.declared.Imported.{Imported}
 use Rattle.captures.specs.declared.Imported.TheVariants as I
-use Rattle.captures.specs.Captures.{order_of, Packets, packets_from, packets_in, packets_of, bytes_in, times_in, tallied, within, imported, Imports, frames_in, counted, fits, cut_up, paired, header, records_of, exported_file, exported, Exports, unless, laid}
+use Rattle.captures.specs.Captures.{order_of, Packets, packets_from, packets_in, packets_of, bytes_in, times_in, tallied, within, imported, Imports, frames_in, counted, fits, cut_up, paired, header, records_of, exported_file, exported, Exports, unless}
 use Rattle.captures.specs.Steps.{joined, Goods}
 use Rattle.captures.specs.StretchLaws.{starts}
-use Rattle.captures.specs.FrameLaws.{Whole, whole}
-use Rattle.captures.specs.PutLaws.{head_length}
+use Rattle.captures.specs.FrameLaws.{whole}
 use Rattle.captures.specs.WayLaws.{tallied_held}
-use Rattle.captures.specs.ReadLaws.{Pairs, frames_of, packets_after, reads_file, bytes_joined, bytes_paired, times_paired, tally_paired, reads_back, writes_back, Back, Reads, reads_stretch}
+use Rattle.captures.specs.ReadLaws.{Pairs, frames_of, packets_after, reads_file, bytes_joined, bytes_paired, times_paired, tally_paired, reads_back, writes_back, reads_stretch}
 
 -- ---- one answer, and nothing altered
 

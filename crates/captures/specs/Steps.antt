@@ -4,7 +4,7 @@ use Rattle.numbers.specs.declared.Refusal.TheVariants as R
 use Rattle.numbers.specs.declared.Place.{Place}
 use Rattle.numbers.specs.declared.Place.TheVariants.{At, Refused}
 use Rattle.framing.specs.Local.{size_in}
-use Rattle.framing.specs.Stretch.{Step, frame, end, stop, frame_at, Listing, list_from}
+use Rattle.framing.specs.Stretch.{Step, frame, end, stop, Listing, list_from}
 use Rattle.numbers.specs.Places.{Tells}
 use Rattle.captures.specs.Captures.{captured, taken, Packets, packets_from, bytes_in, times_in, records_of, frames_in, paired, cut_up}
 

@@ -1,6 +1,6 @@
 -- Of a stretch: where its frames end, one by one, and what is listed from there on.
-use Rattle.std.specs.Prelude.{ℕ, ◌+◌, ◌-◌, ◌≤◌, ◌<◌, ◌≡◌, refl, Bool, true, false, cond, List, [], ◌∷◌, length, take, drop, ltb, eqb}
-use Rattle.std.proofs.Common.{arith, sym, ap, ◌∙◌, length-drop, drop_of_length-le, length-take-le, take-take}
+use Rattle.std.specs.Prelude.{ℕ, ◌+◌, ◌-◌, ◌≤◌, ◌<◌, ◌≡◌, refl, List, [], ◌∷◌, length, take, drop}
+use Rattle.std.proofs.Common.{arith, sym, ap, ◌∙◌, drop_of_length-le, length-take-le, take-take}
 use borrow.Author.Tests.{lt-ltb, le-ltb, ne_eqb}
 use Rattle.numbers.specs.Numbers.{from_le}
 use Rattle.numbers.proofs.ReadingLaws.{or_else}
@@ -10,10 +10,9 @@ use Rattle.numbers.specs.declared.Place.{Place}
 use Rattle.numbers.specs.declared.Place.TheVariants.{At, Refused}
 use Rattle.layouts.specs.Bodies.{Answer}
 use Rattle.framing.specs.Local.{size_in}
-use Rattle.framing.specs.Stretch.{Step, frame, end, stop, listed_frame, front, frame_at, Listing, entry, ends, stops, list_from, listing}
-use Rattle.framing.specs.ListingLaws.{Front}
+use Rattle.framing.specs.Stretch.{Step, frame, end, stop, front, frame_at, entry, ends, stops, list_from, listing}
 use Rattle.framing.proofs.ListingLaws.{front_case, list_step, whole_at, moves_on}
-use Rattle.framing.specs.Cuts.{WholeAt, CutAt, between}
+use Rattle.framing.specs.Cuts.{CutAt, between}
 use Rattle.framing.proofs.CutLaws.{cut_whole, cut_end, cut_stop, length_whole}
 use Rattle.framing.specs.declared.Cut.{Cut}
 use Rattle.framing.specs.declared.Cut.TheVariants as C

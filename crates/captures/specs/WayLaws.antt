@@ -4,8 +4,8 @@ use native.Mathlib.Omega.{arith}
 use Rattle.std.proofs.Common.{zero-add, sym, ◌∙◌, length-append}
 use Rattle.std.proofs.Math.Path.{◌≡◌, refl, ap}
 use Rattle.std.proofs.Math.Bool.{true, false, cond}
-use mathlib.Core.List.{List, [], ◌++◌}
-use Rattle.std.proofs.Math.Option.{Option, none, some}
+use mathlib.Core.List.{List, ◌++◌}
+use Rattle.std.proofs.Math.Option.{none, some}
 use Rattle.std.proofs.Math.ListN.{length, drop}
 use borrow.Author.Tests.{lt-ltb, le-ltb, ltb-false}
 use Rattle.numbers.specs.Places.{over}

@@ -1,5 +1,5 @@
 -- A frame or a body that is read flat is the definition's, laid flat. Shown of any direction; requests and replies are two of them.
-use Rattle.std.specs.Prelude.{ℕ, ◌-◌, ◌≡◌, refl, true, List, length, take}
+use Rattle.std.specs.Prelude.{ℕ, ◌≡◌, refl, true, List, length, take}
 use Rattle.std.proofs.Common.{arith, sym, ap, ap₂, ◌∙◌}
 use Rattle.std.proofs.Math.Option.{Option, none, some}
 use Rattle.numbers.specs.Numbers.{Bytes}

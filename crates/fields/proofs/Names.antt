@@ -2,13 +2,12 @@
 use Prim.Native.Nat.{ℕ, zero, suc, ◌+◌, ◌-◌, ◌≤◌, ◌<◌}
 use native.Mathlib.Omega.{arith}
 use mathlib.Core.Path.{◌≡◌, refl, sym, ap, ◌∙◌}
-use mathlib.Core.Bool.{Bool, true, false, cond, ◌&&◌}
-use mathlib.Core.List.{List, [], ◌∷◌}
+use mathlib.Core.Bool.{Bool, true}
+use mathlib.Core.List.{List, ◌∷◌}
 use lib.ListN.{length, take, drop, get_or, length-drop, length-append}
 use lib.Seq.{drop-length, length-take-le}
 use Rattle.numbers.proofs.Numbers.{length_to_le}
 use Rattle.numbers.specs.Reading.{Result, ok, bad, after}
-use Rattle.numbers.proofs.ReadingLaws.{or_else}
 use Rattle.numbers.specs.Places.{rest_at, NumRead}
 use Rattle.numbers.specs.PlaceLaws.{Held}
 use Rattle.numbers.proofs.PlaceLaws.{num_holds, num_refused}
@@ -24,7 +23,6 @@ use Rattle.strings.specs.Strings.{ok_text, read_string, string_bytes}
 use Rattle.strings.proofs.SpanLaws.{string_cut, string_held, string_short, text_refused, text_good}
 use Rattle.strings.specs.Spans.{TextCheck}
 use Rattle.fields.specs.Layouts.{read_many}
-use Rattle.fields.specs.Fields.{ManyRead}
 use Rattle.fields.specs.Runs.{Plains, Run}
 
 -- ---- one string off

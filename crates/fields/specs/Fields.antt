@@ -1,5 +1,5 @@
 -- Fields at places: what the readers' contracts cite.
-use Rattle.std.specs.Prelude.{ℕ, ◌≡◌, List, [], ◌∷◌, map, cond, length, drop, ltb}
+use Rattle.std.specs.Prelude.{ℕ, ◌≡◌, List, [], ◌∷◌, map, length, drop}
 use Rattle.numbers.specs.Reading.{Result, ok, bad}
 use Rattle.numbers.specs.Places.{read_from, rest_at, num_at, past_num}
 use Rattle.numbers.specs.declared.Place.{Place}

@@ -1,7 +1,6 @@
 -- Any two answers that the frame readers' promises allow are equal: an answer is determined by its view.
 use Rattle.std.specs.Prelude.{ℕ, ◌≡◌}
 use Rattle.std.proofs.Common.{arith, ap, ap₂, ◌∙◌}
-use Rattle.numbers.specs.declared.Refusal.{Refusal}
 use Rattle.requests.specs.Views.{view_t}
 use Rattle.requests.specs.Built.{one_body}
 use Rattle.requests.specs.declared.Tbody.{Tbody}

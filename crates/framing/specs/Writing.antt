@@ -1,9 +1,8 @@
 -- Writing one frame (F5): its fields in order, then 10, then 11 (F5.2); what success leaves in the output (F5.12), and what a refusal does (F5.13).
-use Rattle.std.specs.Prelude.{ℕ, ◌+◌, ◌≤◌, ◌≡◌, cond, List, ◌++◌, length, leb, ltb}
+use Rattle.std.specs.Prelude.{ℕ, ◌+◌, ◌≡◌, cond, List, ◌++◌, length, leb, ltb}
 use Rattle.numbers.specs.Numbers.{to_le}
 use Rattle.numbers.specs.Reading.{Result, ok, bad}
 use Rattle.numbers.specs.Places.{put_at, past_put}
-use Rattle.numbers.specs.declared.Refusal.{Refusal}
 use Rattle.numbers.specs.declared.Refusal.TheVariants as R
 use Rattle.numbers.specs.declared.Place.{Place}
 use Rattle.numbers.specs.declared.Place.TheVariants.{At, Refused}

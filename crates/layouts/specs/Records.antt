@@ -1,5 +1,5 @@
 -- A definition states for each record its values, in the order of its fields: here for a qid and for a directory entry.
-use Rattle.std.specs.Prelude.{ℕ, List, [], ◌∷◌}
+use Rattle.std.specs.Prelude.{List, [], ◌∷◌}
 use Rattle.strings.specs.declared.Span.{Span}
 use Rattle.fields.specs.declared.Part.{Part}
 use Rattle.fields.specs.Values.{Value, val, span, part}

@@ -1,5 +1,5 @@
 -- F8.9: an example of the lister's text, computed from the definitions.
-use Rattle.std.specs.Prelude.{ℕ, ◌≡◌, refl, List, [], ◌∷◌}
+use Rattle.std.specs.Prelude.{◌≡◌, refl, [], ◌∷◌}
 use Rattle.numbers.specs.Numbers.{from_le, to_le}
 use Rattle.numbers.specs.Reading.{raw, read_num}
 use Rattle.fields.specs.Layouts.{read_field, read_fields, item_bytes, items_bytes}

@@ -1,7 +1,7 @@
 -- The lines that are put one after another are those of the listing.
 use Prim.Native.Nat.{ℕ, suc, ◌+◌, ◌≤◌, ◌<◌}
 use native.Mathlib.Omega.{arith}
-use Rattle.std.specs.Prelude.{◌≡◌, refl, cond, List, [], ◌∷◌, ◌++◌, length, ltb}
+use Rattle.std.specs.Prelude.{◌≡◌, List, length}
 use Rattle.std.proofs.Common.{sym, ◌∙◌, lt-ltb, le-ltb}
 use Rattle.std.proofs.Math.Path.{ap}
 use Rattle.numbers.specs.Refusals.{number_of}
@@ -10,15 +10,15 @@ use Rattle.numbers.specs.declared.Refusal.{Refusal}
 use Rattle.numbers.specs.declared.Place.{Place}
 use Rattle.numbers.specs.declared.Place.TheVariants.{At}
 use Rattle.layouts.specs.Tables.{table_t, table_r}
-use Rattle.framing.specs.Stretch.{entry, ends, stops, frame_at, listing}
+use Rattle.framing.specs.Stretch.{listing}
 use Rattle.framing.specs.ListingLaws.{goes_on}
 use Rattle.framing.proofs.ListingLaws.{listed, Moved, moves_on}
 use Rattle.stretch.specs.Functions.{answered}
-use Rattle.stretch.specs.Views.{view_body, view_step, Asked}
+use Rattle.stretch.specs.Views.{view_step, Asked}
 use Rattle.stretch.specs.declared.Listed.{Listed}
 use Rattle.stretch.specs.declared.Step.{Step}
 use Rattle.stretch.specs.declared.Step.TheVariants as S
-use Rattle.listing.specs.Text.{PiecesPut, header, end_word, stop_word, answer_number, line_pieces, last_pieces, lines_from, too_long, LinePut, LastPut, LinesPut, ReportPut}
+use Rattle.listing.specs.Text.{PiecesPut, header, end_word, stop_word, lines_from, too_long, LinePut, LastPut, LinesPut, ReportPut}
 use Rattle.listing.specs.TextLaws.{all_none, all_put, all_then}
 
 -- the lines before position `at` are put, n of them: whatever puts those from there on has put the whole

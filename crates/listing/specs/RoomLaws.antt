@@ -1,6 +1,6 @@
 -- The text of any input fits the room, over any two tables; so the lister's promise has no premise.
 use Rattle.std.specs.Prelude.{ℕ, zero, suc, ◌+◌, ◌*◌, ◌-◌, ◌/◌, ◌%◌, ◌^◌, ◌≤◌, ◌<◌, ◌≡◌, Bool, true, false, cond, List, [], ◌∷◌, ◌++◌, length, take, drop, eqb}
-use Rattle.std.proofs.Common.{arith, sym, ap, ◌∙◌, length-append, length-take, length-drop, lit<, lt-ltb, le-ltb}
+use Rattle.std.proofs.Common.{arith, ap, ◌∙◌, length-append, length-take, length-drop, lit<, lt-ltb, le-ltb}
 use Rattle.std.proofs.Math.Nat.{pow-le-pow_right}
 use Rattle.std.proofs.Math.Path.{refl}
 use Rattle.io.specs.Digits.{last_digits, hex_digit_ascii}
@@ -12,10 +12,10 @@ use Rattle.numbers.specs.Places.{over}
 use Rattle.numbers.specs.declared.Refusal.{Refusal}
 use Rattle.numbers.specs.declared.Refusal.TheVariants as R
 use Rattle.numbers.specs.declared.Place.{Place}
-use Rattle.numbers.specs.declared.Place.TheVariants.{At, Refused}
+use Rattle.numbers.specs.declared.Place.TheVariants.{At}
 use Rattle.layouts.specs.Tables.{Row, table_t, table_r}
 use Rattle.layouts.specs.Bodies.{Answer, accepted, refused}
-use Rattle.framing.specs.Stretch.{type_in, tag_in, tail_in, answer_of, front, stop, Listing, entry, ends, stops, list_from, listing}
+use Rattle.framing.specs.Stretch.{tail_in, answer_of, front, stop, Listing, entry, ends, stops, list_from, listing}
 use Rattle.framing.proofs.ListingLaws.{front_case, list_next}
 use Rattle.listing.specs.Text.{figures, decimal, joined, newline, field_pieces, answer_number, line_pieces, end_word, stop_word, last_pieces, header, lines_from, report, ReportPut, position_of, room, Reported}
 use Rattle.listing.specs.TextLaws.{all_fits}

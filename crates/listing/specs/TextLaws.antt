@@ -1,6 +1,6 @@
 -- The laws of pieces: put one after the other they are the text, where there is room.
-use Rattle.std.specs.Prelude.{ℕ, zero, suc, ◌+◌, ◌-◌, ◌^◌, ◌≤◌, ◌<◌, ◌≡◌, refl, Bool, true, false, cond, List, [], ◌∷◌, ◌++◌, length, take, drop, ltb, eqb}
-use Rattle.std.proofs.Common.{arith, sym, ap, ◌∙◌, length-append, length-take-le, le-leb, lt-ltb, le-ltb, eq-eqb, ne_eqb}
+use Rattle.std.specs.Prelude.{ℕ, zero, suc, ◌+◌, ◌-◌, ◌^◌, ◌≤◌, ◌<◌, ◌≡◌, refl, List, [], ◌∷◌, ◌++◌, length, take, drop}
+use Rattle.std.proofs.Common.{arith, sym, ap, ◌∙◌, length-append, length-take-le, lt-ltb, le-ltb, eq-eqb, ne_eqb}
 use Rattle.std.proofs.Math.Nat.{pow-le-pow_right}
 use Rattle.std.proofs.Math.Seq.{take-length}
 use Rattle.io.specs.Counts.{IsPrefixLen}
@@ -9,10 +9,9 @@ use Rattle.numbers.specs.Reading.{ok}
 use Rattle.numbers.proofs.ReadingLaws.{or_else}
 use Rattle.numbers.specs.Places.{over, put_at, past_put, Put}
 use Rattle.numbers.proofs.PlaceLaws.{put_then, length_over, length_put, one_answer}
-use Rattle.numbers.specs.declared.Refusal.{Refusal}
 use Rattle.numbers.specs.declared.Place.{Place}
-use Rattle.numbers.specs.declared.Place.TheVariants.{At, Refused}
-use Rattle.strings.specs.Spans.{bytes_in, show_span, check_at, SpanPut}
+use Rattle.numbers.specs.declared.Place.TheVariants.{At}
+use Rattle.strings.specs.Spans.{show_span, SpanPut}
 use Rattle.strings.proofs.SpanLaws.{shown_in, passing}
 use Rattle.layouts.specs.Tables.{table_t, table_r}
 use Rattle.framing.proofs.WritingLaws.{put_fits, past_fits, put_over, over_none}

@@ -1,6 +1,6 @@
 -- Written by tools/messages from its table of messages.
 -- A definition states for each record its values, in the order of its fields.
-use Rattle.std.specs.Prelude.{ℕ, List, [], ◌∷◌}
+use Rattle.std.specs.Prelude.{List, [], ◌∷◌}
 use Rattle.fields.specs.Values.{Value, val}
 use Rattle.layouts.specs.Records.{span_of}
 use Rattle.metadata.specs.declared.attributes.Tstatfs.{Tstatfs}

@@ -1,6 +1,6 @@
 -- Written by tools/messages from its table of messages.
 -- For each case of `Tmessage` its number (F3.2), its layout and its values.
-use Rattle.std.specs.Prelude.{ℕ, List, []}
+use Rattle.std.specs.Prelude.{ℕ, List}
 use Rattle.fields.specs.Layouts.{Layout}
 use Rattle.fields.specs.Values.{Value}
 use Rattle.layouts.specs.Tables.{layout_tversion, layout_tflush, layout_twalk, layout_tread, layout_twrite, layout_tclunk, layout_tremove}

@@ -1,5 +1,5 @@
 -- A large write cut into pieces, each the data of a Twrite (F12). A row of a table is a piece.
-use Rattle.std.specs.Prelude.{ℕ, suc, zero, ◌+◌, ◌-◌, ◌/◌, min, ◌≡◌, Bool, true, false, cond, List, [], ◌∷◌, ◌++◌, length, drop, get_or, leb, ltb, eqb}
+use Rattle.std.specs.Prelude.{ℕ, suc, zero, ◌+◌, ◌-◌, ◌/◌, min, ◌≡◌, Bool, false, cond, List, [], ◌∷◌, ◌++◌, length, drop, get_or, leb, ltb, eqb}
 use Rattle.numbers.specs.declared.Refusal.TheVariants as R
 use Rattle.numbers.specs.declared.Place.{Place}
 use Rattle.numbers.specs.declared.Place.TheVariants.{At, Refused}

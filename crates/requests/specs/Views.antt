@@ -1,6 +1,6 @@
 -- Written by tools/messages from its table of messages.
 -- For each case of `Tmessage` its number (F3.2), its layout and its values.
-use Rattle.std.specs.Prelude.{ℕ, List, []}
+use Rattle.std.specs.Prelude.{ℕ, List}
 use Rattle.fields.specs.Layouts.{Layout}
 use Rattle.fields.specs.Values.{Value}
 use Rattle.layouts.specs.Tables.{layout_tversion, layout_tflush, layout_twalk, layout_tread, layout_twrite, layout_tclunk, layout_tremove, layout_tattach, layout_tauth, layout_tstatfs, layout_tlopen, layout_tlcreate, layout_tsymlink, layout_tmknod, layout_trename, layout_treadlink, layout_tgetattr, layout_tsetattr, layout_txattrwalk, layout_txattrcreate, layout_treaddir, layout_tfsync, layout_tlock, layout_tgetlock, layout_tlink, layout_tmkdir, layout_trenameat, layout_tunlinkat}

@@ -25,7 +25,7 @@ use Rattle.framing.specs.Cuts.{between, CutAt}
 use Rattle.framing.proofs.CutLaws.{length_whole, cut_whole, cut_end, cut_stop}
 use Rattle.framing.specs.declared.Cut.{Cut}
 use Rattle.framing.specs.declared.Cut.TheVariants as C
-use Rattle.sealing.specs.Trailers.{extent_from, extent_of, tells, stretch_in, sealed, trailer_bytes, told, trailer_of, start_of, ExtentPut, TrailerPut}
+use Rattle.sealing.specs.Trailers.{extent_from, extent_of, tells, stretch_in, sealed, trailer_bytes, ExtentPut, TrailerPut}
 use Rattle.sealing.specs.declared.Extent.{Extent}
 use Rattle.sealing.specs.declared.Measured.{Measured}
 use Rattle.sealing.specs.declared.Measured.TheVariants as M

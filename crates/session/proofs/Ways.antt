@@ -5,8 +5,7 @@ use mathlib.Core.Path.{◌≡◌, refl, sym, ap, ◌∙◌}
 use mathlib.Core.Bool.{Bool, true, false, cond}
 use mathlib.Core.List.{List, [], ◌∷◌}
 use mathlib.Core.Logic.{inl, inr}
-use types.Run.{OneOf, miss}
-use denote.Enum.Declared.{tag_of}
+use types.Run.{OneOf}
 use lib.ListN.{get_or, set, replicate}
 use lib.Dec.{eqb}
 use borrow.Author.Tests.{lt-ltb, le-ltb, eq-eqb, ne_eqb}
@@ -34,7 +33,6 @@ use Rattle.session.specs.declared.Way.TheVariants as Y
 use Rattle.session.specs.declared.What.TheVariants as W
 use Rattle.session.specs.declared.Event.{Event}
 use Rattle.session.specs.Rows.{row_of}
-use Rattle.session.specs.contracts.Effect as Ef
 use Rattle.session.specs.About.{first_fid, fid_given, answered_fid, fid_of}
 use Rattle.session.specs.Rules.{free, none, blank, fresh, accepts, refuses, unless, unfit, asked, effect_of, nothing_else, only_closes, closed, dropped, place_of, reached, held, given, done, finished, replied, answered, stepped, FidPath}
 

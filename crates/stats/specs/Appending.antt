@@ -5,7 +5,7 @@ use Rattle.numbers.specs.declared.Place.{Place}
 use Rattle.fields.specs.Layouts.{Shape, Layout}
 use Rattle.fields.specs.Values.{Slot, Value}
 use Rattle.fields.specs.Fields.{value_at, values_at, past_field, past_fields, Fields}
-use Rattle.laying.specs.Laying.{cells_size, check_field, check_fields, put_cell, past_put_cell, put_cells, past_put_cells, Measured, CellsPut}
+use Rattle.laying.specs.Laying.{check_field, check_fields, put_cell, past_put_cell, put_cells, past_put_cells, Measured, CellsPut}
 
 values_then : (l m : Layout) (s : List ℕ) (p : Place) → values_at (l ++ m) s p ≡ values_at l s p ++ values_at m s (past_fields l s p)
 unfolding values_at past_fields

@@ -1,10 +1,10 @@
 -- Fields followed by their counts, one after another at places (F14.3); and what that says of a box.
-use Rattle.std.specs.Prelude.{ℕ, ◌+◌, ◌-◌, ◌≤◌, ◌<◌, ◌≡◌, refl, Bool, true, false, cond, List, [], ◌∷◌, ◌++◌, map, length, take, drop, leb, eqb}
+use Rattle.std.specs.Prelude.{ℕ, ◌+◌, ◌-◌, ◌≤◌, ◌<◌, ◌≡◌, refl, Bool, true, false, cond, List, [], ◌∷◌, ◌++◌, map, length, take, drop, leb}
 use Rattle.std.proofs.Common.{arith, sym, ap, ◌∙◌, append_assoc, length-append, take-append-drop, drop_at}
 use Rattle.std.proofs.Math.Path.{ap₂}
 use Rattle.std.proofs.Math.ListN.{length-drop}
 use Rattle.std.proofs.Math.Seq.{drop-drop}
-use borrow.Author.Tests.{le-leb, lt-leb, eq-eqb, ne_eqb}
+use borrow.Author.Tests.{le-leb}
 use Rattle.numbers.specs.Numbers.{from_le}
 use Rattle.numbers.specs.Reading.{Result, ok, bad, after, raw, read_num}
 use Rattle.numbers.proofs.ReadingLaws.{or_else, after_inv, raw_short}
@@ -14,7 +14,7 @@ use Rattle.numbers.specs.declared.Refusal.{Refusal}
 use Rattle.numbers.specs.declared.Refusal.TheVariants as R
 use Rattle.numbers.specs.declared.Place.{Place}
 use Rattle.numbers.specs.declared.Place.TheVariants.{At, Refused}
-use Rattle.fields.specs.Layouts.{Shape, fixed, worded, follow, at_end, agrees}
+use Rattle.fields.specs.Layouts.{Shape, fixed, worded, follow}
 use Rattle.laying.specs.LayingLaws.{total}
 use Rattle.stats.specs.Stats.{Followed}
 

@@ -1,5 +1,5 @@
 -- The ways that the reader of a stat goes, over any box: whether its counts agree, and where its fields are.
-use Rattle.std.specs.Prelude.{ℕ, ◌+◌, ◌-◌, ◌≤◌, ◌<◌, refl, Bool, true, false, cond, List, [], ◌∷◌, ◌++◌, map, length, take, drop, leb, eqb}
+use Rattle.std.specs.Prelude.{ℕ, ◌+◌, ◌-◌, ◌≤◌, refl, Bool, true, false, cond, List, [], ◌∷◌, ◌++◌, map, length, take, drop, eqb}
 use Rattle.std.proofs.Common.{arith, ap, ap₂, ◌∙◌, length-take-le}
 use Rattle.std.proofs.Math.Path.{◌≡◌, sym}
 use Rattle.std.proofs.lemmas.List.{map-append}
@@ -9,7 +9,7 @@ use borrow.Author.Tests.{le-leb, lt-leb, eq-eqb, ne_eqb}
 use Rattle.numbers.specs.Numbers.{from_le, to_le}
 use Rattle.numbers.specs.Reading.{Result, ok, bad, after, raw, read_num}
 use Rattle.numbers.proofs.ReadingLaws.{or_else, raw_short}
-use Rattle.numbers.specs.Places.{Within, read_at, read_from, rest_at, NumRead, Put}
+use Rattle.numbers.specs.Places.{Within, read_at, rest_at, NumRead, Put}
 use Rattle.numbers.specs.PlaceLaws.{Held}
 use Rattle.numbers.proofs.PlaceLaws.{inside, outside, held_num, num_holds, num_refused}
 use Rattle.numbers.specs.declared.Refusal.{Refusal}
@@ -21,7 +21,7 @@ use Rattle.fields.specs.Layouts.{Shape, fixed, worded, boxed, box, read_cells, f
 use Rattle.fields.proofs.LayoutLaws.{agreed}
 use Rattle.fields.specs.Values.{Slot, slot, text, block}
 use Rattle.fields.specs.Fields.{no_slot, past_field, FieldRead}
-use Rattle.fields.specs.BoxLaws.{plain_of, Box, Opened}
+use Rattle.fields.specs.BoxLaws.{plain_of, Opened}
 use Rattle.laying.specs.Laying.{with_sizes, sized, FieldMeasured, Measured, CellsPut, Countable, Advanced}
 use Rattle.laying.specs.BoxLaws.{value_of}
 use Rattle.laying.proofs.BoxLaws.{box_measured, cells_done, put_amount, put_words, put_cells_length}

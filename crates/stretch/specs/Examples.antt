@@ -1,5 +1,5 @@
 -- F8.9: examples of a listing, B, C, K and J of F10 joined, of its positions, of listings joined and of damage, computed from the definition.
-use Rattle.std.specs.Prelude.{ℕ, ◌≡◌, refl, List, [], ◌∷◌}
+use Rattle.std.specs.Prelude.{◌≡◌, refl, [], ◌∷◌}
 use Rattle.numbers.specs.Numbers.{from_le, to_le}
 use Rattle.numbers.specs.Reading.{raw, read_num}
 use Rattle.numbers.specs.declared.Refusal.TheVariants as R

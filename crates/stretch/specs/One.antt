@@ -1,14 +1,12 @@
 -- Any two answers that the promises of this crate allow are equal.
-use Rattle.std.specs.Prelude.{ℕ, ◌+◌, ◌-◌, ◌%◌, ◌≤◌, ◌≡◌, refl, List, length}
-use Rattle.std.proofs.Common.{arith, sym, ap, ◌∙◌}
+use Rattle.std.specs.Prelude.{ℕ, ◌-◌, ◌≡◌, List}
+use Rattle.std.proofs.Common.{arith, ap}
 use Rattle.numbers.proofs.PlaceLaws.{one_answer}
 use Rattle.requests.specs.Built.{one_body}
 use Rattle.replies.specs.Built.{one_body as one-reply}
-use Rattle.layouts.specs.declared.ids.Tag.{Tag}
 use Rattle.stretch.specs.Views.{view_body, Way, view_step, StepWay, Asked}
 use Rattle.stretch.specs.declared.Body.{Body}
 use Rattle.stretch.specs.declared.Body.TheVariants as B
-use Rattle.stretch.specs.declared.Listed.{Listed}
 use Rattle.stretch.specs.declared.Step.{Step}
 use Rattle.stretch.specs.declared.Step.TheVariants as S
 

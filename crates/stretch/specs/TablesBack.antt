@@ -1,11 +1,10 @@
 -- Demand 3 of walks that were written from tables: they read back, as the Twalk and the Rwalk of F3.2.
-use Rattle.std.specs.Prelude.{ℕ, suc, ◌+◌, ◌*◌, ◌^◌, ◌≤◌, ◌<◌, ◌≡◌, refl, cond, List, [], ◌∷◌, ◌++◌, map, length, drop, get_or, ltb}
-use Rattle.std.proofs.Common.{arith, sym, ap, ap₂, ◌∙◌, append_assoc, append-nil, length-append, lit<, le-leb}
+use Rattle.std.specs.Prelude.{ℕ, suc, ◌+◌, ◌^◌, ◌≤◌, ◌<◌, ◌≡◌, refl, List, [], ◌∷◌, ◌++◌, map, length, drop, get_or}
+use Rattle.std.proofs.Common.{arith, sym, ap, ap₂, ◌∙◌, append_assoc, append-nil, lit<, le-leb}
 use Rattle.std.proofs.Math.Option.{some}
 use Rattle.std.proofs.lemmas.Bool.{lt-leb}
-use Rattle.numbers.specs.Numbers.{Bytes, to_le}
-use Rattle.numbers.proofs.Numbers.{length_to_le}
-use Rattle.numbers.specs.Reading.{Result, ok, bad, after}
+use Rattle.numbers.specs.Numbers.{to_le}
+use Rattle.numbers.specs.Reading.{Result, ok, after}
 use Rattle.numbers.proofs.ReadingLaws.{or_else, after_inv}
 use Rattle.numbers.specs.declared.Refusal.TheVariants as R
 use Rattle.numbers.specs.declared.Place.TheVariants.{At}
@@ -13,7 +12,7 @@ use Rattle.strings.specs.Strings.{string_bytes}
 use Rattle.strings.specs.Spans.{show_string}
 use Rattle.fields.specs.Layouts.{num, Item, number, string, strings, qids, kind, counted, read_fields, many_bytes, item_bytes, items_bytes, AllGood, Goods}
 use Rattle.fields.proofs.LayoutLaws.{reads_fields}
-use Rattle.fields.specs.Values.{val, span, places, show, shows}
+use Rattle.fields.specs.Values.{places, show, shows}
 use Rattle.fields.proofs.ValueLaws.{shows_items}
 use Rattle.layouts.specs.Tables.{Row, lookup, layout_twalk, layout_rwalk}
 use Rattle.layouts.specs.Tables as L
@@ -21,7 +20,7 @@ use Rattle.layouts.specs.Plain as P
 use Rattle.layouts.specs.Bodies.{accepted}
 use Rattle.layouts.specs.declared.qids.Qid.{Qid}
 use Rattle.framing.specs.Frames.{framed, read_frame}
-use Rattle.framing.specs.Writing.{head_bytes, frame_out, frame_past}
+use Rattle.framing.specs.Writing.{head_bytes, frame_past}
 use Rattle.framing.proofs.WritingLaws.{head_length}
 use Rattle.tables.specs.Tables.{TableWritten, name_fields, name_values, walk_fields, walk_values, TwalkWritten, qid_items, RwalkWritten}
 use Rattle.tables.specs.QidLaws.{qids_bytes, qids_length}

@@ -1,20 +1,17 @@
 -- The ways that the checks, the reader and the writers of strings go: one law for each way out, over plain variables.
-use Prim.Native.Nat.{ℕ, suc, ◌+◌, ◌-◌, ◌≤◌, ◌<◌, min}
+use Prim.Native.Nat.{ℕ, ◌+◌, ◌-◌, ◌≤◌, ◌<◌, min}
 use native.Mathlib.Omega.{arith}
 use mathlib.Core.Path.{◌≡◌, refl, sym, ap, ap₂, ◌∙◌}
-use mathlib.Core.Bool.{Bool, true, false, cond}
-use mathlib.Core.List.{List, [], ◌∷◌, ◌++◌, append-nil, append_assoc}
+use mathlib.Core.Bool.{Bool, true, false}
+use mathlib.Core.List.{List, [], ◌++◌, append-nil, append_assoc}
 use lib.ListN.{length, take, drop, get_or, set, length-append, length-drop, take-append-drop}
 use native.Mathlib.Numerals.{add-one, unary_clauses}
 use lib.Seq.{length-take-le, take_at, take-add, take-take, take-append-le, take-append-add, drop-append-add, drop-drop, get_or-drop, paste, paste-suc}
-use lib.Dec.{leb}
-use borrow.Author.Tests.{le-leb, lt-leb, leb-true}
+use borrow.Author.Tests.{le-leb, lt-leb}
 use Rattle.numbers.specs.Numbers.{to_le}
 use Rattle.numbers.proofs.Numbers.{length_to_le}
-use Rattle.numbers.specs.Reading.{Result, ok, bad, after, raw, read_num}
-use Rattle.numbers.proofs.ReadingLaws.{or_else, after_inv, cond_inv, raw_short}
-use Rattle.numbers.specs.Places.{Within, read_from, rest_at, NumRead, over, Put}
-use Rattle.numbers.specs.PlaceLaws.{Held}
+use Rattle.numbers.specs.Reading.{bad}
+use Rattle.numbers.specs.Places.{Within, read_from, NumRead, over, Put}
 use Rattle.numbers.proofs.PlaceLaws.{inside, outside, num_holds, num_refused, put_stays, put_full, put_done, put_then, over_then}
 use Rattle.numbers.specs.declared.Refusal.{Refusal}
 use Rattle.numbers.specs.declared.Refusal.TheVariants as R
@@ -24,9 +21,9 @@ use Rattle.utf8.specs.Utf8.{utf8, sound_start, no_zero, zero_at}
 use Rattle.utf8.specs.Plain.{short_plain}
 use Rattle.utf8.proofs.Plain.{short_text}
 use Rattle.utf8.proofs.StartLaws.{zero_in}
-use Rattle.strings.specs.Strings.{ok_text, read_string, string_bytes}
+use Rattle.strings.specs.Strings.{read_string, string_bytes}
 use Rattle.strings.proofs.SpanLaws.{first_refuses, shown_in, shown_out, shown_length, passed, string_passed, passing, string_cut, start_bad, string_held, string_short, text_refused, text_passed}
-use Rattle.strings.specs.Spans.{bytes_in, show_span, show_string, check_at, Shown, TextCheck, SpanCheck, StrCheck, start_in, str_start, str_len, past_str, StrRead, SpanPut, StrPut}
+use Rattle.strings.specs.Spans.{show_span, show_string, Shown, TextCheck, SpanCheck, StrCheck, str_start, str_len, past_str, StrRead, SpanPut, StrPut}
 
 -- ---- a string's bytes, cut out to be looked at
 

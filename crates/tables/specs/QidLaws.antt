@@ -1,7 +1,7 @@
 -- An Rwalk written by steps from a table of qids is what the definition writes.
 use Prim.Native.Nat.{ℕ, zero, suc, ◌+◌, ◌*◌, ◌≤◌, ◌<◌}
 use Rattle.std.proofs.Common.{arith, ◌∙◌, length-take-le}
-use Rattle.std.specs.Prelude.{◌≡◌, true, cond, take, get_or, ltb}
+use Rattle.std.specs.Prelude.{◌≡◌, true, take, get_or, ltb}
 use Rattle.std.proofs.Math.Path.{refl, sym, ap}
 use mathlib.Core.List.{List, [], ◌∷◌, ◌++◌, append_assoc, append-nil}
 use Rattle.std.proofs.Math.ListN.{length, length-append}
@@ -9,9 +9,8 @@ use Rattle.std.proofs.Math.Seq.{take-length}
 use borrow.Author.Tests.{le-leb, lt-leb, lt-ltb, le-ltb}
 use Rattle.numbers.specs.Numbers.{to_le}
 use Rattle.numbers.proofs.Numbers.{length_to_le}
-use Rattle.numbers.specs.Reading.{ok}
 use Rattle.numbers.proofs.ReadingLaws.{or_else}
-use Rattle.numbers.specs.Places.{over, put_at, past_put, Put}
+use Rattle.numbers.specs.Places.{over, Put}
 use Rattle.numbers.proofs.PlaceLaws.{length_over, put_then}
 use Rattle.numbers.specs.declared.Refusal.{Refusal}
 use Rattle.numbers.specs.declared.Refusal.TheVariants as R

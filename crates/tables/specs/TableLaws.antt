@@ -1,13 +1,12 @@
 -- What is written from a table of names is what the definition writes.
 use Rattle.std.specs.Prelude.{ℕ, suc, ◌+◌, ◌≤◌, ◌<◌, ◌≡◌, List, [], ◌∷◌, length, drop, get_or}
-use Rattle.std.proofs.Common.{arith, sym, ap, ◌∙◌, drop-cons}
+use Rattle.std.proofs.Common.{arith, sym, ◌∙◌, drop-cons}
 use Rattle.std.proofs.Math.Seq.{drop-length}
 use borrow.Author.Tests.{lt-leb, le-leb}
 use Rattle.numbers.specs.Numbers.{Bytes, to_le}
 use Rattle.numbers.specs.Places.{Put}
 use Rattle.numbers.proofs.PlaceLaws.{one_answer}
 use Rattle.numbers.specs.declared.Refusal.{Refusal}
-use Rattle.numbers.specs.declared.Refusal.TheVariants as R
 use Rattle.numbers.specs.declared.Place.{Place}
 use Rattle.numbers.specs.declared.Place.TheVariants.{At, Refused}
 use Rattle.numbers.specs.Reading.{Result}

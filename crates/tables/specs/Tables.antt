@@ -2,7 +2,7 @@
 use Rattle.std.specs.Prelude.{ℕ, ◌≡◌, List, [], ◌∷◌, map, length, get_or}
 use Rattle.numbers.specs.Reading.{Result, ok}
 use Rattle.numbers.specs.declared.Place.{Place}
-use Rattle.fields.specs.Layouts.{Field, num, str, Layout, Item, number, counted}
+use Rattle.fields.specs.Layouts.{num, str, Layout, Item, number, counted}
 use Rattle.fields.specs.Values.{Value, val, span, shows}
 use Rattle.layouts.specs.declared.qids.Qid.{Qid}
 use Rattle.framing.specs.Writing.{frame_out, frame_past}

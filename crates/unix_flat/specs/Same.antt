@@ -1,7 +1,7 @@
 -- 9P2000.u's tables are 9P2000's with rows of its own: any other type has the row that it has in 9P2000 (F16.1). And its stat is 9P2000's with
 -- fields of its own.
 use Rattle.std.specs.Prelude.{ℕ, ◌≡◌, refl, Bool, true, false, List, [], ◌∷◌, ◌++◌, eqb}
-use Rattle.std.proofs.Common.{sym, ap, ◌∙◌, eqb-true}
+use Rattle.std.proofs.Common.{ap, ◌∙◌, eqb-true}
 use Rattle.std.proofs.Math.Option.{Option, none, some}
 use Rattle.fields.specs.Layouts.{Layout}
 use Rattle.fields.specs.Values.{Slot, Value, val, span, part, block}

@@ -1,8 +1,7 @@
 -- What of 9P2000 and 9P2000.u can be read by the other (F16.3): of four messages one is a prefix of the other; of stats neither is.
-use Rattle.std.specs.Prelude.{ℕ, ◌+◌, ◌<◌, ◌≡◌, Bool, true, false, cond, length, take}
-use Rattle.std.proofs.Common.{arith, sym, ap, ◌∙◌}
+use Rattle.std.specs.Prelude.{ℕ, ◌+◌, ◌<◌, ◌≡◌, length, take}
 use Rattle.std.proofs.Math.Path.{refl}
-use mathlib.Core.List.{List, [], ◌∷◌, ◌++◌}
+use mathlib.Core.List.{List, [], ◌∷◌}
 use Rattle.numbers.specs.Reading.{raw, read_num}
 use Rattle.fields.specs.Layouts.{follow}
 use Rattle.numbers.specs.Numbers.{Bytes}

@@ -1,15 +1,13 @@
 -- Written by tools/messages from crates/stretch/specs/One.antt.
 -- Any two answers that the promises of this crate allow are equal.
-use Rattle.std.specs.Prelude.{ℕ, ◌+◌, ◌-◌, ◌%◌, ◌≤◌, ◌≡◌, refl, List, length}
-use Rattle.std.proofs.Common.{arith, sym, ap, ◌∙◌}
+use Rattle.std.specs.Prelude.{ℕ, ◌-◌, ◌≡◌, List}
+use Rattle.std.proofs.Common.{arith, ap}
 use Rattle.numbers.proofs.PlaceLaws.{one_answer}
 use Rattle.unix_requests.specs.Built.{one_body}
 use Rattle.unix_replies.specs.Built.{one_body as one-reply}
-use Rattle.layouts.specs.declared.ids.Tag.{Tag}
 use Rattle.unix_stretch.specs.Views.{view_body, Way, view_step, StepWay, Asked}
 use Rattle.unix_stretch.specs.declared.Body.{Body}
 use Rattle.unix_stretch.specs.declared.Body.TheVariants as B
-use Rattle.unix_stretch.specs.declared.Listed.{Listed}
 use Rattle.unix_stretch.specs.declared.Step.{Step}
 use Rattle.unix_stretch.specs.declared.Step.TheVariants as S
 

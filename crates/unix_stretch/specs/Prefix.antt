@@ -1,15 +1,14 @@
 -- The law of prefixes (F16.3), over any tables: a frame read by a layout, and by the same layout with one more field after it.
-use Rattle.std.specs.Prelude.{ℕ, ◌+◌, ◌-◌, ◌^◌, ◌≤◌, ◌<◌, ◌≡◌, refl, Bool, true, false, cond, take, drop}
+use Rattle.std.specs.Prelude.{ℕ, ◌+◌, ◌-◌, ◌≤◌, ◌<◌, ◌≡◌, refl, take}
 use Rattle.std.proofs.Common.{arith, ap₂, ◌∙◌, length-take, take_at, take-take}
 use Rattle.std.proofs.Math.Path.{sym, ap}
 use mathlib.Core.List.{List, [], ◌∷◌, ◌++◌, append_assoc}
-use Rattle.std.proofs.Math.Option.{Option, some}
+use Rattle.std.proofs.Math.Option.{some}
 use Rattle.std.proofs.Math.ListN.{length, length-append}
 use Rattle.numbers.specs.Numbers.{Bytes, to_le, from_le}
 use Rattle.numbers.proofs.Numbers.{length_to_le, from_to}
-use Rattle.numbers.specs.Reading.{Result, ok, bad, after, raw, read_num}
+use Rattle.numbers.specs.Reading.{Result, ok, bad, after, read_num}
 use Rattle.numbers.proofs.ReadingLaws.{after_inv, raw_short}
-use Rattle.numbers.specs.declared.Refusal.{Refusal}
 use Rattle.numbers.specs.declared.Refusal.TheVariants as R
 use Rattle.strings.specs.Strings.{read_string, string_bytes}
 use Rattle.fields.specs.Layouts.{Field, num, str, Layout, Item, number, string, read_field, read_fields, item_bytes, items_bytes}

@@ -1,8 +1,7 @@
 -- Text with no byte above 127 is UTF-8, and text whose least byte is not 0 has no zero byte.
-use mathlib.Core.Path.{◌≡◌, sym, ◌∙◌}
+use mathlib.Core.Path.{sym, ◌∙◌}
 use mathlib.Core.Bool.{true}
 use native.Mathlib.Omega.{arith}
-use Rattle.utf8.specs.Utf8.{utf8}
 use Rattle.utf8.proofs.Utf8Laws.{ascii_text, zero_text, full_text}
 use Rattle.utf8.proofs.StartLaws.{sound_whole, sound_part}
 use Rattle.strings.proofs.Ways.{zero_lies, text_bad, text_zero, text_fine}
