@@ -1,7 +1,7 @@
 //! The two enums: bodies read by their type number and written by their case, and what the definitions say of them.
 
-use crate::names::{closed, numbered, quoted, uses, Occurrences, NOTHING};
-use crate::records::layouts;
+use crate::names::{answer_unfolding, goals, quoted, Calls};
+use crate::records::{layouts, DERIVES};
 use crate::table::{Direction, Field, Kind, Message, Table};
 use crate::Files;
 use std::collections::BTreeSet;
@@ -31,16 +31,12 @@ pub fn write(table: &Table, files: &mut Files) {
             built(direction, krate, &rows, &cases),
         );
         files.put(
-            format!("crates/{krate}/proofs/read_{small}message/Proof.antt"),
+            format!("crates/{krate}/proofs/read_{small}message/Answers.antt"),
             read_proof(table, direction, &rows),
         );
         files.put(
-            format!("crates/{krate}/proofs/write_{small}message/Proof.antt"),
+            format!("crates/{krate}/proofs/write_{small}message/Answers.antt"),
             write_proof(direction, krate, &cases),
-        );
-        files.put(
-            format!("crates/{krate}/proofs/type_of/Proof.antt"),
-            type_proof(krate, &cases),
         );
     }
     write_known(table, files);
@@ -85,7 +81,8 @@ fn source(table: &Table, direction: Direction, rows: &[&Message], cases: &[&Mess
 }
 
 fn enums(table: &Table, direction: Direction, rows: &[&Message], cases: &[&Message]) -> String {
-    let (d, many, count) = (direction.letter(), direction.enums(), rows.len());
+    let (d, s) = (direction.letter(), direction.small());
+    let (many, count) = (direction.enums(), rows.len());
     let (krate, tables) = (table.dialect.named(many), table.dialect.tables);
     let records = rows.iter().filter(|m| !m.is_empty());
     let mut uses: BTreeSet<String> = records
@@ -103,17 +100,20 @@ fn enums(table: &Table, direction: Direction, rows: &[&Message], cases: &[&Messa
     format!(
         "// The {count} {many} in one enum: a body read by its type number, and written by its case.
 
-{uses}ghost use mathlib.Core.Path.{{_≡_}};
-ghost use Rattle·laying.specs.Laying.{{Written}};
-ghost use Rattle·{tables}.{{table{d}}};
-ghost use Rattle·layouts.specs.Bodies.{{readBody, finishAt}};
-ghost use Rattle·{krate}·specs.specs.Views.{{type{d}, layout{d}, values{d}, view{d}}};
+#![tactic(auto)]
 
-pub enum {d}message {{
+ghost use Rattle.std.specs.Prelude.{{◌≡◌}};
+ghost use Rattle.laying.specs.Laying.{{Written}};
+ghost use Rattle.{tables}.{{table_{s}}};
+ghost use Rattle.layouts.specs.Bodies.{{read_body, finish_at}};
+ghost use Rattle.{krate}.specs.Views.{{type_{s}, layout_{s}, values_{s}, view_{s}}};
+
+{uses}
+{DERIVES}pub enum {d}message {{
 {holds}}}
 
 // A body that was read: the message and the position after its fields; or why it is refused, and where.
-pub enum {d}body {{
+{DERIVES}pub enum {d}body {{
     Message({d}message, usize),
     Refused(Refusal, usize),
 }}
@@ -127,7 +127,7 @@ fn read(direction: Direction, rows: &[&Message]) -> String {
     format!(
         "
 fn finish(m: {d}message, end: Place) -> {d}body
-    ensures {{ λ r. ⌜ view{d} r ≡ finishAt (type{d} m) (values{d} m) end ⌝ }}
+    ensures {{ view_{small} result ≡ finish_at (type_{small} m) (values_{small} m) end }}
 {{
     match end {{
         Place::At(n) => {d}body::Message(m, n),
@@ -137,7 +137,7 @@ fn finish(m: {d}message, end: Place) -> {d}body
 
 // The type decides the body.
 pub fn read_{small}message(s: &[u8], ty: u8, p: Place) -> {d}body
-    ensures {{ λ r. ⌜ view{d} r ≡ readBody table{d} ty (now (s .entry)) p ⌝ }}
+    ensures {{ view_{small} result ≡ read_body table_{small} ty s.now p }}
 {{
     match ty {{
 {arms}        _ => {d}body::Refused(Refusal::UnknownType, 0),
@@ -148,7 +148,7 @@ pub fn read_{small}message(s: &[u8], ty: u8, p: Place) -> {d}body
 }
 
 fn type_of(direction: Direction, cases: &[&Message]) -> String {
-    let d = direction.letter();
+    let (d, small) = (direction.letter(), direction.small());
     let arms: String = cases
         .iter()
         .map(|m| format!("        {d}message::{} => {},\n", holding(m, "_"), m.number))
@@ -157,7 +157,7 @@ fn type_of(direction: Direction, cases: &[&Message]) -> String {
         "
 // The number of a message's type.
 pub fn type_of(m: {d}message) -> u8
-    ensures {{ λ r. ⌜ r ≡ type{d} m ⌝ }}
+    ensures {{ result ≡ type_{small} m }}
 {{
     match m {{
 {arms}    }}
@@ -185,7 +185,7 @@ fn write_body(direction: Direction, cases: &[&Message]) -> String {
         "
 // A body written at a place: its fields' refusals in order, then 10, then 11; a refusal leaves the output as it was.
 pub fn write_{small}message(out: &mut [u8], p: Place, lent: &[u8], m: {d}message) -> Place
-    ensures {{ λ r. ⌜ Written (layout{d} m) (now (lent .entry)) (values{d} m) (now (out .entry)) p (now (out .exit)) r ⌝ }}
+    ensures {{ Written (layout_{small} m) lent.now (values_{small} m) out.old p out.new result }}
 {{
     match m {{
 {arms}    }}
@@ -229,7 +229,7 @@ fn values_uses(table: &Table, cases: &[&Message]) -> String {
             .collect();
         if !values.is_empty() {
             text += &format!(
-                "use Rattle·{from}.specs.Records.{{{}}}\n",
+                "use Rattle.{from}.specs.Records.{{{}}}\n",
                 values.join(", ")
             );
         }
@@ -238,55 +238,59 @@ fn values_uses(table: &Table, cases: &[&Message]) -> String {
 }
 
 fn views(table: &Table, direction: Direction, cases: &[&Message]) -> String {
-    let d = direction.letter();
+    let (d, s) = (direction.letter(), direction.small());
     let krate = &table.dialect.named(direction.enums());
+    let lists = match cases.iter().any(|m| m.is_empty()) {
+        true => "List, []",
+        false => "List",
+    };
     let mut text = format!(
-        "-- For each case of `{d}message` its number (F3.2), its layout and its values.\nuse Prim.Native.Nat.{{ℕ}}\nuse mathlib.Core.List.{{List, []}}\nuse Rattle·fields.specs.Layouts.{{Layout}}\nuse Rattle·fields.specs.Values.{{Value}}\n{}",
+        "-- For each case of `{d}message` its number (F3.2), its layout and its values.\nuse Rattle.std.specs.Prelude.{{ℕ, {lists}}}\nuse Rattle.fields.specs.Layouts.{{Layout}}\nuse Rattle.fields.specs.Values.{{Value}}\n{}",
         layouts(cases, "", "")
     );
     text += &values_uses(table, cases);
-    text += "use Rattle·layouts.specs.Bodies.{Answer, accepted, refused}\n";
+    text += "use Rattle.layouts.specs.Bodies.{Answer, accepted, refused}\n";
     text += &declared(krate, d);
-    text += &format!("\nabbrev pub type{d} : {d}message → ℕ\n");
+    text += &format!("\nabbrev pub type_{s} : {d}message → ℕ\n");
     for m in cases {
-        text += &format!("type{d} {} = {}\n", pattern(m), m.number);
+        text += &format!("type_{s} {} = {}\n", pattern(m), m.number);
     }
-    text += &format!("\nunfoldable pub layout{d} : {d}message → Layout\n");
+    text += &format!("\nunfoldable pub layout_{s} : {d}message → Layout\n");
     for m in cases {
-        text += &format!("layout{d} {} = {}\n", pattern(m), m.layout());
+        text += &format!("layout_{s} {} = {}\n", pattern(m), m.layout());
     }
-    text += &format!("\nunfoldable pub values{d} : {d}message → List Value\n");
+    text += &format!("\nunfoldable pub values_{s} : {d}message → List Value\n");
     for m in cases {
         text += &match m.is_empty() {
-            true => format!("values{d} {} = []\n", pattern(m)),
-            false => format!("values{d} {} = {} m\n", pattern(m), m.small()),
+            true => format!("values_{s} {} = []\n", pattern(m)),
+            false => format!("values_{s} {} = {} m\n", pattern(m), m.small()),
         };
     }
     text + &format!(
         "
 -- a body seen as its number, its values and where it ends; or its refusal
-unfoldable pub view{d} : {d}body → Answer
-view{d} (B.Message m n) = accepted (type{d} m) (values{d} m) n
-view{d} (B.Refused k at) = refused k at
+unfoldable pub view_{s} : {d}body → Answer
+view_{s} (B.Message m n) = accepted (type_{s} m) (values_{s} m) n
+view_{s} (B.Refused k at) = refused k at
 "
     )
 }
 
 fn declared(krate: &str, d: char) -> String {
     format!(
-        "use Rattle·{krate}·specs.specs.declared.{d}message.{{{d}message}}
-use Rattle·{krate}·specs.specs.declared.{d}message.the-variants as M
-use Rattle·{krate}·specs.specs.declared.{d}body.{{{d}body}}
-use Rattle·{krate}·specs.specs.declared.{d}body.the-variants as B
+        "use Rattle.{krate}.specs.declared.{d}message.{{{d}message}}
+use Rattle.{krate}.specs.declared.{d}message.TheVariants as M
+use Rattle.{krate}.specs.declared.{d}body.{{{d}body}}
+use Rattle.{krate}.specs.declared.{d}body.TheVariants as B
 "
     )
 }
 
 /// A field from the values of its record, of which the i-th is its first.
 fn rebuilt(f: &Field, i: usize) -> String {
-    let number = |i: usize| format!("numOf (nth {i} vs)");
+    let number = |i: usize| format!("num_of (nth {i} vs)");
     let span =
-        |i: usize| format!("record {{ start = startOf (nth {i} vs); len = lenOf (nth {i} vs) }}");
+        |i: usize| format!("record {{ start = start_of (nth {i} vs); len = len_of (nth {i} vs) }}");
     let value = match f.kind {
         Kind::Number(_) => number(i),
         Kind::Qid => format!(
@@ -297,11 +301,11 @@ fn rebuilt(f: &Field, i: usize) -> String {
         ),
         Kind::Str | Kind::Data => span(i),
         Kind::Names | Kind::Qids => format!(
-            "record {{ count = countOf (nth {i} vs); elements = {} }}",
+            "record {{ count = count_of (nth {i} vs); elements = {} }}",
             span(i)
         ),
-        Kind::Stat => format!("madeStat (slotsOf (nth {i} vs))"),
-        Kind::UnixStat => format!("madeUnix (slotsOf (nth {i} vs))"),
+        Kind::Stat => format!("made_stat (slots_of (nth {i} vs))"),
+        Kind::UnixStat => format!("made_unix (slots_of (nth {i} vs))"),
         _ => format!("record {{ 0 = {} }}", number(i)),
     };
     format!("{} = {value}", quoted(&f.name))
@@ -318,11 +322,11 @@ fn remade(m: &Message) -> String {
     let (record, small) = (m.record(), m.small());
     format!(
         "
-abbrev pub made{record} : List Value → {record}
-made{record} vs = record {{ {} }}
+abbrev pub made_{small} : List Value → {record}
+made_{small} vs = record {{ {} }}
 
-pub one-{small} : (m m' : {record}) → {small} m ≡ {small} m' → m ≡ m'
-one-{small} m m' e = ap made{record} e
+pub one_{small} : (m m' : {record}) → {small} m ≡ {small} m' → m ≡ m'
+one_{small} m m' e = ap made_{small} e
 ",
         fields.join("; ")
     )
@@ -330,38 +334,36 @@ one-{small} m m' e = ap made{record} e
 
 fn made(table: &Table, cases: &[&Message]) -> String {
     let mut text = "-- A record is determined by its values: it can be made of them again.
-use Prim.Native.Nat.{ℕ}
-use mathlib.Core.Path.{_≡_, ap}
-use mathlib.Core.List.{List}
-use lib.ListN.{getD}
-use Rattle·fields.specs.Values.{Value, val, numOf, startOf, lenOf, countOf}
+use Rattle.std.specs.Prelude.{ℕ, ◌≡◌, List, get_or}
+use Rattle.std.proofs.Common.{ap}
+use Rattle.fields.specs.Values.{Value, val, num_of, start_of, len_of, count_of}
 "
     .to_string();
     let records: Vec<_> = cases.iter().filter(|m| !m.is_empty()).collect();
     text += &values_uses(table, cases);
-    for (kind, made) in [(Kind::Stat, "madeStat"), (Kind::UnixStat, "madeUnix")] {
+    for (kind, made) in [(Kind::Stat, "made_stat"), (Kind::UnixStat, "made_unix")] {
         if records
             .iter()
             .any(|m| m.fields.iter().any(|f| f.kind == kind))
         {
-            text += &format!("use Rattle·fields.specs.Values.{{slotsOf}}\nuse Rattle·stats.specs.Stats.{{{made}}}\n");
+            text += &format!("use Rattle.fields.specs.Values.{{slots_of}}\nuse Rattle.stats.specs.Stats.{{{made}}}\n");
         }
     }
     for m in &records {
         let record = m.record();
         text += &format!(
-            "use Rattle·{}.specs.declared.{}.{record}.{{{record}}}\n",
+            "use Rattle.{}.specs.declared.{}.{record}.{{{record}}}\n",
             m.dialect, m.family
         );
     }
-    text += "\nabbrev nth : ℕ → List Value → Value\nnth i vs = getD vs i (val 0)\n";
+    text += "\nabbrev nth : ℕ → List Value → Value\nnth i vs = get_or vs i (val 0)\n";
     text + &records.iter().map(|m| remade(m)).collect::<String>()
 }
 
 fn message(m: &Message) -> String {
     match m.is_empty() {
         true => format!("M.{}", m.case),
-        false => format!("M.{} (made{} vs)", m.case, m.record()),
+        false => format!("M.{} (made_{} vs)", m.case, m.small()),
     }
 }
 
@@ -378,24 +380,21 @@ fn tests(rows: &[&Message], depth: usize) -> String {
 }
 
 fn built(direction: Direction, krate: &str, rows: &[&Message], cases: &[&Message]) -> String {
-    let d = direction.letter();
+    let (d, s) = (direction.letter(), direction.small());
     let mut text = "-- A view says all: a message can be built again from its number and its values, so two messages, and two bodies, with one view are equal.
-use Prim.Native.Nat.{ℕ}
-use mathlib.Core.Path.{_≡_, refl, sym, ap, ap₂, _∙_}
-use mathlib.Core.Bool.{true, false}
-use mathlib.Core.List.{List}
-use lib.Dec.{eqb}
-use Rattle·fields.specs.Values.{Value}
-use Rattle·layouts.specs.Bodies.{Answer, accepted, refused}
+use Rattle.std.specs.Prelude.{ℕ, ◌≡◌, refl, true, false, List, eqb}
+use Rattle.std.proofs.Common.{sym, ap, ap₂, ◌∙◌}
+use Rattle.fields.specs.Values.{Value}
+use Rattle.layouts.specs.Bodies.{Answer, accepted, refused}
 "
     .to_string();
     let made: Vec<String> = cases
         .iter()
         .filter(|m| !m.is_empty())
-        .map(|m| format!("made{}", m.record()))
+        .map(|m| format!("made_{}", m.small()))
         .collect();
     text += &format!(
-        "use Rattle·{krate}·specs.specs.Views.{{type{d}, values{d}, view{d}}}\nuse Rattle·{krate}·specs.specs.Made.{{{}}}\n{}",
+        "use Rattle.{krate}.specs.Views.{{type_{s}, values_{s}, view_{s}}}\nuse Rattle.{krate}.specs.Made.{{{}}}\n{}",
         made.join(", "),
         declared(krate, d)
     );
@@ -404,27 +403,27 @@ use Rattle·layouts.specs.Bodies.{Answer, accepted, refused}
         .lines()
         .map(|line| format!("    {line}\n"))
         .collect::<String>();
-    text += &format!("\npub rebuilt : (m : {d}message) → built (type{d} m) (values{d} m) ≡ m\nunfolding built values{d}\n");
+    text += &format!("\npub rebuilt : (m : {d}message) → built (type_{s} m) (values_{s} m) ≡ m\nunfolding built values_{s}\n");
     for m in cases {
         text += &format!("rebuilt {} = refl\n", pattern(m));
     }
     text + &format!(
         "
-pub one-message : (m m' : {d}message) → type{d} m ≡ type{d} m' → values{d} m ≡ values{d} m' → m ≡ m'
-one-message m m' e f = sym (rebuilt m) ∙ ap₂ built e f ∙ rebuilt m'
+pub one_message : (m m' : {d}message) → type_{s} m ≡ type_{s} m' → values_{s} m ≡ values_{s} m' → m ≡ m'
+one_message m m' e f = sym (rebuilt m) ∙ ap₂ built e f ∙ rebuilt m'
 
 -- the body that an answer stands for
-unfoldable pub bodyIn : Answer → {d}body
-bodyIn (accepted ty vs n) = B.Message (built ty vs) n
-bodyIn (refused k at) = B.Refused k at
+unfoldable pub body_in : Answer → {d}body
+body_in (accepted ty vs n) = B.Message (built ty vs) n
+body_in (refused k at) = B.Refused k at
 
-rebodied : (r : {d}body) → bodyIn (view{d} r) ≡ r
-unfolding bodyIn view{d}
+rebodied : (r : {d}body) → body_in (view_{s} r) ≡ r
+unfolding body_in view_{s}
 rebodied (B.Message m n) = ap (λ (x : {d}message). B.Message x n) (rebuilt m)
 rebodied (B.Refused k at) = refl
 
-pub one-body : (r r' : {d}body) → view{d} r ≡ view{d} r' → r ≡ r'
-one-body r r' e = sym (rebodied r) ∙ ap bodyIn e ∙ rebodied r'
+pub one_body : (r r' : {d}body) → view_{s} r ≡ view_{s} r' → r ≡ r'
+one_body r r' e = sym (rebodied r) ∙ ap body_in e ∙ rebodied r'
 "
     )
 }
@@ -439,25 +438,25 @@ fn known(table: &Table) -> String {
     head.replace("TABLES", table.dialect.tables)
         .replace("REQUESTS", &table.dialect.named("requests"))
         .replace("REPLIES", &table.dialect.named("replies"))
-        + &rows(Direction::T, "row-of-request", "M.")
+        + &rows(Direction::T, "row_of_request", "M.")
         + between
-        + &rows(Direction::R, "row-of-reply", "Q.")
+        + &rows(Direction::R, "row_of_reply", "Q.")
         + end
 }
 
 /// What the machine value of a record says of the values of a field: `at` is the path to the field, `limit` to the data's limit.
 fn field_fits(f: &Field, at: &str, limit: &str) -> Vec<String> {
     match f.kind {
-        Kind::Number(_) => vec![format!("{at} .fits")],
-        Kind::Qid => ["", " .1", " .1 .1"]
+        Kind::Number(_) => vec![format!("{at}.fits")],
+        Kind::Qid => ["", ".1", ".1.1"]
             .iter()
-            .map(|rest| format!("{at}{rest} .0 .fits"))
+            .map(|rest| format!("{at}{rest}.0.fits"))
             .collect(),
         Kind::Str | Kind::Names | Kind::Qids => vec!["tt".to_string()],
         Kind::Data => vec![limit.to_string()],
         Kind::Stat => vec![tupled(&stat_fits(at))],
         Kind::UnixStat => vec![tupled(&unix_fits(at))],
-        _ => vec![format!("{at} .0 .fits")],
+        _ => vec![format!("{at}.0.fits")],
     }
 }
 
@@ -465,10 +464,10 @@ fn field_fits(f: &Field, at: &str, limit: &str) -> Vec<String> {
 fn stat_fits(at: &str) -> Vec<String> {
     let mut parts = vec![];
     for i in 0..7 {
-        let at = format!("{at}{} .0", " .1".repeat(i));
+        let at = format!("{at}{}.0", ".1".repeat(i));
         match i {
-            2 => parts.extend(["", " .1", " .1 .1"].map(|rest| format!("{at}{rest} .0 .fits"))),
-            _ => parts.push(format!("{at} .fits")),
+            2 => parts.extend(["", ".1", ".1.1"].map(|rest| format!("{at}{rest}.0.fits"))),
+            _ => parts.push(format!("{at}.fits")),
         }
     }
     parts.extend(["tt"; 4].map(String::from));
@@ -477,9 +476,9 @@ fn stat_fits(at: &str) -> Vec<String> {
 
 /// The same of 9P2000.u's, which has that of 9P2000 for its first field, then a string and three numbers.
 fn unix_fits(at: &str) -> Vec<String> {
-    let mut parts = stat_fits(&format!("{at} .0"));
+    let mut parts = stat_fits(&format!("{at}.0"));
     parts.push("tt".to_string());
-    parts.extend((2..5).map(|i| format!("{at}{} .0 .fits", " .1".repeat(i))));
+    parts.extend((2..5).map(|i| format!("{at}{}.0.fits", ".1".repeat(i))));
     parts
 }
 
@@ -494,8 +493,8 @@ fn tupled(parts: &[String]) -> String {
 fn case_fits(m: &Message, law: &str) -> String {
     let mut parts: Vec<String> = vec![];
     for (i, f) in m.fields.iter().enumerate() {
-        let at = format!("g .1 .0{} .0", " .1".repeat(i));
-        let limit = format!("l{} .0", " .1".repeat(parts.len()));
+        let at = format!("g.1.0{}.0", ".1".repeat(i));
+        let limit = format!("l{}.0", ".1".repeat(parts.len()));
         parts.extend(field_fits(f, &at, &limit));
     }
     format!("{law} {} g l = {}\n", pattern(m), tupled(&parts))
@@ -505,26 +504,27 @@ fn case_fits(m: &Message, law: &str) -> String {
 fn fitting(table: &Table) -> String {
     let mut text = "-- A record's numbers fit their fields where its machine value is well typed (`WT`), as that of what a program holds is (`Held.antt`).
 use mir.Val.{WT}
-use Rattle·framing.specs.ReadBack.{Readable}
-use Rattle·framing.specs.Limits.{Limited}
+use Rattle.framing.specs.ReadBack.{Readable}
+use Rattle.framing.specs.Limits.{Limited}
 "
     .to_string();
     for (direction, letter) in [(Direction::T, 'M'), (Direction::R, 'Q')] {
         let (krate, d) = (table.dialect.named(direction.enums()), direction.letter());
+        let s = direction.small();
         text += &format!(
-            "use Rattle·{krate}.specs.Views.{{layout{d}, values{d}}}
-use Rattle·{krate}.specs.declared.{d}message.{{{d}message}}
-use Rattle·{krate}.specs.declared.{d}message.the-variants as {letter}
-use Rattle·{krate}.proofs.{d}message.Laws.{{lowered as lowered{d}}}
+            "use Rattle.{krate}.specs.Views.{{layout_{s}, values_{s}}}
+use Rattle.{krate}.specs.declared.{d}message.{{{d}message}}
+use Rattle.{krate}.specs.declared.{d}message.TheVariants as {letter}
+use Rattle.{krate}.proofs.{d}message.TheLaws.{{lowered as lowered{d}}}
 "
         );
     }
     for (direction, law, letter) in [
-        (Direction::T, "request-fits", "M."),
-        (Direction::R, "reply-fits", "Q."),
+        (Direction::T, "request_fits", "M."),
+        (Direction::R, "reply_fits", "Q."),
     ] {
-        let d = direction.letter();
-        text += &format!("\npub {law} : (m : {d}message) → WT (lowered{d} m) → Limited (layout{d} m) (values{d} m) → Readable (layout{d} m) (values{d} m)\nunfolding layout{d} values{d}\n");
+        let (d, s) = (direction.letter(), direction.small());
+        text += &format!("\npub {law} : (m : {d}message) → WT (lowered{d} m) → Limited (layout_{s} m) (values_{s} m) → Readable (layout_{s} m) (values_{s} m)\nunfolding layout_{s} values_{s}\n");
         for m in table.by_case(direction) {
             text += &case_fits(m, law).replace("M.", letter);
         }
@@ -539,12 +539,12 @@ fn known_request(table: &Table) -> String {
     format!(
         "// Whether a type is a request's: one of the {}.
 
-ghost use mathlib.Core.Path.{{_≡_}};
-ghost use Rattle·{tables}.{{tableT}};
-ghost use Rattle·pairs·specs.specs.Pairs.{{knows}};
+ghost use Rattle.std.specs.Prelude.{{◌≡◌}};
+ghost use Rattle.{tables}.{{table_t}};
+ghost use Rattle.pairs.specs.Pairs.{{knows}};
 
 pub(crate) fn known_request(ty: u8) -> bool
-    ensures {{ λ r. ⌜ r ≡ knows tableT ty ⌝ }}
+    ensures {{ result ≡ knows table_t ty }}
 {{
     match ty {{
         {} => true,
@@ -566,117 +566,69 @@ const KNOWN: [&str; 3] = [
 // ---- proofs
 
 fn read_proof(table: &Table, direction: Direction, rows: &[&Message]) -> String {
-    let (d, small) = (direction.letter(), direction.small());
+    let s = direction.small();
     let krate = &table.dialect.named(direction.enums());
-    let tables = table.dialect.tables;
-    let function = format!("read_{small}message");
-    let mut text = format!(
-        "-- Each arm is the row of its number; the rest is a number that has no row.
-use Prim.Native.Nat.{{ℕ}}
-use mathlib.Core.Path.{{_∙_}}
-use Rattle·fields.specs.FieldLaws.{{done}}
-use Rattle·{tables}.{{table{d}}}
-use Rattle·layouts.specs.BodyLaws.{{known-body, unknown-body}}
-use Rattle·{krate}·specs.specs.Views.{{values{d}, view{d}}}
-{}",
-        uses(krate, &function)
-    );
-    let mut calls = Occurrences::default();
-    let mut asked = vec![];
-    let mut answers = vec![];
-    for (i, m) in rows.iter().enumerate() {
-        let (need, finish, n, k) = (
-            numbered("returns", i + 1),
-            calls.next("finish"),
-            m.number,
-            i + 1,
-        );
-        text += &format!("\n{need} : tie.Need-{need}\nunfolding values{d}\n{need} c = ");
-        text += &match m.is_empty() {
-            true => format!("rw (c .before .match .keys{k}) (c .{finish} .ensures ∙ known-body {n} done)\n"),
-            false => format!(
-                "rw (c .before .before .before .match .keys{k}) (c .{finish} .ensures ∙ known-body {n} (c .before .before .read-{} .ensures))\n",
-                m.small()
-            ),
-        };
-        asked.extend(vec![NOTHING.to_string(); 2 - usize::from(m.is_empty())]);
-        answers.push(need);
+    let mut text = "-- Each arm is the row of its number; the rest is a number that has no row.
+use mathlib.Core.Path.{◌∙◌}
+"
+    .to_string();
+    if rows.iter().any(|m| m.is_empty()) {
+        text += "use Rattle.fields.proofs.FieldLaws.{done}\n";
     }
-    let need = numbered("returns", rows.len() + 1);
-    text += &format!("\n{need} : tie.Need-{need}\nunfolding view{d}\n{need} c = unknown-body table{d} _ _ _ (c .match .rest)\n\n");
-    answers.push(need);
-    asked.extend(answers);
-    text + &closed(&format!("read-{small}message"), &asked)
+    text += &format!(
+        "use Rattle.{}.{{table_{s}}}
+use Rattle.layouts.proofs.BodyLaws.{{known_body, unknown_body}}
+use Rattle.{krate}.specs.Views.{{values_{s}, view_{s}}}
+{}",
+        table.dialect.tables,
+        goals(krate, &format!("read_{s}message"))
+    );
+    let mut calls = Calls::default();
+    for m in rows {
+        let n = m.number;
+        let finish = calls.in_arm("finish", &n.to_string());
+        let fields = match m.is_empty() {
+            true => "done".to_string(),
+            false => format!("c.read_{}-r.ensures", m.small()),
+        };
+        text += &answer_unfolding(
+            &format!("returns-in-{n}"),
+            &format!("values_{s}"),
+            &format!("rw c.in-{n}.is (c.{finish}.ensures ∙ known_body {n} {fields})"),
+        );
+    }
+    text + &answer_unfolding(
+        "returns-in_default",
+        &format!("view_{s}"),
+        &format!("unknown_body table_{s} _ _ _ c.in_default.in_default-own.rest"),
+    )
 }
 
 fn write_proof(direction: Direction, krate: &str, cases: &[&Message]) -> String {
-    let (d, small) = (direction.letter(), direction.small());
-    let has_empty = cases.iter().any(|m| m.is_empty());
-    let mut text =
-        "-- Each arm is the record that its case holds.\nuse borrow.Author.Needs.{needs}\n"
-            .to_string();
-    if has_empty {
-        text += "use Rattle·laying.specs.WritingLaws.{written-nothing}\n";
+    let s = direction.small();
+    let mut text = "-- Each arm is the record that its case holds.\n".to_string();
+    if cases.iter().any(|m| m.is_empty()) {
+        text += "use Rattle.laying.proofs.WritingLaws.{written_nothing}\n";
     }
     text += &format!(
-        "use Rattle·{krate}·specs.specs.Views.{{layout{d}, values{d}}}\n{}",
-        uses(krate, &format!("write_{small}message"))
+        "use Rattle.{krate}.specs.Views.{{layout_{s}, values_{s}}}\n{}",
+        goals(krate, &format!("write_{s}message"))
     );
-    let (mut held, mut empty) = (0, 0);
-    let mut calls = Occurrences::default();
-    let mut asked = vec![];
-    let mut answers = vec![];
-    for (i, m) in cases.iter().enumerate() {
-        let need = numbered("returns", i + 1);
-        if m.is_empty() {
-            empty += 1;
-            let (told, call, begun) = (
-                numbered("enum-told", empty),
-                calls.next("enum-told"),
-                calls.next("begun"),
-            );
-            text += &format!("\n{told} : tie.Need-{told}\n{told} c = search needs\n\n{need} : tie.Need-{need}\nunfolding layout{d} values{d}\n");
-            text += &format!("{need} c = rw (c .before .{call} .given .1) (written-nothing (c .{begun} .ensures))\n");
-            asked.extend([told, NOTHING.to_string()]);
-        } else {
-            held += 1;
-            let (known, length, call) = (
-                numbered("enum-known-m", held),
-                numbered("same-length", held),
-                calls.next("m"),
-            );
-            text += &format!("\n{known} : tie.Need-{known}\n{known} c = search needs\n\n{length} : tie.Need-{length}\n{length} c = search needs\n\n{need} : tie.Need-{need}\nunfolding layout{d} values{d}\n");
-            text += &format!(
-                "{need} c = rw (c .before .before .before .before .before .{call} .given .1) (c .before .before .write-{} .ensures)\n",
-                m.small()
-            );
-            asked.extend([known, NOTHING.to_string()]);
-            answers.push(length);
-        }
-        answers.push(need);
-    }
-    asked.extend(answers);
-    text + "\n" + &closed(&format!("write-{small}message"), &asked)
-}
-
-fn type_proof(krate: &str, cases: &[&Message]) -> String {
-    let mut text = format!(
-        "-- Each case has the number that the definition gives it.\nuse borrow.Author.Needs.{{needs}}\n{}",
-        uses(krate, "type_of")
-    );
-    let mut calls = Occurrences::default();
-    let mut asked = vec![];
-    let mut answers = vec![];
-    for i in 1..=cases.len() {
-        let (told, need, call) = (
-            numbered("enum-told", i),
-            numbered("returns", i),
-            calls.next("enum-told"),
+    let mut calls = Calls::default();
+    for m in cases {
+        let case = &m.case;
+        let written = match m.is_empty() {
+            true => format!(
+                "(written_nothing c.{}.ensures)",
+                calls.in_arm("begun", case)
+            ),
+            false => format!("c.write_{}.ensures", m.small()),
+        };
+        text += &answer_unfolding(
+            &format!("returns-in-{case}"),
+            &format!("layout_{s} values_{s}"),
+            &format!("rw c.in-{case}.is {written}"),
         );
-        text += &format!("\n{told} : tie.Need-{told}\n{told} c = search needs\n\n{need} : tie.Need-{need}\n{need} c = rw (c .{call} .given .1)\n");
-        asked.push(told);
-        answers.push(need);
     }
-    asked.extend(answers);
-    text + "\n" + &closed("type-of", &asked)
+    text
 }

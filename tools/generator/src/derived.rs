@@ -44,8 +44,8 @@ fn said(dialect: &Dialect, text: &str) -> String {
     // What Rust calls of a dialect stands in one crate.
     for krate in ["request_exports", "reply_exports", "stretch_exports"] {
         text = text.replace(
-            &format!("Rattle·{krate}·"),
-            &format!("Rattle·{}·", dialect.named("exports")),
+            &format!("Rattle.{krate}."),
+            &format!("Rattle.{}.", dialect.named("exports")),
         );
     }
     for krate in NAMED {
@@ -56,26 +56,20 @@ fn said(dialect: &Dialect, text: &str) -> String {
         .collect()
 }
 
-/// A crate's name, where it stands for the crate: after `Rattle·`, or before `::`.
+/// A crate's name, where it stands for the crate: after `Rattle.`, or before `::`.
 fn renamed(text: &str, dialect: &Dialect, krate: &str) -> String {
     let name = dialect.named(krate);
     let mut text = text.to_string();
-    for before in ["Rattle·", " ", "(", "`"] {
-        for after in [".", "·", "::"] {
-            if (before == "Rattle·") != (after == "::") {
-                text = text.replace(
-                    &format!("{before}{krate}{after}"),
-                    &format!("{before}{name}{after}"),
-                );
-            }
-        }
+    text = text.replace(&format!("Rattle.{krate}."), &format!("Rattle.{name}."));
+    for before in [" ", "(", "`"] {
+        text = text.replace(&format!("{before}{krate}::"), &format!("{before}{name}::"));
     }
     text
 }
 
 /// A `use` line of the tables: what is a dialect's own comes from its module.
 fn tables(dialect: &Dialect, line: &str) -> String {
-    let parts = line.split_once("use Rattle·layouts.specs.Tables.{");
+    let parts = line.split_once("use Rattle.layouts.specs.Tables.{");
     let Some((before, (names, end))) = parts.and_then(|(b, rest)| Some((b, rest.split_once('}')?)))
     else {
         return line.to_string();
@@ -86,7 +80,7 @@ fn tables(dialect: &Dialect, line: &str) -> String {
     let mut text = String::new();
     for (module, names) in [(L.tables, shared), (dialect.tables, own)] {
         if !names.is_empty() {
-            text += &format!("{before}use Rattle·{module}.{{{}}}{end}", names.join(", "));
+            text += &format!("{before}use Rattle.{module}.{{{}}}{end}", names.join(", "));
         }
     }
     text

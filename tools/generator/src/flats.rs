@@ -1,6 +1,6 @@
 //! What Rust calls: records laid flat and put together, bodies read flat and written from flat values.
 
-use crate::names::{closed, closed_short, numbered, uses, Occurrences, NOTHING};
+use crate::names::{answer, goals, Calls};
 use crate::records::{layouts, type_uses};
 use crate::table::{Dialect, Direction, Field, Kind, Message, Table};
 use crate::Files;
@@ -13,15 +13,6 @@ pub fn write(table: &Table, files: &mut Files) {
             format!("crates/{flat}/src/{family}.rt"),
             family_source(table, &family),
         );
-    }
-    for m in &table.messages {
-        if let Some(at) = lengthened(m) {
-            let (place, small) = (format!("crates/{flat}/proofs/{}", m.family), m.small());
-            let proof = format!("{place}/flat_{small}/Proof.antt");
-            files.put(proof, longer_flat_proof(flat, m, at));
-            let proof = format!("{place}/{small}_of/Proof.antt");
-            files.put(proof, longer_of_proof(flat, m, at));
-        }
     }
     for direction in [Direction::T, Direction::R] {
         write_bodies(table, direction, files);
@@ -46,19 +37,23 @@ fn write_bodies(table: &Table, direction: Direction, files: &mut Files) {
             format!("crates/{krate}/src/{family}.rt"),
             readers(table, direction, &family, &held),
         );
-        for m in held {
+        for m in held.into_iter().filter(|m| fixed(m).is_some()) {
             let place = format!("crates/{krate}/proofs/{family}/read_{}", m.small());
-            files.put(format!("{place}/Proof.antt"), reader_proof(krate, m));
+            files.put(format!("{place}/Answers.antt"), reader_proof(krate, m));
         }
     }
-    files.put(
-        format!("crates/{krate}/proofs/read_flat/Proof.antt"),
-        read_proof(table, direction, krate, &rows),
-    );
-    files.put(
-        format!("crates/{krate}/proofs/write_flat/Proof.antt"),
-        write_proof(table, direction, krate, &rows),
-    );
+    let proofs = [
+        ("read_flat", read_proof(table, krate, &rows)),
+        ("write_flat", write_proof(table, krate, &rows)),
+    ];
+    for (function, proof) in proofs {
+        if let Some(proof) = proof {
+            files.put(
+                format!("crates/{krate}/proofs/{function}/Answers.antt"),
+                proof,
+            );
+        }
+    }
 }
 
 /// The constants of the crate that a family's file names.
@@ -124,12 +119,7 @@ fn family_source(table: &Table, family: &str) -> String {
     let directions = [Direction::T, Direction::R]
         .into_iter()
         .filter(|d| rows.iter().any(|m| m.direction == *d));
-    text += &constants(&table.dialect, &rows, directions);
-    let lines = family_uses(&rows);
-    for line in lines {
-        text += &format!("{line}\n");
-    }
-    text += "ghost use mathlib.Core.Path.{_≡_};\n";
+    text += "ghost use Rattle.std.specs.Prelude.{◌≡◌};\n";
     text += &layouts(&rows, "ghost ", ";");
     for krate in table.dialect.records() {
         let values: Vec<String> = rows
@@ -139,15 +129,16 @@ fn family_source(table: &Table, family: &str) -> String {
             .collect();
         if !values.is_empty() {
             text += &format!(
-                "ghost use Rattle·{krate}.specs.Records.{{{}}};\n",
+                "ghost use Rattle.{krate}.specs.Records.{{{}}};\n",
                 values.join(", ")
             );
         }
     }
-    text += match table.dialect.prefix {
-        "" => "ghost use Rattle·flat·specs.specs.Flat.{flatValues, stored, fieldValues};\n",
-        _ => "ghost use Rattle·flat.specs.Flat.{flatValues, stored, fieldValues};\n",
-    };
+    text += "ghost use Rattle.flat.specs.Flat.{flat_values, stored, field_values};\n\n";
+    text += &constants(&table.dialect, &rows, directions);
+    for line in family_uses(&rows) {
+        text += &format!("{line}\n");
+    }
     for row in rows {
         let back = match lengthened(row) {
             Some(at) => put_longer(row, at),
@@ -235,7 +226,7 @@ fn more_values(stat: &str) -> Vec<String> {
 
 fn flattened(m: &Message) -> String {
     let (record, small, width) = (m.record(), m.small(), m.direction.width());
-    let mut text = format!("pub fn flat_{small}(m: {record}, values: &mut [u64; {width}])\n    ensures {{ λ _. ⌜ now (values .exit) ≡ stored (now (values .entry)) 0 (flatValues ({small} m)) ⌝ }}\n{{\n");
+    let mut text = format!("pub fn flat_{small}(m: {record}, values: &mut [u64; {width}])\n    ensures {{ values.new ≡ stored values.old 0 (flat_values ({small} m)) }}\n{{\n");
     for f in &m.fields {
         if !matches!(f.kind, Kind::Number(_)) {
             text += &format!("    let {0} = m.{0};\n", f.name);
@@ -324,7 +315,7 @@ fn narrowed(i: usize, width: u8) -> String {
 /// The head of the function that puts a record together.
 fn head_of(m: &Message) -> String {
     let (record, small, layout, width) = (m.record(), m.small(), m.layout(), m.direction.width());
-    format!("pub fn {small}_of(v: [u64; {width}]) -> {record}\n    ensures {{ λ r. ⌜ {small} r ≡ fieldValues {layout} v ⌝ }}\n{{\n")
+    format!("pub fn {small}_of(v: [u64; {width}]) -> {record}\n    ensures {{ {small} result ≡ field_values {layout} v }}\n{{\n")
 }
 
 fn put_together(m: &Message) -> String {
@@ -429,13 +420,14 @@ fn readers(table: &Table, direction: Direction, family: &str, rows: &[&Message])
     let mut text = format!(
         "// {many} of {family}, each read flat at a place.
 
+ghost use Rattle.std.proofs.Math.Option.{{some}};
+{}ghost use Rattle.flat.specs.Flat.{{FlatRead}};
+
 use {flat}::{};
 use numbers::Place;
-ghost use mathlib.Core.Option.{{some}};
-{}ghost use Rattle·flat.specs.Flat.{{FlatRead}};
 ",
-        direction.width(),
-        layouts(rows, "ghost ", ";")
+        layouts(rows, "ghost ", ";"),
+        direction.width()
     );
     for m in rows {
         text += &reader(m, &table.dialect.flat_of(m));
@@ -461,7 +453,7 @@ fn reader(m: &Message, flat: &str) -> String {
     format!(
         "
 pub(crate) fn read_{small}(s: &[u8], p: Place, values: &mut [u64; {}]) -> Place
-    ensures {{ λ r. ⌜ FlatRead (some {}) (now (s .entry)) p (now (values .entry)) (now (values .exit)) r ⌝ }}
+    ensures {{ FlatRead (some {}) s.now p values.old values.new result }}
 {{
 {read}    let next = {next};
     let Place::At(_) = next else {{
@@ -477,45 +469,24 @@ pub(crate) fn read_{small}(s: &[u8], p: Place, values: &mut [u64; {}]) -> Place
     )
 }
 
+/// The proof of a reader that skips a record's bytes first; any other's the prover finds.
 fn reader_proof(krate: &str, m: &Message) -> String {
     let small = m.small();
-    let mut text = "-- Refused, the lent values are as they were; accepted, the record's stand at their front.\nuse borrow.Author.Needs.{needs}\n".to_string();
-    text += match fixed(m) {
-        Some(_) => "use mathlib.Core.Path.{refl}\nuse Rattle·flat.specs.FlatLaws.{flat-known, flat-refused, fields-skipped}\n",
-        None => "use Rattle·flat.specs.FlatLaws.{flat-known, flat-refused}\n",
-    };
-    text += &uses(krate, &format!("{}.read_{small}", m.family));
-    for need in ["enum-told", "enum-told-2"] {
-        text += &format!("\n{need} : tie.Need-{need}\n{need} c = search needs\n");
-    }
-    text += "\nreturns : tie.Need-returns\nreturns c = ";
-    let mut asked = vec![NOTHING; 5];
-    (asked[1], asked[2], asked[3]) = ("enum-told", "enum-told-2", "returns");
-    text += &match fixed(m) {
-        Some(_) => {
-            asked.push(NOTHING);
-            format!("flat-refused (fields-skipped refl refl (c .before .before .skip .ensures) refl) (c .enum-told2 .given .1)
-
-returns-2 : tie.Need-returns-2
-returns-2 c =
-    let r = c .before .before .before in
-    let n = r .before in
-    flat-known (fields-skipped refl refl (n .before .before .skip .ensures) (r .read-{small} .ensures .values)) (n .enum-told .given .1) (c .flat-{small} .ensures)
-
-")
-        }
-        None => format!("flat-refused (c .before .before .read-{small} .ensures) (c .enum-told2 .given .1)
-
-returns-2 : tie.Need-returns-2
-returns-2 c =
-    let n = c .before .before .before in
-    flat-known (n .before .before .read-{small} .ensures) (n .enum-told .given .1) (c .flat-{small} .ensures)
-
-"),
-    };
-    asked.push("returns-2");
-    let asked: Vec<String> = asked.into_iter().map(String::from).collect();
-    text + &closed_short(&format!("read-{small}"), &asked)
+    let mut text =
+        "-- Refused, the lent values are as they were; accepted, the record's stand at their front.
+use mathlib.Core.Path.{refl}
+use Rattle.flat.specs.FlatLaws.{flat_known, flat_refused, fields_skipped}
+"
+        .to_string();
+    text += &goals(krate, &format!("{}.read_{small}", m.family));
+    text += &answer(
+        "returns-in_default",
+        "flat_refused (fields_skipped refl refl c.skip-next.ensures refl) c.in_default.is",
+    );
+    text + &answer(
+        "returns",
+        &format!("\n    flat_known (fields_skipped refl refl c.skip-next.ensures c.read_{small}-r.ensures.values) c.in-At.is c.flat_{small}.ensures"),
+    )
 }
 
 // ---- bodies
@@ -527,7 +498,7 @@ fn bodies(table: &Table, direction: Direction, rows: &[&Message]) -> String {
 }
 
 fn bodies_head(table: &Table, direction: Direction) -> String {
-    let (d, many, width) = (direction.letter(), direction.enums(), direction.width());
+    let (small, many, width) = (direction.small(), direction.enums(), direction.width());
     let count = table.by_number(direction).len();
     let (flat, tables) = (table.dialect.room(), table.dialect.tables);
     let is_read = |m: &Message| m.direction == direction && !m.is_empty();
@@ -544,19 +515,21 @@ fn bodies_head(table: &Table, direction: Direction) -> String {
     format!(
         "// The {count} {many}, read flat and written from flat values, by their type number.
 
+#![tactic(auto)]
+
 {families}
+ghost use Rattle.layouts.specs.Tables.{{lookup}};
+ghost use Rattle.{tables}.{{table_{small}}};
+ghost use Rattle.flat.specs.Flat.{{FlatRead, FlatWritten}};
+
 use {flat}::{width};
 use numbers::Place;
-{refusal}ghost use Rattle·layouts.specs.Tables.{{lookup}};
-ghost use Rattle·{tables}.{{table{d}}};
-ghost use Rattle·flat.specs.Flat.{{FlatRead, FlatWritten}};
-"
+{refusal}"
     )
 }
 
 fn read_flat(table: &Table, direction: Direction, rows: &[&Message]) -> String {
-    let (d, small, width, enums) = (
-        direction.letter(),
+    let (small, width, enums) = (
         direction.small(),
         direction.width(),
         table.dialect.named(direction.enums()),
@@ -569,7 +542,7 @@ fn read_flat(table: &Table, direction: Direction, rows: &[&Message]) -> String {
 // refused, what was lent is as it was. The type decides the body, as in `{enums}::read_{small}message`; but its record goes flat at once,
 // and through no enum that would have to be told apart again.
 pub fn read_flat(s: &[u8], ty: u8, p: Place, values: &mut [u64; {width}]) -> Place
-    ensures {{ λ r. ⌜ FlatRead (lookup table{d} ty) (now (s .entry)) p (now (values .entry)) (now (values .exit)) r ⌝ }}
+    ensures {{ FlatRead (lookup table_{small} ty) s.now p values.old values.new result }}
 {{
     match ty {{
 {arms}        _ => {rest},
@@ -591,7 +564,7 @@ fn rest(table: &Table, direction: Direction, call: &str) -> String {
 }
 
 fn write_flat(table: &Table, direction: Direction, rows: &[&Message]) -> String {
-    let (d, width) = (direction.letter(), direction.width());
+    let (small, width) = (direction.small(), direction.width());
     let arms: String = rows
         .iter()
         .map(|m| write_arm(m, &table.dialect.flat_of(m)))
@@ -602,7 +575,7 @@ fn write_flat(table: &Table, direction: Direction, rows: &[&Message]) -> String 
 // A body written at a place from the values of its record, which lie flat: its fields' refusals in order, then 10, then 11; 3 where the
 // type is not known. A refusal leaves the output as it was.
 pub fn write_flat(out: &mut [u8], p: Place, lent: &[u8], ty: u8, values: &[u64; {width}]) -> Place
-    ensures {{ λ r. ⌜ FlatWritten (lookup table{d} ty) (now (lent .entry)) (now (values .entry)) (now (out .entry)) p (now (out .exit)) r ⌝ }}
+    ensures {{ FlatWritten (lookup table_{small} ty) lent.now values.now out.old p out.new result }}
 {{
     let v = *values;
     match ty {{
@@ -631,10 +604,7 @@ fn read_arm(m: &Message) -> String {
     }
 }
 
-/// A need, and what answers it.
-fn answered(need: &str, term: &str) -> String {
-    format!("\n{need} : tie.Need-{need}\n{need} c = {term}\n")
-}
+// ---- proofs of bodies
 
 /// What is left for the last arm of a match, in words.
 fn rest_in_words(dialect: &Dialect) -> &'static str {
@@ -644,164 +614,61 @@ fn rest_in_words(dialect: &Dialect) -> &'static str {
     }
 }
 
-fn read_proof(table: &Table, direction: Direction, krate: &str, rows: &[&Message]) -> String {
-    let mut text = format!(
-        "-- Each arm is the row of its number, read flat; {}.\n",
-        rest_in_words(&table.dialect)
-    );
-    text += &read_laws(table, direction, rows.iter().any(|m| m.is_empty()));
-    text += &uses(krate, "read_flat");
-    let mut asked = vec![];
-    let mut answers = vec![];
-    for (i, m) in rows.iter().enumerate() {
-        let (need, small, key) = (numbered("returns", i + 1), m.small(), i + 1);
+/// The answers for the rows that hold nothing; the others are what their readers ensure, which the prover finds.
+fn read_proof(table: &Table, krate: &str, rows: &[&Message]) -> Option<String> {
+    let empty = rows.iter().filter(|m| m.is_empty());
+    let arm = |m: &&Message| {
+        let n = m.number;
+        answer(
+            &format!("returns-in-{n}"),
+            &format!("rw c.in-{n}.is (flat_empty _)"),
+        )
+    };
+    let answers: String = empty.map(arm).collect();
+    (!answers.is_empty()).then(|| {
+        format!(
+            "-- Each arm is the row of its number, read flat; {}.\nuse Rattle.flat.specs.FlatLaws.{{flat_empty}}\n{}{answers}",
+            rest_in_words(&table.dialect),
+            goals(krate, "read_flat")
+        )
+    })
+}
+
+/// From so many values on, the prover doesn't find that the record made of them is the one that is written.
+const MANY: usize = 10;
+
+fn write_proof(table: &Table, krate: &str, rows: &[&Message]) -> Option<String> {
+    let mut calls = Calls::default();
+    let mut answers = String::new();
+    for m in rows {
+        let (n, small) = (m.number, m.small());
+        let many = m.fields.iter().map(count).sum::<usize>() >= MANY;
         let term = match m.is_empty() {
-            true => format!("rw (c .match .keys{key}) (flat-empty _)"),
-            false => {
-                asked.push(NOTHING.to_string());
-                format!("rw (c .before .before .match .keys{key}) (c .read-{small} .ensures)")
-            }
+            true => format!(
+                "rw c.in-{n}.is (written_known refl (written_nothing c.{}.ensures))",
+                calls.in_arm("begun", &n.to_string())
+            ),
+            false if many => format!("\n    rw c.in-{n}.is (written_known {{ns = c.args.values.now}} c.{small}_of.ensures c.write_{small}.ensures)"),
+            false => continue,
         };
-        text += &answered(&need, &term);
-        answers.push(need);
+        answers += &answer(&format!("returns-in-{n}"), &term);
     }
-    let (need, d) = (numbered("returns", rows.len() + 1), direction.letter());
-    let term = match table.dialect.over {
-        None => format!("flat-unknown table{d} _ (c .match .rest) refl"),
-        Some(_) => {
-            asked.push(NOTHING.to_string());
-            let law = format!("same-{}", direction.enums());
-            format!("rw ({law} _ (c .before .before .match .rest)) (c .read-flat .ensures)")
-        }
-    };
-    text += &answered(&need, &term);
-    answers.push(need);
-    asked.extend(answers);
-    text + "\n" + &closed("read-flat", &asked)
+    (!answers.is_empty()).then(|| {
+        format!(
+            "-- Each arm is the row of its number, written by its record's writer; {}.\n{}{}{answers}",
+            rest_in_words(&table.dialect),
+            write_laws(rows.iter().any(|m| m.is_empty())),
+            goals(krate, "write_flat")
+        )
+    })
 }
 
-fn read_laws(table: &Table, direction: Direction, has_empty: bool) -> String {
-    let (d, tables) = (direction.letter(), table.dialect.tables);
-    let empty = if has_empty { "flat-empty, " } else { "" };
-    match table.dialect.over {
-        None => format!("use mathlib.Core.Path.{{refl}}\nuse Rattle·{tables}.{{table{d}}}\nuse Rattle·flat.specs.FlatLaws.{{{empty}flat-unknown}}\n"),
-        Some(_) => below_uses(table, direction),
-    }
-}
-
-fn write_proof(table: &Table, direction: Direction, krate: &str, rows: &[&Message]) -> String {
-    let mut text = format!("-- Each arm is the row of its number, written by its record's writer; {}.\nuse borrow.Author.Needs.{{needs}}\n", rest_in_words(&table.dialect));
-    text += &write_laws(table, direction, rows.iter().any(|m| m.is_empty()));
-    text += &uses(krate, "write_flat");
-    let mut calls = Occurrences::default();
-    let mut lengths = 0;
-    let mut asked = vec![];
-    let mut answers = vec![];
-    let mut lengthwise = |text: &mut String, asked: &mut Vec<String>, answers: &mut Vec<String>| {
-        lengths += 1;
-        let length = numbered("same-length", lengths);
-        *text += &answered(&length, "search needs");
-        asked.push(NOTHING.to_string());
-        answers.push(length);
-    };
-    for (i, m) in rows.iter().enumerate() {
-        let need = numbered("returns", i + 1);
-        asked.push(NOTHING.to_string());
-        let term = match m.is_empty() {
-            true => {
-                let call = calls.next("begun");
-                format!("rw (c .before .match .keys{}) (written-known refl (written-nothing (c .{call} .ensures)))", i + 1)
-            }
-            false => {
-                lengthwise(&mut text, &mut asked, &mut answers);
-                written_term(m, i + 1)
-            }
-        };
-        text += &answered(&need, &term);
-        answers.push(need);
-    }
-    let (need, d) = (numbered("returns", rows.len() + 1), direction.letter());
-    let term = match table.dialect.over {
-        None => format!("written-unknown table{d} _ (c .match .rest) refl"),
-        Some(_) => {
-            lengthwise(&mut text, &mut asked, &mut answers);
-            let law = format!("same-{}", direction.enums());
-            format!("let w = c .before .before in rw ({law} _ (w .before .before .match .rest)) (w .write-flat .ensures)")
-        }
-    };
-    text += &answered(&need, &term);
-    answers.push(need);
-    asked.extend(answers);
-    text + "\n" + &closed("write-flat", &asked)
-}
-
-fn written_term(m: &Message, key: usize) -> String {
-    let small = m.small();
-    format!(
-        "
-    let w = c .before .before in
-    let o = w .before in
-    let m = o .before .before in
-    rw (m .match .keys{key}) (written-known {{ns = m .before .before .before .before .args .values .now}} (o .{small}-of .ensures) (w .write-{small} .ensures))"
-    )
-}
-
-fn write_laws(table: &Table, direction: Direction, has_empty: bool) -> String {
-    let (d, tables) = (direction.letter(), table.dialect.tables);
+fn write_laws(has_empty: bool) -> String {
     let empty = match has_empty {
-        true => "use Rattle·laying.specs.WritingLaws.{written-nothing}\n",
+        true => {
+            "use mathlib.Core.Path.{refl}\nuse Rattle.laying.proofs.WritingLaws.{written_nothing}\n"
+        }
         false => "",
     };
-    match table.dialect.over {
-        None => format!("use mathlib.Core.Path.{{refl}}\n{empty}use Rattle·{tables}.{{table{d}}}\nuse Rattle·flat.specs.FlatLaws.{{written-known, written-unknown}}\n"),
-        Some(_) => below_uses(table, direction) + "use Rattle·flat.specs.FlatLaws.{written-known}\n",
-    }
-}
-
-/// The law by which a type without a row of its own has that of the dialect below.
-fn below_uses(table: &Table, direction: Direction) -> String {
-    let (flat, many) = (table.dialect.named("flat"), direction.enums());
-    format!("use Rattle·{flat}.specs.Same.{{same-{many}}}\n")
-}
-
-/// What the needs of these functions that are no more than numbers in range are answered with.
-const SEARCHED: &str = "(λ c. search needs)";
-
-/// `.before` for each field that is copied out of the record beside its stat.
-fn before(m: &Message) -> String {
-    " .before".repeat(m.fields.len() - 1)
-}
-
-fn longer_flat_proof(krate: &str, m: &Message, at: usize) -> String {
-    let small = m.small();
-    let mut text =
-        "-- As 9P2000's, and the values of its own after them.\nuse borrow.Author.Needs.{needs}\n"
-            .to_string();
-    text += &format!("use Rattle·{krate}·specs.specs.Same.{{longer-stored}}\n");
-    text += &uses(krate, &format!("{}.flat_{small}", m.family));
-    text += &format!(
-        "\nreturns : tie.Need-returns\nreturns c =\n    let f = c .before .before .before in\n    longer-stored {at} (f{} .before .before .before .before .before .args .m .stat) (f .flat-{small} .ensures)\n\n",
-        before(m)
-    );
-    let mut asked = vec![NOTHING.to_string()];
-    asked.extend(vec![SEARCHED.to_string(); 8]);
-    asked.push("returns".to_string());
-    text + &closed_short(&format!("flat-{small}"), &asked)
-}
-
-fn longer_of_proof(krate: &str, m: &Message, at: usize) -> String {
-    let small = m.small();
-    let mut text =
-        "-- As 9P2000's, and the fields of its own after them.\nuse borrow.Author.Needs.{needs}\n"
-            .to_string();
-    text += &format!("use Rattle·{krate}·specs.specs.Same.{{longer-of}}\n");
-    text += &uses(krate, &format!("{}.{small}_of", m.family));
-    text += &format!(
-        "\nreturns : tie.Need-returns\nreturns c =\n    let f = c .before{} in\n    longer-of {at} (f .before .args .t1) (f .{small}-of .ensures)\n\n",
-        before(m)
-    );
-    let mut asked = vec![NOTHING.to_string()];
-    asked.extend(vec![SEARCHED.to_string(); 8]);
-    asked.push("returns".to_string());
-    text + &closed_short(&format!("{small}-of"), &asked)
+    format!("{empty}use Rattle.flat.specs.FlatLaws.{{written_known}}\n")
 }

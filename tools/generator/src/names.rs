@@ -1,60 +1,44 @@
-//! Names as the two languages want them.
+//! Names as the two languages want them, and as the prover gives them to goals and facts.
 
-use std::collections::BTreeMap;
+use std::collections::BTreeSet;
 
-/// A field's name in a definition: a word of antt's own, or one with `_`, stands in brackets.
+/// A field's name in a definition: a word of antt's own stands in brackets.
 pub fn quoted(name: &str) -> String {
-    match name.contains('_') || name == "data" {
-        true => format!("«{name}»"),
-        false => name.to_string(),
+    match name {
+        "data" => format!("«{name}»"),
+        _ => name.to_string(),
     }
 }
 
-/// The prover numbers what occurs more than once: `read-u32`, `read-u322`, `read-u323`.
+/// The calls of a match, by arm. The prover names a call after its function, and after its arm, too, where an arm before it has one of that
+/// name: `begun`, `begun-in-33`.
 #[derive(Default)]
-pub struct Occurrences(BTreeMap<String, usize>);
+pub struct Calls(BTreeSet<String>);
 
-impl Occurrences {
-    pub fn next(&mut self, name: &str) -> String {
-        let count = self.0.entry(name.to_string()).or_default();
-        *count += 1;
-        match *count {
-            1 => name.to_string(),
-            n => format!("{name}{n}"),
+impl Calls {
+    pub fn in_arm(&mut self, function: &str, arm: &str) -> String {
+        match self.0.insert(function.to_string()) {
+            true => function.to_string(),
+            false => format!("{function}-in-{arm}"),
         }
     }
 }
 
-/// The need of that number: `returns`, `returns-2`.
-pub fn numbered(name: &str, n: usize) -> String {
-    match n {
-        1 => name.to_string(),
-        n => format!("{name}-{n}"),
-    }
+/// The `use` line of a function's goals.
+pub fn goals(krate: &str, path: &str) -> String {
+    format!("use Rattle.{krate}.proofs.{path}.Goals as goal\n")
 }
 
-/// The last lines of a proof: what its needs are answered with, in order, each on a line of its own.
-pub fn closed(name: &str, answers: &[String]) -> String {
-    format!(
-        "pub {name}-spec : {{M : Type 1}} → statement M\n{name}-spec =\n    tie.close\n    (tie.spec\n    {})\n",
-        answers.join("\n    ")
-    )
+/// A goal, and what answers it, on the same line or on those below it.
+pub fn answer(goal: &str, term: &str) -> String {
+    let term = match term.starts_with('\n') {
+        true => term.to_string(),
+        false => format!(" {term}"),
+    };
+    format!("\npub {goal} : goal.{goal}\n{goal} c ={term}\n")
 }
 
-/// The same in one line.
-pub fn closed_short(name: &str, answers: &[String]) -> String {
-    format!(
-        "pub {name}-spec : {{M : Type 1}} → statement M\n{name}-spec = tie.close (tie.spec {})\n",
-        answers.join(" ")
-    )
-}
-
-/// What a need is answered with that asks nothing.
-pub const NOTHING: &str = "(λ _ _. tt)";
-
-/// The two `use` lines of every proof.
-pub fn uses(krate: &str, path: &str) -> String {
-    format!(
-        "use Rattle·{krate}·proofs.proofs.{path}.Statement.{{statement}}\nuse Rattle·{krate}·proofs.proofs.{path}.Tie as tie\n"
-    )
+/// The same where the answer unfolds definitions, which are named.
+pub fn answer_unfolding(goal: &str, definitions: &str, term: &str) -> String {
+    format!("\npub {goal} : goal.{goal}\nunfolding {definitions}\n{goal} c = {term}\n")
 }

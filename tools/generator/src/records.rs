@@ -1,6 +1,6 @@
 //! The records: their sources, what their values are, and the proofs of their readers and writers.
 
-use crate::names::{closed_short, quoted, uses, Occurrences, NOTHING};
+use crate::names::{answer, goals, quoted};
 use crate::table::{Field, Kind, Message, Table, DIALECTS};
 use crate::Files;
 use std::collections::BTreeSet;
@@ -15,13 +15,7 @@ pub fn write(table: &Table, files: &mut Files) {
                 source(table, krate, family, &rows),
             );
             for row in rows {
-                let place = format!("crates/{krate}/proofs/{family}");
-                let small = row.small();
-                files.put(format!("{place}/read_{small}/Proof.antt"), read_proof(row));
-                files.put(
-                    format!("{place}/write_{small}/Proof.antt"),
-                    write_proof(row),
-                );
+                proofs(row, files);
             }
         }
         files.put(
@@ -29,6 +23,24 @@ pub fn write(table: &Table, files: &mut Files) {
             definitions(table, krate, &families),
         );
     }
+}
+
+/// The answers of a record's functions, but for those that the prover finds itself.
+fn proofs(m: &Message, files: &mut Files) {
+    let place = format!("crates/{}/proofs/{}", m.dialect, m.family);
+    let small = m.small();
+    if !is_one_qid(m) {
+        files.put(format!("{place}/read_{small}/Answers.antt"), read_proof(m));
+    }
+    files.put(
+        format!("{place}/write_{small}/Answers.antt"),
+        write_proof(m),
+    );
+}
+
+/// Whether a record is read as what one call ensures.
+fn is_one_qid(m: &Message) -> bool {
+    matches!(&m.fields[..], [f] if f.kind == Kind::Qid)
 }
 
 /// The messages of a crate's family that hold something.
@@ -73,7 +85,7 @@ pub fn layouts(rows: &[&Message], before: &str, after: &str) -> String {
         let names: Vec<String> = of.map(|m| m.layout()).collect();
         if !names.is_empty() {
             text += &format!(
-                "{before}use Rattle·{tables}.{{{}}}{after}\n",
+                "{before}use Rattle.{tables}.{{{}}}{after}\n",
                 names.join(", ")
             );
         }
@@ -90,21 +102,24 @@ fn source(table: &Table, krate: &str, family: &str, rows: &[&Message]) -> String
     let values: Vec<String> = rows.iter().map(|m| m.small()).collect();
     let head = &table.heads[&(krate.to_string(), family.to_string())];
     let mut text = format!("// {head}\n\n");
+    text += "ghost use Rattle.fields.specs.Fields.{Fields};\n";
+    text += "ghost use Rattle.laying.specs.Laying.{Written};\n";
+    text += &layouts(rows, "ghost ", ";");
+    text += &format!(
+        "ghost use Rattle.{krate}.specs.Records.{{{}}};\n\n",
+        values.join(", ")
+    );
     for line in lines {
         text += &format!("{line}\n");
     }
-    text += "ghost use Rattle·fields.specs.Fields.{Fields};\n";
-    text += "ghost use Rattle·laying.specs.Laying.{Written};\n";
-    text += &layouts(rows, "ghost ", ";");
-    text += &format!(
-        "ghost use Rattle·{krate}·specs.specs.Records.{{{}}};\n",
-        values.join(", ")
-    );
     for row in rows {
         text += &format!("\n{}\n{}\n{}", structs(row), reader(row), writer(row));
     }
     text
 }
+
+/// What a record and what it is read as derive: they are small and plain.
+pub const DERIVES: &str = "#[derive(Clone, Copy)]\n";
 
 fn structs(m: &Message) -> String {
     let record = m.record();
@@ -114,7 +129,7 @@ fn structs(m: &Message) -> String {
         .map(|f| format!("    pub {}: {},\n", f.name, f.kind.ty()))
         .collect();
     format!(
-        "pub struct {record} {{\n{fields}}}\n\npub struct Read{record} {{\n    pub value: {record},\n    pub next: Place,\n}}\n"
+        "{DERIVES}pub struct {record} {{\n{fields}}}\n\n{DERIVES}pub struct Read{record} {{\n    pub value: {record},\n    pub next: Place,\n}}\n"
     )
 }
 
@@ -151,7 +166,7 @@ fn is_plain(f: &Field) -> bool {
 fn reader(m: &Message) -> String {
     let (record, small, layout) = (m.record(), m.small(), m.layout());
     let mut text = format!(
-        "pub fn read_{small}(s: &[u8], p: Place) -> Read{record}\n    ensures {{ λ r. ⌜ Fields {layout} (now (s .entry)) p ({small} (r .value)) (r .next) ⌝ }}\n{{\n"
+        "pub fn read_{small}(s: &[u8], p: Place) -> Read{record}\n    ensures {{ Fields {layout} s.now p ({small} result.value) result.next }}\n{{\n"
     );
     let mut before = "p".to_string();
     let mut values = vec![];
@@ -274,17 +289,13 @@ fn writer(m: &Message) -> String {
     let (record, small, layout) = (m.record(), m.small(), m.layout());
     let mut text = format!(
         "pub fn write_{small}(out: &mut [u8], p: Place, lent: &[u8], m: {record}) -> Place
-    ensures {{ λ r. ⌜ Written {layout} (now (lent .entry)) ({small} m) (now (out .entry)) p (now (out .exit)) r ⌝ }}
+    ensures {{ Written {layout} lent.now ({small} m) out.old p out.new result }}
 {{
 "
     );
     let all = steps(m);
-    let begun = all
-        .iter()
-        .position(|s| matches!(s, Step::Begun))
-        .unwrap_or(0);
-    let (mut at, mut n) = ("p".to_string(), 0);
-    for (i, step) in all.iter().enumerate() {
+    let mut at = "p".to_string();
+    for (step, local) in all.iter().zip(locals(&all)) {
         if let Step::Copy(what) = step {
             text += &match what.split_once('.') {
                 Some((_, part)) => format!("    let {part} = {what};\n"),
@@ -293,20 +304,35 @@ fn writer(m: &Message) -> String {
             continue;
         }
         let call = written_call(step, &at);
-        if i + 1 == all.len() {
-            text += &format!("    {call}\n}}\n");
-            break;
+        match local {
+            Some(local) => {
+                text += &format!("    let {local} = {call};\n");
+                at = local;
+            }
+            None => text += &format!("    {call}\n}}\n"),
+        }
+    }
+    text
+}
+
+/// The local that holds the place to which each call has come; the last call's is answered, and a copy has none.
+fn locals(all: &[Step]) -> Vec<Option<String>> {
+    let is_begun = |step: &Step| matches!(step, Step::Begun);
+    let begun = all.iter().position(is_begun).unwrap_or(0);
+    let mut n = 0;
+    let mut local = |(i, step): (usize, &Step)| {
+        if matches!(step, Step::Copy(_)) || i + 1 == all.len() {
+            return None;
         }
         n = if i == begun { 0 } else { n + 1 };
-        at = match i {
+        Some(match i {
             _ if i + 1 == begun => "end".to_string(),
             _ if i == begun => "start".to_string(),
             _ if i < begun => format!("p{n}"),
             _ => format!("q{n}"),
-        };
-        text += &format!("    let {at} = {call};\n");
-    }
-    text
+        })
+    };
+    all.iter().enumerate().map(&mut local).collect()
 }
 
 /// The call of a step at the place that it has come to.
@@ -342,15 +368,13 @@ fn written_call(step: &Step, at: &str) -> String {
 fn value(f: &Field) -> String {
     let name = quoted(&f.name);
     match f.kind {
-        Kind::Number(_) => format!("val (m .{name})"),
-        Kind::Qid => {
-            format!("val (m .{name} .ty) ∷ val (m .{name} .version) ∷ val (m .{name} .path)")
-        }
-        Kind::Str | Kind::Data => format!("spanOf (m .{name})"),
-        Kind::Names | Kind::Qids => format!("partOf (m .{name})"),
-        Kind::Stat => format!("statOf (m .{name})"),
-        Kind::UnixStat => format!("unixOf (m .{name})"),
-        _ => format!("val (m .{name} .0)"),
+        Kind::Number(_) => format!("val m.{name}"),
+        Kind::Qid => format!("val m.{name}.ty ∷ val m.{name}.version ∷ val m.{name}.path"),
+        Kind::Str | Kind::Data => format!("span_of m.{name}"),
+        Kind::Names | Kind::Qids => format!("part_of m.{name}"),
+        Kind::Stat => format!("stat_of m.{name}"),
+        Kind::UnixStat => format!("unix_of m.{name}"),
+        _ => format!("val m.{name}.0"),
     }
 }
 
@@ -359,27 +383,27 @@ fn definitions(table: &Table, krate: &str, families: &[String]) -> String {
         .iter()
         .flat_map(|family| of(table, krate, family))
         .collect();
-    let mut text = "-- A definition states for each record its values, in the order of its fields.\nuse Prim.Native.Nat.{ℕ}\nuse mathlib.Core.List.{List, [], _∷_}\nuse Rattle·fields.specs.Values.{Value, val}\n".to_string();
+    let mut text = "-- A definition states for each record its values, in the order of its fields.\nuse Rattle.std.specs.Prelude.{List, [], ◌∷◌}\nuse Rattle.fields.specs.Values.{Value, val}\n".to_string();
     let mut shown = vec![];
     if any(&all, |k| matches!(k, Kind::Str | Kind::Data)) {
-        shown.push("spanOf");
+        shown.push("span_of");
     }
     if any(&all, |k| matches!(k, Kind::Names | Kind::Qids)) {
-        shown.push("partOf");
+        shown.push("part_of");
     }
     text += &format!(
-        "use Rattle·layouts.specs.Records.{{{}}}\n",
+        "use Rattle.layouts.specs.Records.{{{}}}\n",
         shown.join(", ")
     );
-    for (kind, values) in [(Kind::Stat, "statOf"), (Kind::UnixStat, "unixOf")] {
+    for (kind, values) in [(Kind::Stat, "stat_of"), (Kind::UnixStat, "unix_of")] {
         if any(&all, |k| k == kind) {
-            text += &format!("use Rattle·stats.specs.Stats.{{{values}}}\n");
+            text += &format!("use Rattle.stats.specs.Stats.{{{values}}}\n");
         }
     }
     for m in &all {
         let record = m.record();
         text += &format!(
-            "use Rattle·{krate}·specs.specs.declared.{}.{record}.{{{record}}}\n",
+            "use Rattle.{krate}.specs.declared.{}.{record}.{{{record}}}\n",
             m.family
         );
     }
@@ -427,115 +451,46 @@ fn laws(m: &Message, all: &[Law]) -> String {
 }
 
 fn read_proof(m: &Message) -> String {
-    let small = m.small();
-    // What is copied out of an answer, but for a number, is a place of its own after the call.
-    let copied = |f: &Field| usize::from(f.kind.width().is_none());
-    let (lets, at) = places(m, copied, |f, _| 1 + copied(f));
-    let mut calls = Occurrences::default();
-    let parts: Vec<String> = (m.fields.iter().zip(&at))
-        .map(|(f, c)| {
-            let call = format!(
-                "{c} .{} .ensures",
-                calls.next(&format!("read-{}", called(f.kind)))
-            );
+    let parts: Vec<String> = (m.fields.iter().enumerate())
+        .map(|(i, f)| {
+            let call = format!("c.read_{}-r{}.ensures", called(f.kind), i + 1);
             match f.kind {
-                Kind::Qid => format!("qid-fields ({call})"),
-                Kind::Str => format!("field (string-field ({call}))"),
-                kind if kind.width().is_some() => format!("field (number-field ({call}))"),
-                _ => format!("field ({call})"),
+                Kind::Qid => format!("qid_fields {call}"),
+                Kind::Str => format!("field (string_field {call})"),
+                kind if kind.width().is_some() => format!("field (number_field {call})"),
+                _ => format!("field {call}"),
             }
         })
         .collect();
     let names = laws(
         m,
         &[
-            ("number-field", |k| k.width().is_some()),
-            ("string-field", |k| k == Kind::Str),
+            ("number_field", |k| k.width().is_some()),
+            ("string_field", |k| k == Kind::Str),
             ("field", |k| k != Kind::Qid),
-            ("qid-fields", |k| k == Kind::Qid),
+            ("qid_fields", |k| k == Kind::Qid),
             ("done", |_| true),
         ],
     );
-    let mut text = format!(
-        "-- Each field by what its reader ensures, one after another.\nuse Rattle·fields.specs.FieldLaws.{{{names}}}\n{}",
-        uses(&m.dialect, &path(m, "read"))
-    );
-    text += &body(&lets, &nested(&parts, "done"));
-    let mut answers = vec![NOTHING.to_string(); m.fields.len()];
-    answers.push("returns".into());
-    text + "\n" + &closed_short(&format!("read-{small}"), &answers)
-}
-
-fn body(lets: &str, term: &str) -> String {
-    format!("\nreturns : tie.Need-returns\nreturns c =\n{lets}    {term}\n")
-}
-
-/// `let c3 = c .before in ..`: the place after each call, the last first. `after` says how many places the last call leaves after it,
-/// `between` how many lie from a call, the one of the first field, to the next.
-fn places(
-    m: &Message,
-    after: impl Fn(&Field) -> usize,
-    between: impl Fn(&Field, &Field) -> usize,
-) -> (String, Vec<String>) {
-    let mut text = String::new();
-    let mut at = "c".to_string();
-    let mut names = vec![];
-    for (i, f) in m.fields.iter().enumerate().rev() {
-        let back = m
-            .fields
-            .get(i + 1)
-            .map_or_else(|| after(f), |next| between(f, next));
-        if back > 0 {
-            let name = format!("c{}", i + 1);
-            text += &format!("    let {name} = {at}{} in\n", " .before".repeat(back));
-            at = name;
-        }
-        names.insert(0, at.clone());
-    }
-    (text, names)
+    format!(
+        "-- Each field by what its reader ensures, one after another.\nuse Rattle.fields.proofs.FieldLaws.{{{names}}}\n{}{}",
+        goals(&m.dialect, &path(m, "read")),
+        answer("returns", &format!("\n    {}", nested(&parts, "done")))
+    )
 }
 
 /// From so many calls that put on, a proof wants a law over plain variables.
 const MANY: usize = 16;
 
-/// How many places of the prover's record a call that puts leaves after it (the output comes back), and before it (the output is lent).
-const AFTER_PUT: usize = 2;
-const BEFORE_PUT: usize = 1;
-
-/// `let q3 = c .before .before in ..`: the place after each call, the last first, and the places' names with the calls, in order; at last
-/// that of the lent bytes.
-fn call_places(all: &[Step]) -> (String, Vec<String>) {
-    let mut calls = Occurrences::default();
-    let facts: Vec<String> = all
-        .iter()
-        .map(|s| match s {
-            Step::Copy(_) => String::new(),
-            _ => calls.next(&call_of(s).replace('_', "-")),
-        })
-        .collect();
-    let (mut text, mut at, mut back) = (String::new(), "c".to_string(), 0);
-    let mut named = vec![];
-    for (i, step) in all.iter().enumerate().rev() {
-        let puts = matches!(
-            step,
-            Step::Put(..) | Step::Count(_) | Step::Bytes(_) | Step::Stat(_)
-        );
-        if let Step::Copy(_) = step {
-            back += 1;
-            continue;
-        }
-        if puts {
-            back += AFTER_PUT;
-        }
-        let calls = all[..=i].iter().filter(|s| !matches!(s, Step::Copy(_)));
-        let name = format!("c{}", calls.count());
-        text += &format!("    let {name} = {at}{} in\n", " .before".repeat(back));
-        named.insert(0, format!("({name} .{} .ensures)", facts[i]));
-        at = name;
-        back = 1 + if puts { BEFORE_PUT } else { 0 };
-    }
-    text += &format!("    let l = {at}{} in\n", " .before".repeat(back));
-    (text, named)
+/// What each call of a writer ensures, in order. The prover names a call after its function and the local that holds its answer.
+fn ensured(all: &[Step]) -> Vec<String> {
+    let steps = all.iter().zip(locals(all));
+    let calls = steps.filter(|(step, _)| !matches!(step, Step::Copy(_)));
+    let fact = |(step, local): (&Step, Option<String>)| match local {
+        Some(local) => format!("c.{}-{local}.ensures", call_of(step)),
+        None => format!("c.{}.ensures", call_of(step)),
+    };
+    calls.map(fact).collect()
 }
 
 /// The terms that the fields are measured and put by, from the facts that the calls ensure, in order; and the fact of `begun`.
@@ -550,24 +505,24 @@ fn written_by(all: &[Step], facts: &[String]) -> (String, String, Vec<String>) {
             Step::Numbers(run) => {
                 let others: String = run[1..].iter().map(|w| format!("{w} ∷ ")).collect();
                 measured.push(format!(
-                    "measure-numbers {} ({others}[]) {}",
+                    "measure_numbers {} ({others}[]) {}",
                     run[0],
                     next()
                 ));
             }
             Step::Measure(_) => measured.push(format!("measure {}", next())),
             Step::Begun => begun = next(),
-            Step::Put(..) => put.push(format!("put-number {}", next())),
+            Step::Put(..) => put.push(format!("put_number {}", next())),
             Step::Count(_) => count = next(),
-            Step::Stat(_) => put.push(format!("put-box {}", next())),
+            Step::Stat(_) => put.push(format!("put_box {}", next())),
             Step::Bytes(f) => put.push(format!(
-                "put-counted {} tt {count} {}",
+                "put_counted {} tt {count} {}",
                 kind_of(f.kind),
                 next()
             )),
         }
     }
-    (nested(&measured, "measured-none"), begun, put)
+    (nested(&measured, "measured_none"), begun, put)
 }
 
 /// The kind of field that a definition has, of what is no number.
@@ -581,9 +536,8 @@ fn kind_of(kind: Kind) -> &'static str {
 }
 
 fn write_proof(m: &Message) -> String {
-    let small = m.small();
     let all = steps(m);
-    let (lets, facts) = call_places(&all);
+    let facts = ensured(&all);
     let (measured, begun, put) = written_by(&all, &facts);
     let many = put.len() >= MANY;
     let mut text = write_uses(m, &all, many);
@@ -591,68 +545,71 @@ fn write_proof(m: &Message) -> String {
         true => {
             text += &plain_law(m, &all);
             let puts = &facts[facts.len() - put.len()..];
-            format!("all-put {}", puts.join(" "))
+            format!("all_put {}", puts.join(" "))
         }
-        false => nested(&put, "put-done"),
+        false => nested(&put, "put_done"),
     };
-    let bytes = "    let b = bytes-all (l .before .before .args .lent .now) (λ i. l .shared-slice-known .given i .fits) in\n";
-    text += &body(
-        &(lets + bytes),
-        &format!("written b ({measured}) {begun}\n    ({put})"),
-    );
-    text += "\nsame-length : tie.Need-same-length\nsame-length c = written-length (returns c)\n\n";
-    let mut answers = vec![NOTHING.to_string(); facts.len()];
-    answers.extend(["same-length".to_string(), "returns".to_string()]);
-    text + &closed_short(&format!("write-{small}"), &answers)
+    text + &answer(
+        "returns",
+        &format!(
+            "
+    let b = bytes_all c.args.lent.now (λ i. (c.type_inv.lent i).fits) in
+    written b ({measured}) {begun}
+    ({put})"
+        ),
+    )
 }
 
 /// The head of a writer's proof: what it uses, and for many fields what their law names.
 fn write_uses(m: &Message, all: &[Step], many: bool) -> String {
     let mut text =
         "-- Each field measured, then each field put, by the law of every writer.\n".to_string();
+    if many {
+        text += "-- over plain variables: said of the code itself, each field would carry the types of all that follow, which took 2.7 GB\n";
+    }
     let longest = all.iter().map(|s| match s {
         Step::Numbers(run) => run.len(),
         _ => 0,
     });
     text += match longest.max() {
-        _ if many => "use Prim.Native.Nat.{ℕ}\nuse mathlib.Core.List.{List, [], _∷_}\n",
+        _ if many => "use Prim.Native.Nat.{ℕ}\nuse mathlib.Core.List.{List, [], ◌∷◌}\n",
         None | Some(0) => "",
         Some(1) => "use mathlib.Core.List.{[]}\n",
-        Some(_) => "use mathlib.Core.List.{[], _∷_}\n",
+        Some(_) => "use mathlib.Core.List.{[], ◌∷◌}\n",
     };
-    text += match many {
-        true => "use Rattle·numbers.specs.Numbers.{bytes-all, toLE}\n",
-        false => "use Rattle·numbers.specs.Numbers.{bytes-all}\n",
-    };
+    if many {
+        text += "use Rattle.numbers.specs.Numbers.{to_le}\n";
+    }
+    text += "use Rattle.numbers.proofs.Numbers.{bytes_all}\n";
     let others = m.fields.iter().filter(|f| is_counted(f.kind));
     let kinds: BTreeSet<&str> = others.map(|f| kind_of(f.kind)).collect();
     if !kinds.is_empty() {
         let kinds: Vec<&str> = kinds.into_iter().collect();
-        text += &format!("use Rattle·fields.specs.Layouts.{{{}}}\n", kinds.join(", "));
+        text += &format!("use Rattle.fields.specs.Layouts.{{{}}}\n", kinds.join(", "));
     }
     if many {
-        text += &format!("use Rattle·numbers.specs.Places.{{Put}}\nuse Rattle·numbers.specs.declared.Place.{{Place}}\nuse Rattle·fields.specs.Values.{{val}}\nuse Rattle·laying.specs.Laying.{{PutAll}}\nuse Rattle·{}.{{{}}}\n", m.tables(), m.layout());
+        text += &format!("use Rattle.numbers.specs.Places.{{Put}}\nuse Rattle.numbers.specs.declared.Place.{{Place}}\nuse Rattle.fields.specs.Values.{{val}}\nuse Rattle.laying.specs.Laying.{{PutAll}}\nuse Rattle.{}.{{{}}}\n", m.tables(), m.layout());
     }
     text += &format!(
-        "use Rattle·laying.specs.LayingLaws.{{{}}}\nuse Rattle·laying.specs.WritingLaws.{{written, written-length}}\n",
+        "use Rattle.laying.proofs.LayingLaws.{{{}}}\nuse Rattle.laying.proofs.WritingLaws.{{written}}\n",
         written_laws(m)
     );
     if m.fields.iter().any(|f| f.kind.is_stat()) {
-        text += "use Rattle·laying.specs.BoxLaws.{put-box}\n";
+        text += "use Rattle.laying.proofs.BoxLaws.{put_box}\n";
     }
-    text + &uses(&m.dialect, &path(m, "write"))
+    text + &goals(&m.dialect, &path(m, "write"))
 }
 
 fn written_laws(m: &Message) -> String {
     laws(
         m,
         &[
-            ("measure-numbers", |k| widths(k).is_some()),
+            ("measure_numbers", |k| widths(k).is_some()),
             ("measure", |k| widths(k).is_none()),
-            ("measured-none", |_| true),
-            ("put-number", |k| widths(k).is_some()),
-            ("put-counted", is_counted),
-            ("put-done", |_| true),
+            ("measured_none", |_| true),
+            ("put_number", |k| widths(k).is_some()),
+            ("put_counted", is_counted),
+            ("put_done", |_| true),
         ],
     )
 }
@@ -675,8 +632,7 @@ fn plain_law(m: &Message, all: &[Step]) -> String {
     };
     let mut text = format!(
         "
--- over plain variables: said of the code itself, each field would carry the types of all that follow, which took 2.7 GB
-all-put : {{lent : List ℕ}} {{{} : ℕ}} {{{} : List ℕ}} {{{} : Place}}
+all_put : {{lent : List ℕ}} {{{} : ℕ}} {{{} : List ℕ}} {{{} : Place}}
 ",
         list('n', 1),
         list('o', 0),
@@ -685,17 +641,17 @@ all-put : {{lent : List ℕ}} {{{} : ℕ}} {{{} : List ℕ}} {{{} : Place}}
     let mut values = String::new();
     for (i, width) in widths.iter().enumerate() {
         let n = i + 1;
-        text += &format!("    → Put (toLE {width} n{n}) o{i} p{i} o{n} p{n}\n");
+        text += &format!("    → Put (to_le {width} n{n}) o{i} p{i} o{n} p{n}\n");
         values += &format!("val n{n} ∷ ");
     }
-    let laws: Vec<String> = (1..=count).map(|i| format!("put-number a{i}")).collect();
+    let laws: Vec<String> = (1..=count).map(|i| format!("put_number a{i}")).collect();
     text += &format!(
         "    → PutAll {} lent ({values}[]) o0 p0 o{count} p{count}\n",
         m.layout()
     );
     text + &format!(
-        "all-put {} =\n    {}\n",
+        "all_put {} =\n    {}\n",
         list('a', 1),
-        nested(&laws, "put-done")
+        nested(&laws, "put_done")
     )
 }

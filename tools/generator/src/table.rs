@@ -231,9 +231,9 @@ impl Message {
         DIALECTS.iter().find(has).map_or(L.tables, |d| d.tables)
     }
 
-    /// The layout's name in the definitions, as `layoutTversion`.
+    /// The layout's name in the definitions, as `layout_tversion`.
     pub fn layout(&self) -> String {
-        format!("layout{}", self.record())
+        format!("layout_{}", self.small())
     }
 
     /// The module that the record stands in, as `common::sessions`.
