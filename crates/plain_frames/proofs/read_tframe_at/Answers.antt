@@ -1,4 +1,4 @@
--- Written by tools/messages from crates/frames/proofs/read_tframe_at/Proof.antt.
+-- Written by tools/messages from crates/frames/proofs/read_tframe_at/Answers.antt.
 -- A header that can't be read, or a tag beside the body.
 use native.Mathlib.Omega.{arith}
 use mathlib.Core.Path.{sym}

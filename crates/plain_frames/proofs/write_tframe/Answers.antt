@@ -1,4 +1,4 @@
--- Written by tools/messages from crates/frames/proofs/write_tframe/Proof.antt.
+-- Written by tools/messages from crates/frames/proofs/write_tframe/Answers.antt.
 -- A refusal is 16; a message is a body after the header's seven bytes, then the header.
 use Rattle.framing.proofs.WritingLaws.{frame_as}
 use Rattle.plain_frames.specs.RequestLaws.{request_written, request_refused}

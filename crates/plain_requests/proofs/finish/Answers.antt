@@ -1,4 +1,4 @@
--- Written by tools/messages from crates/requests/proofs/finish/Proof.antt.
+-- Written by tools/messages from crates/requests/proofs/finish/Answers.antt.
 -- The place after the fields says which case it is.
 use Rattle.plain_requests.specs.Views.{view_t}
 use Rattle.plain_requests.proofs.finish.Goals as goal

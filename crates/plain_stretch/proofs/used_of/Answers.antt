@@ -1,4 +1,4 @@
--- Written by tools/messages from crates/stretch/proofs/used_of/Proof.antt.
+-- Written by tools/messages from crates/stretch/proofs/used_of/Answers.antt.
 -- In each direction: the bytes used, or the size where the body is refused.
 use Rattle.plain_stretch.specs.StepLaws.{leaves_request, leaves_no_request, leaves_reply, leaves_no_reply}
 use Rattle.plain_stretch.proofs.used_of.Goals as goal

@@ -1,4 +1,4 @@
--- Written by tools/messages from crates/frames/proofs/read_rframe/Proof.antt.
+-- Written by tools/messages from crates/frames/proofs/read_rframe/Answers.antt.
 -- At 0, nothing is raised.
 use mathlib.Core.Path.{ap, ◌∙◌}
 use Rattle.framing.proofs.RaisedLaws.{single}

@@ -1,4 +1,4 @@
--- Written by tools/messages from crates/frames/proofs/read_rframe_at/Proof.antt.
+-- Written by tools/messages from crates/frames/proofs/read_rframe_at/Answers.antt.
 -- A header that can't be read, a body that is refused, or a reply.
 use native.Mathlib.Omega.{arith}
 use mathlib.Core.Path.{sym}

@@ -1,4 +1,4 @@
--- Written by tools/messages from crates/frames/proofs/read_tframe/Proof.antt.
+-- Written by tools/messages from crates/frames/proofs/read_tframe/Answers.antt.
 -- At 0, nothing is raised.
 use mathlib.Core.Path.{◌∙◌}
 use Rattle.framing.proofs.RaisedLaws.{single}

@@ -1,4 +1,4 @@
--- Written by tools/messages from crates/frames/proofs/reply_at/Proof.antt.
+-- Written by tools/messages from crates/frames/proofs/reply_at/Answers.antt.
 -- The bytes used of a message, or its refusal.
 use Rattle.unix_frames.specs.FrameLaws.{reply_message, reply_none}
 use Rattle.unix_frames.proofs.reply_at.Goals as goal

@@ -1,4 +1,4 @@
--- Written by tools/messages from crates/frames/proofs/request_at/Proof.antt.
+-- Written by tools/messages from crates/frames/proofs/request_at/Answers.antt.
 -- The bytes used of a message, or its refusal.
 use Rattle.unix_frames.specs.FrameLaws.{request_message, request_none}
 use Rattle.unix_frames.proofs.request_at.Goals as goal

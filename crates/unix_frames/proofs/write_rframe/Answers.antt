@@ -1,4 +1,4 @@
--- Written by tools/messages from crates/frames/proofs/write_rframe/Proof.antt.
+-- Written by tools/messages from crates/frames/proofs/write_rframe/Answers.antt.
 -- The body after the header's seven bytes, then the header.
 use Rattle.framing.proofs.WritingLaws.{frame_as}
 use Rattle.unix_frames.proofs.write_rframe.Goals as goal

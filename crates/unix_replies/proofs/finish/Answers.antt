@@ -1,4 +1,4 @@
--- Written by tools/messages from crates/replies/proofs/finish/Proof.antt.
+-- Written by tools/messages from crates/replies/proofs/finish/Answers.antt.
 -- The place after the fields says which case it is.
 use Rattle.unix_replies.specs.Views.{view_r}
 use Rattle.unix_replies.proofs.finish.Goals as goal

@@ -1,4 +1,4 @@
--- Written by tools/messages from crates/stretch/proofs/frame_at/Proof.antt.
+-- Written by tools/messages from crates/stretch/proofs/frame_at/Answers.antt.
 -- A whole frame, the end, or a refusal, as the cut says.
 use mathlib.Core.Path.{sym}
 use lib.Seq.{length-take-le}

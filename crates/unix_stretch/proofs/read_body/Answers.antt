@@ -1,4 +1,4 @@
--- Written by tools/messages from crates/stretch/proofs/read_body/Proof.antt.
+-- Written by tools/messages from crates/stretch/proofs/read_body/Answers.antt.
 -- An even type is read as a request, any other as a reply.
 use Rattle.unix_stretch.specs.StepLaws.{request_body, reply_body}
 use Rattle.unix_stretch.proofs.read_body.Goals as goal
