@@ -30,12 +30,14 @@ pub fn write(table: &Table, files: &mut Files) {
             format!("crates/{krate}/specs/Built.antt"),
             built(direction, krate, &rows, &cases),
         );
-        files.put(
-            format!("crates/{krate}/proofs/read_{small}message/Answers.antt"),
+        files.answers(
+            krate,
+            &format!("read_{small}message"),
             read_proof(table, direction, &rows),
         );
-        files.put(
-            format!("crates/{krate}/proofs/write_{small}message/Answers.antt"),
+        files.answers(
+            krate,
+            &format!("write_{small}message"),
             write_proof(direction, krate, &cases),
         );
     }

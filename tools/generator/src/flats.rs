@@ -38,20 +38,17 @@ fn write_bodies(table: &Table, direction: Direction, files: &mut Files) {
             readers(table, direction, &family, &held),
         );
         for m in held.into_iter().filter(|m| fixed(m).is_some()) {
-            let place = format!("crates/{krate}/proofs/{family}/read_{}", m.small());
-            files.put(format!("{place}/Answers.antt"), reader_proof(krate, m));
+            let path = format!("{family}.read_{}", m.small());
+            files.answers(krate, &path, reader_proof(krate, m));
         }
     }
-    let proofs = [
+    let answers = [
         ("read_flat", read_proof(table, krate, &rows)),
         ("write_flat", write_proof(table, krate, &rows)),
     ];
-    for (function, proof) in proofs {
-        if let Some(proof) = proof {
-            files.put(
-                format!("crates/{krate}/proofs/{function}/Answers.antt"),
-                proof,
-            );
+    for (function, text) in answers {
+        if let Some(text) = text {
+            files.answers(krate, function, text);
         }
     }
 }
@@ -614,48 +611,50 @@ fn rest_in_words(dialect: &Dialect) -> &'static str {
     }
 }
 
-/// The answers for the rows that hold nothing; the others are what their readers ensure, which the prover finds.
+/// An arm's answer: the type is its number, and a law says the rest.
+fn arm(m: &Message, between: &str, law: &str) -> String {
+    let n = m.number;
+    let term = format!("{between}rw c.in-{n}.is ({law})");
+    answer(&format!("returns-in-{n}"), &term)
+}
+
+/// The answers for the rows that hold nothing, if there are any. For the others the prover finds them.
 fn read_proof(table: &Table, krate: &str, rows: &[&Message]) -> Option<String> {
     let empty = rows.iter().filter(|m| m.is_empty());
-    let arm = |m: &&Message| {
-        let n = m.number;
-        answer(
-            &format!("returns-in-{n}"),
-            &format!("rw c.in-{n}.is (flat_empty _)"),
-        )
-    };
-    let answers: String = empty.map(arm).collect();
-    (!answers.is_empty()).then(|| {
+    let arms: String = empty.map(|m| arm(m, "", "flat_empty _")).collect();
+    (!arms.is_empty()).then(|| {
         format!(
-            "-- Each arm is the row of its number, read flat; {}.\nuse Rattle.flat.specs.FlatLaws.{{flat_empty}}\n{}{answers}",
+            "-- Each arm is the row of its number, read flat; {}.\nuse Rattle.flat.specs.FlatLaws.{{flat_empty}}\n{}{arms}",
             rest_in_words(&table.dialect),
             goals(krate, "read_flat")
         )
     })
 }
 
-/// From so many values on, the prover doesn't find that the record made of them is the one that is written.
+/// From so many values on, the prover doesn't find that the record which is written is made of them.
 const MANY: usize = 10;
 
+/// The answers for the rows that hold nothing, or many values. For the others the prover finds them.
 fn write_proof(table: &Table, krate: &str, rows: &[&Message]) -> Option<String> {
     let mut calls = Calls::default();
-    let mut answers = String::new();
-    for m in rows {
-        let (n, small) = (m.number, m.small());
-        let many = m.fields.iter().map(count).sum::<usize>() >= MANY;
-        let term = match m.is_empty() {
-            true => format!(
-                "rw c.in-{n}.is (written_known refl (written_nothing c.{}.ensures))",
-                calls.in_arm("begun", &n.to_string())
-            ),
-            false if many => format!("\n    rw c.in-{n}.is (written_known {{ns = c.args.values.now}} c.{small}_of.ensures c.write_{small}.ensures)"),
-            false => continue,
-        };
-        answers += &answer(&format!("returns-in-{n}"), &term);
-    }
-    (!answers.is_empty()).then(|| {
+    let mut written = |m: &&Message| match m.fields.iter().map(count).sum() {
+        0 => {
+            let call = calls.in_arm("begun", &m.number.to_string());
+            let law = format!("written_known refl (written_nothing c.{call}.ensures)");
+            arm(m, "", &law)
+        }
+        MANY.. => {
+            let (values, small) = ("{ns = c.args.values.now}", m.small());
+            let law =
+                format!("written_known {values} c.{small}_of.ensures c.write_{small}.ensures");
+            arm(m, "\n    ", &law)
+        }
+        _ => String::new(),
+    };
+    let arms: String = rows.iter().map(&mut written).collect();
+    (!arms.is_empty()).then(|| {
         format!(
-            "-- Each arm is the row of its number, written by its record's writer; {}.\n{}{}{answers}",
+            "-- Each arm is the row of its number, written by its record's writer; {}.\n{}{}{arms}",
             rest_in_words(&table.dialect),
             write_laws(rows.iter().any(|m| m.is_empty())),
             goals(krate, "write_flat")

@@ -28,6 +28,12 @@ impl Files {
         self.0.push((path, head + &text));
     }
 
+    /// What answers the goals of a function, by its crate and its path there, as `sessions.read_tversion`.
+    pub fn answers(&mut self, krate: &str, path: &str, text: String) {
+        let folder = path.replace('.', "/");
+        self.put(format!("crates/{krate}/proofs/{folder}/Answers.antt"), text);
+    }
+
     /// One that is another file's text in the words of a dialect.
     pub fn derive(&mut self, path: String, from: &str, text: String) {
         let comment = if path.ends_with(".antt") { "--" } else { "//" };

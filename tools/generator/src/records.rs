@@ -15,7 +15,7 @@ pub fn write(table: &Table, files: &mut Files) {
                 source(table, krate, family, &rows),
             );
             for row in rows {
-                proofs(row, files);
+                write_answers(row, files);
             }
         }
         files.put(
@@ -25,22 +25,12 @@ pub fn write(table: &Table, files: &mut Files) {
     }
 }
 
-/// The answers of a record's functions, but for those that the prover finds itself.
-fn proofs(m: &Message, files: &mut Files) {
-    let place = format!("crates/{}/proofs/{}", m.dialect, m.family);
-    let small = m.small();
-    if !is_one_qid(m) {
-        files.put(format!("{place}/read_{small}/Answers.antt"), read_proof(m));
+/// The answers of a record's reader and writer. The prover finds those of a reader that reads a qid and nothing else.
+fn write_answers(m: &Message, files: &mut Files) {
+    if !matches!(&m.fields[..], [f] if f.kind == Kind::Qid) {
+        files.answers(&m.dialect, &path(m, "read"), read_proof(m));
     }
-    files.put(
-        format!("{place}/write_{small}/Answers.antt"),
-        write_proof(m),
-    );
-}
-
-/// Whether a record is read as what one call ensures.
-fn is_one_qid(m: &Message) -> bool {
-    matches!(&m.fields[..], [f] if f.kind == Kind::Qid)
+    files.answers(&m.dialect, &path(m, "write"), write_proof(m));
 }
 
 /// The messages of a crate's family that hold something.
@@ -118,7 +108,7 @@ fn source(table: &Table, krate: &str, family: &str, rows: &[&Message]) -> String
     text
 }
 
-/// What a record and what it is read as derive: they are small and plain.
+/// What every type here derives: it is small and plain.
 pub const DERIVES: &str = "#[derive(Clone, Copy)]\n";
 
 fn structs(m: &Message) -> String {
