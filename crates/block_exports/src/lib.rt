@@ -21,12 +21,7 @@ pub struct Packed {
 
 // `held` says that there is an entry, and then the place is the next position; at the end, where there is none, it is the position itself.
 // Where there is no entry, the values are as they were.
-#[unsafe(no_mangle)]
-pub extern "C" fn sheafsledge_entry_at(
-    block: &[u8],
-    position: usize,
-    values: &mut [u64; 7],
-) -> Outcome
+pub fn sheafsledge_entry_at(block: &[u8], position: usize, values: &mut [u64; 7]) -> Outcome
     ensures { EntryRead block.now position values.old values.new result }
 {
     let step = blocks::entry_at(block, position);
@@ -41,13 +36,7 @@ pub extern "C" fn sheafsledge_entry_at(
     }
 }
 
-#[unsafe(no_mangle)]
-pub extern "C" fn sheafsledge_pack(
-    out: &mut [u8],
-    count: u32,
-    names: &[u8],
-    entries: &[[u64; 7]],
-) -> Packed
+pub fn sheafsledge_pack(out: &mut [u8], count: u32, names: &[u8], entries: &[[u64; 7]]) -> Packed
     ensures { PackWritten count names.now entries.now out.old out.new result }
 {
     let packing = blocks::pack(out, count, names, entries);

@@ -10,8 +10,7 @@ use exports::Outcome;
 use numbers::Place;
 
 // The place that is answered is that after the stretch: so many bytes it has. How many frames goes to `frames`, which a refusal leaves as it was.
-#[unsafe(no_mangle)]
-pub extern "C" fn sheafsledge_import(
+pub fn sheafsledge_import(
     out: &mut [u8],
     times: &mut [[u32; 2]],
     file: &[u8],
@@ -30,8 +29,7 @@ pub extern "C" fn sheafsledge_import(
 }
 
 // The place after the file.
-#[unsafe(no_mangle)]
-pub extern "C" fn sheafsledge_export(out: &mut [u8], stretch: &[u8], times: &[[u32; 2]]) -> Outcome
+pub fn sheafsledge_export(out: &mut [u8], stretch: &[u8], times: &[[u32; 2]]) -> Outcome
     ensures { ExportMade stretch.now times.now out.old out.new result }
 {
     exports::ended(captures::export(out, stretch, times))

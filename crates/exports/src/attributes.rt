@@ -11,8 +11,7 @@ use numbers::Place;
 const RGETATTR: u8 = 25;
 
 // As `sheafsledge_write_rframe` writes it, from its record's values; they have no spans, so that the lent bytes may be none.
-#[unsafe(no_mangle)]
-pub extern "C" fn sheafsledge_write_rgetattr(
+pub fn sheafsledge_write_rgetattr(
     out: &mut [u8],
     lent: &[u8],
     tag: Tag,

@@ -10,8 +10,7 @@ use layouts::dirents;
 use numbers::Place;
 
 // Refused, the values are as they were.
-#[unsafe(no_mangle)]
-pub extern "C" fn sheafsledge_read_dirent(bytes: &[u8], at: usize, values: &mut [u64; 7]) -> Outcome
+pub fn sheafsledge_read_dirent(bytes: &[u8], at: usize, values: &mut [u64; 7]) -> Outcome
     ensures { FieldsRead layout_dirent bytes.now (At at) values.old values.new result }
 {
     let r = dirents::read_dirent(bytes, Place::At(at));
@@ -24,8 +23,7 @@ pub extern "C" fn sheafsledge_read_dirent(bytes: &[u8], at: usize, values: &mut 
 }
 
 // The place that is answered is the one after the entry.
-#[unsafe(no_mangle)]
-pub extern "C" fn sheafsledge_write_dirent(
+pub fn sheafsledge_write_dirent(
     out: &mut [u8],
     at: usize,
     lent: &[u8],

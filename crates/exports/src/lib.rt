@@ -60,8 +60,7 @@ pub fn ended(p: Place) -> Outcome
 
 // The number of the boundary between this library and Rust. The name holds it, so that Rust does not link with a library of another
 // boundary. It rises whenever a function or a struct that crosses changes.
-#[unsafe(no_mangle)]
-pub extern "C" fn sheafsledge_boundary_4() -> u32
+pub fn sheafsledge_boundary_4() -> u32
     ensures { result ≡ 4 }
 {
     4

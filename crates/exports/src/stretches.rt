@@ -14,8 +14,7 @@ use pairs::Mark;
 
 // The frame is the bytes from the position to the place; at the end, where there is none, the place is the position. What is in it, the
 // reader of its direction in `stretch_exports` says, lent the bytes up to that place (`listed_there`).
-#[unsafe(no_mangle)]
-pub extern "C" fn sheafsledge_frame_at(bytes: &[u8], position: usize) -> Outcome
+pub fn sheafsledge_frame_at(bytes: &[u8], position: usize) -> Outcome
     ensures { result ≡ step_outcome (frame_at table_t table_r bytes.now position) }
 {
     let cut = framing::cut_at(bytes, position);
@@ -40,13 +39,7 @@ fn stopped(k: Refusal, position: usize) -> Outcome
     }
 }
 
-#[unsafe(no_mangle)]
-pub extern "C" fn sheafsledge_answers(
-    request_ty: u8,
-    request_tag: Tag,
-    reply_ty: u8,
-    reply_tag: Tag,
-) -> bool
+pub fn sheafsledge_answers(request_ty: u8, request_tag: Tag, reply_ty: u8, reply_tag: Tag) -> bool
     ensures { result ≡ pairs table_t rlerror request_ty request_tag.0 reply_ty reply_tag.0 }
 {
     let request = Mark {

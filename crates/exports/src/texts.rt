@@ -3,8 +3,7 @@
 ghost use Rattle.std.specs.Prelude.{◌≡◌};
 ghost use Rattle.utf8.specs.Utf8.{utf8};
 
-#[unsafe(no_mangle)]
-pub extern "C" fn sheafsledge_is_utf8(bytes: &[u8]) -> bool
+pub fn sheafsledge_is_utf8(bytes: &[u8]) -> bool
     ensures { result ≡ utf8 bytes.now }
 {
     utf8::is_utf8(bytes)

@@ -37,8 +37,7 @@ fn spanned(e: Element, span: &mut [u64; 2]) -> Outcome
 }
 
 // Name `i` of a vector of strings, without its count.
-#[unsafe(no_mangle)]
-pub extern "C" fn sheafsledge_name_at(
+pub fn sheafsledge_name_at(
     lent: &[u8],
     count: u16,
     start: usize,
@@ -54,8 +53,7 @@ pub extern "C" fn sheafsledge_name_at(
 }
 
 // Qid `i` of a vector of qids, whole.
-#[unsafe(no_mangle)]
-pub extern "C" fn sheafsledge_qid_at(
+pub fn sheafsledge_qid_at(
     lent: &[u8],
     count: u16,
     start: usize,
@@ -79,8 +77,7 @@ fn flat_qid(v: Qid, values: &mut [u64; 3])
 }
 
 // Refused, the values are as they were.
-#[unsafe(no_mangle)]
-pub extern "C" fn sheafsledge_read_qid(bytes: &[u8], at: usize, values: &mut [u64; 3]) -> Outcome
+pub fn sheafsledge_read_qid(bytes: &[u8], at: usize, values: &mut [u64; 3]) -> Outcome
     ensures { FieldsRead q bytes.now (At at) values.old values.new result }
 {
     let r = qids::read_qid(bytes, Place::At(at));
@@ -93,8 +90,7 @@ pub extern "C" fn sheafsledge_read_qid(bytes: &[u8], at: usize, values: &mut [u6
 }
 
 // A Twalk whose names are spans of the lent bytes: a row of the table is a start and a length.
-#[unsafe(no_mangle)]
-pub extern "C" fn sheafsledge_write_twalk(
+pub fn sheafsledge_write_twalk(
     out: &mut [u8],
     lent: &[u8],
     tag: Tag,
@@ -108,8 +104,7 @@ pub extern "C" fn sheafsledge_write_twalk(
 }
 
 // An Rwalk whose qids are a table of structs. It has no branch: a slice of structs is walked by hand.
-#[unsafe(no_mangle)]
-pub extern "C" fn sheafsledge_write_rwalk(out: &mut [u8], tag: u16, qids: &[Qid]) -> Outcome
+pub fn sheafsledge_write_rwalk(out: &mut [u8], tag: u16, qids: &[Qid]) -> Outcome
     ensures { TableWrote 111 tag (rwalk_of qids.now) out.old out.new result }
 {
     crate::ended(tables::write_rwalk(out, Tag(tag), qids))

@@ -10,20 +10,13 @@ ghost use Rattle.planning_exports.specs.Plans.{PlanMade};
 use exports::Outcome;
 
 // The place that is answered is the row after the plan's last: so many pieces it has.
-#[unsafe(no_mangle)]
-pub extern "C" fn sheafsledge_plan(
-    table: &mut [[u64; 2]],
-    first: u64,
-    len: u64,
-    msize: u32,
-) -> Outcome
+pub fn sheafsledge_plan(table: &mut [[u64; 2]], first: u64, len: u64, msize: u32) -> Outcome
     ensures { PlanMade table.old first len msize table.new result }
 {
     exports::ended(planning::plan(table, first, len, msize))
 }
 
-#[unsafe(no_mangle)]
-pub extern "C" fn sheafsledge_accepts(pieces: &[[u64; 2]], first: u64, len: u64, msize: u32) -> bool
+pub fn sheafsledge_accepts(pieces: &[[u64; 2]], first: u64, len: u64, msize: u32) -> bool
     ensures { result ≡ accepted pieces.now first len msize }
 {
     planning::accepts(pieces, first, len, msize)

@@ -15,8 +15,7 @@ use numbers::{Place, Refusal};
 
 // What `frames::read_rframe` answers, as `request_exports` has it for requests; but a reply whose body is refused is refused whole, and has no
 // tag.
-#[unsafe(no_mangle)]
-pub extern "C" fn sheafsledge_read_rframe(bytes: &[u8], values: &mut [u64; WIDTH_R]) -> Outcome
+pub fn sheafsledge_read_rframe(bytes: &[u8], values: &mut [u64; WIDTH_R]) -> Outcome
     ensures { FrameRead (refused_whole (read_frame table_r bytes.now)) values.old values.new result }
 {
     let head = framing::read_header(bytes);
@@ -33,8 +32,7 @@ pub extern "C" fn sheafsledge_read_rframe(bytes: &[u8], values: &mut [u64; WIDTH
 }
 
 // Written from the values of its record, in the same way as a request.
-#[unsafe(no_mangle)]
-pub extern "C" fn sheafsledge_write_rframe(
+pub fn sheafsledge_write_rframe(
     out: &mut [u8],
     lent: &[u8],
     refusal: u8,

@@ -16,8 +16,7 @@ use numbers::{Place, Refusal};
 
 // What `frames::read_tframe` answers. A record goes flat in the arm that reads it, and through no enum; where the frame is refused, the
 // values are as they were. If its body is, it still has its tag.
-#[unsafe(no_mangle)]
-pub extern "C" fn sheafsledge_read_tframe(bytes: &[u8], values: &mut [u64; WIDTH_T]) -> Outcome
+pub fn sheafsledge_read_tframe(bytes: &[u8], values: &mut [u64; WIDTH_T]) -> Outcome
     ensures { FrameRead (read_frame table_t bytes.now) values.old values.new result }
 {
     let head = framing::read_header(bytes);
@@ -32,8 +31,7 @@ pub extern "C" fn sheafsledge_read_tframe(bytes: &[u8], values: &mut [u64; WIDTH
 
 // Written from the values of its record, which are lent, not handed over: C would copy them for each call. 16 if it holds a refusal, 3 if
 // its type is unknown; else as its record is written.
-#[unsafe(no_mangle)]
-pub extern "C" fn sheafsledge_write_tframe(
+pub fn sheafsledge_write_tframe(
     out: &mut [u8],
     lent: &[u8],
     refusal: u8,
@@ -53,8 +51,7 @@ pub extern "C" fn sheafsledge_write_tframe(
 // A request of two strings that lie apart, and so are lent apart: the first is all of `first`, the second all of `second`. It is written as
 // `sheafsledge_write_tframe` writes it with the second slice after the first. Of the values, those of the two spans are not looked at. 3 if
 // the type is none of the four with two strings.
-#[unsafe(no_mangle)]
-pub extern "C" fn sheafsledge_write_two(
+pub fn sheafsledge_write_two(
     out: &mut [u8],
     first: &[u8],
     second: &[u8],

@@ -37,8 +37,7 @@ pub struct Followed {
     pub told: Told,
 }
 
-#[unsafe(no_mangle)]
-pub extern "C" fn sheafsledge_session() -> Session
+pub fn sheafsledge_session() -> Session
     ensures { result ≡ fresh }
 {
     session::fresh()
@@ -102,8 +101,7 @@ fn follow(s: Session, stretch: &[u8], l: Listed) -> Followed
 }
 
 // The frame at a position of the stretch, followed.
-#[unsafe(no_mangle)]
-pub extern "C" fn sheafsledge_follow(s: Session, stretch: &[u8], position: usize) -> Followed
+pub fn sheafsledge_follow(s: Session, stretch: &[u8], position: usize) -> Followed
     ensures { result ≡ followed_at stretch.now s (frame_at table_t table_r stretch.now position) }
 {
     let step = stretch::frame_at(stretch, position);
@@ -121,22 +119,19 @@ pub extern "C" fn sheafsledge_follow(s: Session, stretch: &[u8], position: usize
 }
 
 // The place that is answered is that after the path: so many bytes it has.
-#[unsafe(no_mangle)]
-pub extern "C" fn sheafsledge_path(out: &mut [u8], s: Session, fid: u32, stretch: &[u8]) -> Outcome
+pub fn sheafsledge_path(out: &mut [u8], s: Session, fid: u32, stretch: &[u8]) -> Outcome
     ensures { PathMade stretch.now s fid out.old out.new result }
 {
     exports::ended(session::write_path(out, s, fid, stretch))
 }
 
-#[unsafe(no_mangle)]
-pub extern "C" fn sheafsledge_sealed(file: &[u8]) -> bool
+pub fn sheafsledge_sealed(file: &[u8]) -> bool
     ensures { result ≡ sealed file.now }
 {
     sealing::sealed(file)
 }
 
-#[unsafe(no_mangle)]
-pub extern "C" fn sheafsledge_trailer(out: &mut [u8], stretch: &[u8]) -> Outcome
+pub fn sheafsledge_trailer(out: &mut [u8], stretch: &[u8]) -> Outcome
     ensures { TrailerMade stretch.now out.old out.new result }
 {
     exports::ended(sealing::write_trailer(out, stretch))

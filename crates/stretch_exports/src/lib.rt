@@ -12,8 +12,7 @@ use flat::{WIDTH_R, WIDTH_T};
 
 // The body of the request that stands from `at` to the end of the bytes: its values count from the first of these, the bytes used from `at`.
 // Where it is refused, the values are as they were.
-#[unsafe(no_mangle)]
-pub extern "C" fn sheafsledge_read_tbody(
+pub fn sheafsledge_read_tbody(
     bytes: &[u8],
     at: usize,
     ty: u8,
@@ -27,8 +26,7 @@ pub extern "C" fn sheafsledge_read_tbody(
 }
 
 // The same of a reply.
-#[unsafe(no_mangle)]
-pub extern "C" fn sheafsledge_read_rbody(
+pub fn sheafsledge_read_rbody(
     bytes: &[u8],
     at: usize,
     ty: u8,

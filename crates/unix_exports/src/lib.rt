@@ -17,8 +17,7 @@ use pairs::Mark;
 use plain_flat::{WIDTH_R, WIDTH_T};
 
 // What `unix_frames::read_tframe` answers.
-#[unsafe(no_mangle)]
-pub extern "C" fn sheafsledge_unix_read_tframe(bytes: &[u8], values: &mut [u64; WIDTH_T]) -> Outcome
+pub fn sheafsledge_unix_read_tframe(bytes: &[u8], values: &mut [u64; WIDTH_T]) -> Outcome
     ensures { FrameRead (read_frame table_t bytes.now) values.old values.new result }
 {
     let head = framing::read_header(bytes);
@@ -37,8 +36,7 @@ pub extern "C" fn sheafsledge_unix_read_tframe(bytes: &[u8], values: &mut [u64; 
 }
 
 // What `unix_frames::read_rframe` answers.
-#[unsafe(no_mangle)]
-pub extern "C" fn sheafsledge_unix_read_rframe(bytes: &[u8], values: &mut [u64; WIDTH_R]) -> Outcome
+pub fn sheafsledge_unix_read_rframe(bytes: &[u8], values: &mut [u64; WIDTH_R]) -> Outcome
     ensures { FrameRead (refused_whole (read_frame table_r bytes.now)) values.old values.new result }
 {
     let head = framing::read_header(bytes);
@@ -60,8 +58,7 @@ pub extern "C" fn sheafsledge_unix_read_rframe(bytes: &[u8], values: &mut [u64; 
 }
 
 // Written from the values of its record: 16 if it holds a refusal, 3 if its type is unknown; else as its record is written.
-#[unsafe(no_mangle)]
-pub extern "C" fn sheafsledge_unix_write_tframe(
+pub fn sheafsledge_unix_write_tframe(
     out: &mut [u8],
     lent: &[u8],
     refusal: u8,
@@ -79,8 +76,7 @@ pub extern "C" fn sheafsledge_unix_write_tframe(
 }
 
 // The same of a reply.
-#[unsafe(no_mangle)]
-pub extern "C" fn sheafsledge_unix_write_rframe(
+pub fn sheafsledge_unix_write_rframe(
     out: &mut [u8],
     lent: &[u8],
     refusal: u8,
@@ -99,8 +95,7 @@ pub extern "C" fn sheafsledge_unix_write_rframe(
 
 // The body of the request that stands from `at` to the end of the bytes, in a stretch: its values count from the first of these, the bytes
 // used from `at`.
-#[unsafe(no_mangle)]
-pub extern "C" fn sheafsledge_unix_read_tbody(
+pub fn sheafsledge_unix_read_tbody(
     bytes: &[u8],
     at: usize,
     ty: u8,
@@ -114,8 +109,7 @@ pub extern "C" fn sheafsledge_unix_read_tbody(
 }
 
 // The same of a reply.
-#[unsafe(no_mangle)]
-pub extern "C" fn sheafsledge_unix_read_rbody(
+pub fn sheafsledge_unix_read_rbody(
     bytes: &[u8],
     at: usize,
     ty: u8,
@@ -129,8 +123,7 @@ pub extern "C" fn sheafsledge_unix_read_rbody(
 }
 
 // The types that 9P2000.u knows are 9P2000's, and so are its pairs.
-#[unsafe(no_mangle)]
-pub extern "C" fn sheafsledge_unix_answers(
+pub fn sheafsledge_unix_answers(
     request_ty: u8,
     request_tag: Tag,
     reply_ty: u8,
