@@ -123,7 +123,10 @@ fn lengths(text: &str) -> impl Iterator<Item = (&str, &str)> {
 fn used<'t>(text: &'t str, crates: &'t BTreeMap<String, String>) -> Vec<(&'t str, &'t str)> {
     let paths = text.lines().filter_map(|line| line.strip_prefix("use "));
     let paths = paths.filter_map(|path| path.trim_end_matches(';').split_once("::"));
-    let found = paths.filter_map(|(krate, name)| {
+    let named = paths.flat_map(|(krate, names)| {
+        list(names.trim_matches(['{', '}'])).map(move |name| (krate, name))
+    });
+    let found = named.filter_map(|(krate, name)| {
         let mut there = lengths(crates.get(krate)?);
         there.find(|(named, _)| *named == name)
     });
