@@ -48,6 +48,9 @@ pub fn check_span(lent: &[u8], v: Span, p: Place) -> Place
     Place::Refused(Refusal::SpanOutside, 0)
 }
 
+// The least byte that is not ASCII's.
+const BEYOND_ASCII: u8 = 128;
+
 // The check of a string's bytes, a part of some bytes: the place itself; or 5, then 6, each with where in these bytes the text breaks. It is
 // lent all of them, and not the part cut out, so that a position in the text counts as the span does.
 fn check_text(s: &[u8], v: Span, p: Place) -> Place
@@ -61,7 +64,7 @@ fn check_text(s: &[u8], v: Span, p: Place) -> Place
     let end = start + v.len;
     let text = &s[start..end];
     let e = utf8::extremes_of(text);
-    if 128 <= e.high {
+    if BEYOND_ASCII <= e.high {
         let n = utf8::sound_start(text);
         if n < text.len() {
             let at = start + n;

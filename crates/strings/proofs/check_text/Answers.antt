@@ -6,7 +6,7 @@ use Rattle.utf8.proofs.Utf8Laws.{ascii_text, zero_text, full_text}
 use Rattle.utf8.proofs.StartLaws.{sound_whole, sound_part}
 use Rattle.strings.proofs.Ways.{zero_lies, text_bad, text_zero, text_fine}
 use Rattle.strings.proofs.check_text.Goals as goal
-use Rattle.strings.proofs.check_text.Goals.{then-e-ge128+else-n-text, else-e-ge128}
+use Rattle.strings.proofs.check_text.Goals.{then-e-ge-BEYOND_ASCII+else-n-text, else-e-ge-BEYOND_ASCII}
 
 pub returns-then-n-text : goal.returns-then-n-text
 returns-then-n-text c =
@@ -20,8 +20,8 @@ overflow_add-at-then-e-eq0 c =
 
 pub returns-then-e-eq0 : goal.returns-then-e-eq0
 returns-then-e-eq0 c =
-    text_zero c.in-At.is (elim c.if-e-ge128.branch [ then-e-ge128+else-n-text w ↦ sound_whole _ w.sound_start-n.ensures w.if-n-text.false | else-e-ge128 w ↦ ascii_text _ (omega (arith, c.extremes_of-e.ensures.1)) ]) (zero_text _ (sym c.extremes_of-e.ensures.0 ∙ c.if-e-eq0.true)) c.zero_at-n.ensures
+    text_zero c.in-At.is (elim c.if-e-ge-BEYOND_ASCII.branch [ then-e-ge-BEYOND_ASCII+else-n-text w ↦ sound_whole _ w.sound_start-n.ensures w.if-n-text.false | else-e-ge-BEYOND_ASCII w ↦ ascii_text _ (omega (arith, c.extremes_of-e.ensures.1)) ]) (zero_text _ (sym c.extremes_of-e.ensures.0 ∙ c.if-e-eq0.true)) c.zero_at-n.ensures
 
 pub returns : goal.returns
 returns c =
-    text_fine c.in-At.is (elim c.if-e-ge128.branch [ then-e-ge128+else-n-text w ↦ sound_whole _ w.sound_start-n.ensures w.if-n-text.false | else-e-ge128 w ↦ ascii_text _ (omega (arith, c.extremes_of-e.ensures.1)) ]) (full_text _ (λ e. c.if-e-eq0.false (c.extremes_of-e.ensures.0 ∙ e)))
+    text_fine c.in-At.is (elim c.if-e-ge-BEYOND_ASCII.branch [ then-e-ge-BEYOND_ASCII+else-n-text w ↦ sound_whole _ w.sound_start-n.ensures w.if-n-text.false | else-e-ge-BEYOND_ASCII w ↦ ascii_text _ (omega (arith, c.extremes_of-e.ensures.1)) ]) (full_text _ (λ e. c.if-e-eq0.false (c.extremes_of-e.ensures.0 ∙ e)))
