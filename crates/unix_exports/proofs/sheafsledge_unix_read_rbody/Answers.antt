@@ -1,4 +1,4 @@
--- Written by tools/messages from crates/stretch_exports/proofs/sheafsledge_read_rbody/Proof.antt.
+-- Written by tools/messages from crates/stretch_exports/proofs/sheafsledge_read_rbody/Answers.antt.
 -- Read flat where the body begins, and told by the bytes used.
 use mathlib.Core.Path.{ap, ◌∙◌}
 use Rattle.exports.specs.Answers.{ended}

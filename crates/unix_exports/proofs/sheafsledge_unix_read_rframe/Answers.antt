@@ -1,4 +1,4 @@
--- Written by tools/messages from crates/reply_exports/proofs/sheafsledge_read_rframe/Proof.antt.
+-- Written by tools/messages from crates/reply_exports/proofs/sheafsledge_read_rframe/Answers.antt.
 -- The header can't be read, the body is refused and the frame with it, or it is accepted.
 use mathlib.Core.Path.{refl, sym, ap, ◌∙◌}
 use lib.Seq.{length-take-le}

@@ -1,4 +1,4 @@
--- Written by tools/messages from crates/request_exports/proofs/sheafsledge_read_tframe/Proof.antt.
+-- Written by tools/messages from crates/request_exports/proofs/sheafsledge_read_tframe/Answers.antt.
 -- The header can't be read, or the body is read flat, and told beside its tag.
 use mathlib.Core.Path.{refl, sym}
 use lib.Seq.{length-take-le}

@@ -1,4 +1,4 @@
--- Written by tools/messages from crates/reply_exports/proofs/sheafsledge_write_rframe/Proof.antt.
+-- Written by tools/messages from crates/reply_exports/proofs/sheafsledge_write_rframe/Answers.antt.
 -- It holds a refusal, or its body is written at 7 and the header put in front of it.
 use Rattle.exports.specs.FrameWriting.{holds_refusal, frame_wrote}
 use Rattle.unix_exports.proofs.sheafsledge_unix_write_rframe.Goals as goal
