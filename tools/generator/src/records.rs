@@ -192,7 +192,7 @@ enum Step<'a> {
     Numbers(Vec<u8>),
     Measure(&'a Field),
     Begun,
-    /// A place of its own, before the call that needs it.
+    /// A local of its own, before the call that needs it.
     Copy(String),
     /// A number of that width; its value in the code.
     Put(u8, String),
