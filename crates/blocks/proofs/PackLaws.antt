@@ -304,14 +304,18 @@ told_packed : (x : Pack) {n b : ℕ} {X : Type 0} → P.Packed n b ≡ told x �
 told_packed (holds m bs) {n} e f = f bs (let z : n ≡ m = cc e in ap (λ k. holds k bs) (sym z))
 told_packed (refuses k at) e f = absurd (let z : ◌≡◌ {A = ℕ} 0 1 = cc e in omega arith)
 
+-- for any room that the output has, whatever the count
+pub ready_within : {room : ℕ} {names : List ℕ} {rows : List (List ℕ)} (o : List ℕ) {r : Packing} → room ≤ length o → Fitting names room rows r → {n b : ℕ} → r ≡ P.Packed n b → Ready names rows n (length o)
+ready_within {room} {names} {rows} o l f {n} {b} g =
+    told_packed (pack_from names room rows) (sym g ∙ f.is)
+    (λ bs h. let k = held_in names room rows h in let y = k.held in let z = ap length k.bytes in record { count = k.count; each = k.each; held = omega arith })
+
 module _ (count : ℕ) {room : ℕ} {names : List ℕ} {rows : List (List ℕ)} (o : List ℕ) {r : Packing} (e : room ≡ min count (length o)) (f : Fitting names room rows r) where
   answered : r ≡ told (pack_in count (length o) names rows)
   answered = f.is ∙ ap (λ n. told (pack_from names n rows)) e
 
   pub pack_ready : {n b : ℕ} → r ≡ P.Packed n b → Ready names rows n (length o)
-  pack_ready {n} {b} g =
-      told_packed (pack_from names room rows) (sym g ∙ f.is)
-      (λ bs h. let k = held_in names room rows h in let y = k.held in let z = ap length k.bytes in record { count = k.count; each = k.each; held = omega arith })
+  pack_ready g = ready_within o (omega arith) f g
 
   pub pack_put : {n b : ℕ} {o' : List ℕ} → r ≡ P.Packed n b → o' ≡ over o 0 (first_bytes names rows n) → PackedInto count names rows o o' (P.Packed n b)
   pack_put {n} {b} {o'} g h =

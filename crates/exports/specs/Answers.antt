@@ -15,13 +15,13 @@ use Rattle.exports.specs.declared.Outcome.{Outcome}
 
 -- F4.7: a refusal is told by its number and its place (F2.7), and no bytes count as used. The tag stands beside it where a request's header
 -- was read
-abbrev pub outcomeOf : ℕ → ℕ → Bool → Place → Outcome
-outcomeOf ty tag held (At n) = record { refusal = 0; ty = ty; tag = tag; held = held; place = n }
-outcomeOf ty tag held (Refused k at) = record { refusal = number_of k; ty = 0; tag = tag; held = held; place = at }
+abbrev pub outcome_of : ℕ → ℕ → Bool → Place → Outcome
+outcome_of ty tag held (At n) = record { refusal = 0; ty = ty; tag = tag; held = held; place = n }
+outcome_of ty tag held (Refused k at) = record { refusal = number_of k; ty = 0; tag = tag; held = held; place = at }
 
 -- where there is no frame to tell of
 abbrev pub ended : Place → Outcome
-ended p = outcomeOf 0 0 false p
+ended p = outcome_of 0 0 false p
 
 -- the outcome, and what the lent room holds afterwards
 pub record Answered (outcome : Outcome) (room room' : List ℕ) (r : Outcome) : Type 0 where
@@ -29,8 +29,8 @@ pub record Answered (outcome : Outcome) (room room' : List ℕ) (r : Outcome) : 
   pub left : room' ≡ room
 
 -- any two answers that the promise allows are equal
-pub answered-one : {outcome r r' : Outcome} {room o1 o2 : List ℕ} → Answered outcome room o1 r → Answered outcome room o2 r' → (o1 ≡ o2) × (r ≡ r')
-answered-one a b = (one_answer a.left b.left, one_answer a.answer b.answer)
+pub answered_one : {outcome r r' : Outcome} {room o1 o2 : List ℕ} → Answered outcome room o1 r → Answered outcome room o2 r' → (o1 ≡ o2) × (r ≡ r')
+answered_one a b = (one_answer a.left b.left, one_answer a.answer b.answer)
 
 -- ---- writing
 
@@ -41,9 +41,9 @@ wrote b n e = record { answer = e ∙ ap ended n; left = b }
 pub record FieldsWritten (l : Layout) (lent ns o : List ℕ) (p : Place) (o' : List ℕ) (r : Outcome) : Type 0 where
   pub is : Answered (ended (written_past (shows l lent (field_values l ns)) o p)) (written_out (shows l lent (field_values l ns)) o p) o' r
 
-pub fields-written : {l : Layout} {lent ns o o' : List ℕ} {vs : List Value} {p q : Place} {r : Outcome} → vs ≡ field_values l ns → Written l lent vs o p o' q → r ≡ ended q
+pub fields_written : {l : Layout} {lent ns o o' : List ℕ} {vs : List Value} {p q : Place} {r : Outcome} → vs ≡ field_values l ns → Written l lent vs o p o' q → r ≡ ended q
     → FieldsWritten l lent ns o p o' r
-fields-written v w e = let x = rw v at w in record { is = wrote x.bytes x.next e }
+fields_written v w e = let x = rw v at w in record { is = wrote x.bytes x.next e }
 
 -- ---- reading
 

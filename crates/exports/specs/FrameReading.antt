@@ -20,7 +20,7 @@ use Rattle.framing.proofs.HeaderLaws.{head_yes, frame_is, frame_headless}
 use Rattle.framing.specs.declared.Head.{Head}
 use Rattle.framing.specs.declared.Head.TheVariants as H
 use Rattle.flat.specs.Flat.{laid, row_values, FlatRead}
-use Rattle.exports.specs.Answers.{outcomeOf, ended}
+use Rattle.exports.specs.Answers.{outcome_of, ended}
 use Rattle.exports.specs.declared.Outcome.{Outcome}
 use Rattle.exports.specs.Frames.{frame_outcome, frame_laid, FrameRead, answer_outcome, answer_laid, BodyRead}
 
@@ -41,7 +41,7 @@ flat_requests table =
     record {
       rows = table;
       whole = λ f. f;
-      fails = λ tag k at. outcomeOf 0 tag true (Refused k at);
+      fails = λ tag k at. outcome_of 0 tag true (Refused k at);
       none = λ k at. refl;
       good = λ tag ty e vs. refl;
       told = λ tag k at. refl;
@@ -87,11 +87,11 @@ module _ (d : FlatDirection) (s : List ℕ) {ns ms : List ℕ} {r : Outcome} whe
     headless_read {k} e = read_as (d.none k 0) (frame_headless s d.rows (rw e at h))
 
     module _ {n ty tag : ℕ} {q : Place} (b : Bytes s) (e : g ≡ H.Held n ty tag) (f : FlatRead (lookup d.rows ty) (take n s) (At 7) ns ms q) where
-      pub frame_read : {a : ℕ} → q ≡ At a → r ≡ outcomeOf ty tag true q → FrameRead (d.whole (read_frame d.rows s)) ns ms r
+      pub frame_read : {a : ℕ} → q ≡ At a → r ≡ outcome_of ty tag true q → FrameRead (d.whole (read_frame d.rows s)) ns ms r
       frame_read {a} i x =
           let its : Option Layout = lookup d.rows ty in
           let vs : List Value = row_values its (take n s) (At 7) in
-          read_as (d.good tag ty a vs) (ap (framed 0 tag) (body_accepted ty its f i) ∙ frame_is d.rows b (head_yes s h e)) (x ∙ ap (outcomeOf ty tag true) i) (values_left its f ∙ ap (λ z. laid z vs ns) i)
+          read_as (d.good tag ty a vs) (ap (framed 0 tag) (body_accepted ty its f i) ∙ frame_is d.rows b (head_yes s h e)) (x ∙ ap (outcome_of ty tag true) i) (values_left its f ∙ ap (λ z. laid z vs ns) i)
 
       pub body_failed : {k : Refusal} {at : ℕ} → q ≡ Refused k at → r ≡ d.fails tag k at → FrameRead (d.whole (read_frame d.rows s)) ns ms r
       body_failed {k} {at} i x =
@@ -104,10 +104,10 @@ by_place : {X : Type 0} (q : Place) → ((a : ℕ) → q ≡ At a → X) → ((k
 by_place (At a) f g = f a refl
 by_place (Refused k at) f g = g k at refl
 
-pub request_read : (table : List Row) (s : List ℕ) {n ty tag : ℕ} {ns ms : List ℕ} {g : Head} {q : Place} {r : Outcome} → HeadIs s g → Bytes s → g ≡ H.Held n ty tag → FlatRead (lookup table ty) (take n s) (At 7) ns ms q → r ≡ outcomeOf ty tag true q
+pub request_read : (table : List Row) (s : List ℕ) {n ty tag : ℕ} {ns ms : List ℕ} {g : Head} {q : Place} {r : Outcome} → HeadIs s g → Bytes s → g ≡ H.Held n ty tag → FlatRead (lookup table ty) (take n s) (At 7) ns ms q → r ≡ outcome_of ty tag true q
     → FrameRead (read_frame table s) ns ms r
 request_read table s {ty = ty} {tag = tag} {q = q} h b e f x =
-    by_place q (λ a i. frame_read (flat_requests table) s h b e f i x) (λ k at i. body_failed (flat_requests table) s h b e f i (x ∙ ap (outcomeOf ty tag true) i))
+    by_place q (λ a i. frame_read (flat_requests table) s h b e f i x) (λ k at i. body_failed (flat_requests table) s h b e f i (x ∙ ap (outcome_of ty tag true) i))
 
 -- ---- a body in a stretch
 

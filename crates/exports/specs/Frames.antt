@@ -9,15 +9,15 @@ use Rattle.layouts.specs.Bodies.{Answer, accepted, refused}
 use Rattle.framing.specs.Frames.{Frame, headless, framed}
 use Rattle.framing.specs.Writing.{frame_out, frame_past}
 use Rattle.flat.specs.Flat.{flat_values, stored, shows_from}
-use Rattle.exports.specs.Answers.{outcomeOf, ended, Answered}
+use Rattle.exports.specs.Answers.{outcome_of, ended, Answered}
 use Rattle.exports.specs.declared.Outcome.{Outcome}
 
 -- ---- reading
 
 -- the tag stands beside a message and beside a body's refusal (F4.5); a reply whose body fails has none, since it fails whole (F4.6)
 abbrev pub body_outcome : ℕ → Answer → Outcome
-body_outcome tag (accepted ty vs n) = outcomeOf ty tag true (At n)
-body_outcome tag (refused k at) = outcomeOf 0 tag true (Refused k at)
+body_outcome tag (accepted ty vs n) = outcome_of ty tag true (At n)
+body_outcome tag (refused k at) = outcome_of 0 tag true (Refused k at)
 
 abbrev pub frame_outcome : Frame → Outcome
 frame_outcome (headless k at) = ended (Refused k at)

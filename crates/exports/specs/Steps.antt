@@ -11,7 +11,7 @@ use Rattle.framing.specs.Raising.{raise, body_from}
 use Rattle.framing.specs.Stretch.{table_for, answer_of, tail_in, Step, frame, end, stop, frame_at}
 use Rattle.framing.specs.Cuts.{between, WholeAt}
 use Rattle.framing.proofs.CutLaws.{length_whole, answer_there, tail_raised, frame_same}
-use Rattle.exports.specs.Answers.{outcomeOf, ended}
+use Rattle.exports.specs.Answers.{outcome_of, ended}
 use Rattle.exports.specs.declared.Outcome.{Outcome}
 
 -- a refusal of a stretch stands beside the position (F6.2)
@@ -20,20 +20,20 @@ stopped k at = record { refusal = number_of k; ty = 0; tag = 0; held = false; pl
 
 -- a frame is told by its type, its tag and the place after it; the end by its own place, and no frame
 abbrev pub step_outcome : Step → Outcome
-step_outcome (frame at size ty tag a tail next) = outcomeOf ty tag true (At next)
+step_outcome (frame at size ty tag a tail next) = outcome_of ty tag true (At next)
 step_outcome (end at) = ended (At at)
 step_outcome (stop k at) = stopped k at
 
 -- ---- a whole frame
 
 module _ {s : List ℕ} {p ty tag e : ℕ} (w : WholeAt s p ty tag e) where
-  pub step_there : outcomeOf ty tag true (At e) ≡ step_outcome (frame_at table_t table_r s p)
+  pub step_there : outcome_of ty tag true (At e) ≡ step_outcome (frame_at table_t table_r s p)
   step_there =
       let h = w.seven in
       let z = length_whole w in
       let n : e ≡ p + length (between p e s) = omega arith in
-      let f : outcomeOf ty tag true (At (p + length (between p e s))) ≡ step_outcome (frame_at table_t table_r s p) = rw (w.ty, w.tag) (ap step_outcome (w.is table_t table_r)) in
-      ap (λ m. outcomeOf ty tag true (At m)) n ∙ f
+      let f : outcome_of ty tag true (At (p + length (between p e s))) ≡ step_outcome (frame_at table_t table_r s p) = rw (w.ty, w.tag) (ap step_outcome (w.is table_t table_r)) in
+      ap (λ m. outcome_of ty tag true (At m)) n ∙ f
 
   -- what the reader of its direction answers, lent the bytes to its end
   abbrev said : Answer

@@ -10,7 +10,7 @@ pub mod texts;
 pub mod walks;
 
 ghost use Rattle.std.specs.Prelude.{◌≡◌};
-ghost use Rattle.exports.specs.Answers.{outcomeOf, ended};
+ghost use Rattle.exports.specs.Answers.{outcome_of, ended};
 
 use numbers::Place;
 
@@ -28,7 +28,7 @@ pub struct Outcome {
 }
 
 pub fn outcome_of(ty: u8, tag: u16, held: bool, p: Place) -> Outcome
-    ensures { result ≡ outcomeOf ty tag held p }
+    ensures { result ≡ outcome_of ty tag held p }
 {
     match p {
         Place::At(place) => Outcome {

@@ -40,7 +40,8 @@ pub fn read_data(s: &[u8], p: Place) -> ReadSpan
         };
     };
     let len = count.value as usize;
-    if 33554432 < len {
+    let limit = 33554432;
+    if limit < len {
         return ReadSpan {
             value: none,
             next: Place::Refused(Refusal::DataTooLong, 0),

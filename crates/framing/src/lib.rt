@@ -14,6 +14,12 @@ use numbers::{Place, Refusal};
 // Where a frame's body begins: after its size, its type and its tag.
 pub const BODY: usize = 7;
 
+// How much room a header takes: its size, its type and its tag.
+const HEADER: usize = BODY;
+
+// A size counts its own four bytes.
+const LEAST_SIZE: u32 = 4;
+
 // A header: how many bytes of the slice are the frame's, its type and its tag; or why it can't be read.
 #[derive(Clone, Copy)]
 pub enum Head {
@@ -50,7 +56,7 @@ pub fn read_header(s: &[u8]) -> Head
     let a = size.next;
     match a {
         Place::At(_) => {
-            if size.value < 4 {
+            if size.value < LEAST_SIZE {
                 return Head::Refused(Refusal::SizeBelowFour);
             }
             let limit = own(size.value, s.len());
@@ -88,7 +94,7 @@ pub fn put_header(out: &mut [u8], end: Place, ty: u8, tag: u16) -> Place
     let Place::At(n) = end else {
         return end;
     };
-    if out.len() < BODY {
+    if out.len() < HEADER {
         return Place::Refused(Refusal::NoRoom, 0);
     }
     let a = numbers::put_num(out, Place::At(0), n as u64, 4);

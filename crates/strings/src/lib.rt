@@ -48,6 +48,9 @@ pub fn check_span(lent: &[u8], v: Span, p: Place) -> Place
     Place::Refused(Refusal::SpanOutside, 0)
 }
 
+// The longest string that a count of two bytes has (F2.3).
+const LONGEST: usize = 65535;
+
 // The least byte that is not ASCII's.
 const BEYOND_ASCII: u8 = 128;
 
@@ -87,7 +90,7 @@ pub fn check_str(lent: &[u8], v: Span, p: Place) -> Place
     let Place::At(_) = q else {
         return q;
     };
-    if 65535 < v.len {
+    if LONGEST < v.len {
         return Place::Refused(Refusal::StringTooLong, 0);
     }
     check_text(lent, v, q)

@@ -7,7 +7,7 @@ use mathlib.Core.Bool.{Bool, true, false, cond, ◌&&◌}
 use mathlib.Core.List.{List, [], ◌∷◌, ◌++◌}
 use lib.ListN.{length, take, drop, get_or, length-drop, drop_of_length-le, take-append-drop}
 use lib.Seq.{drop-cons}
-use lib.Dec.{leb, ltb}
+use lib.Dec.{leb, ltb, lit<}
 use borrow.Author.Tests.{le-leb, lt-leb, leb-true, ltb-true}
 use Rattle.utf8.specs.Utf8.{Range, ◌to◌, in_range, rows, fits, char_in, char, CharAt}
 use Rattle.utf8.specs.Utf8Laws.{Rest}
@@ -123,6 +123,10 @@ module _ {s : List ℕ} {i : ℕ} where
       → Rest (others (get_or rows n [])) s i k → CharAt s i k
   unfolding char
   in_row n h l p q r = record { is = r.is ∙ rw (drop-cons s i 0 h, add-one) (sym (begun (get_or s i 0) (drop (suc i) s) rows refl n l p q)) }
+
+  -- the one row of two octets; the tactics find it for its arm
+  pub row_of_two : {k : ℕ} → i < length s → 194 ≤ get_or s i 0 → get_or s i 0 ≤ 223 → Rest (128 to 191 ∷ []) s i k → CharAt s i k
+  row_of_two h p q r = in_row 1 h (lit< tt) p q r
 
   pub in_gap : (n h k : ℕ) → i < length s → h < get_or s i 0 → get_or s i 0 ≤ k → below h (take n rows) ≡ true → above k (drop n rows) ≡ true → CharAt s i 0
   unfolding char

@@ -17,6 +17,7 @@ struct Octets(u8, u8);
 const TAIL: Octets = Octets(0x80, 0xbf);
 
 // UTF8-char = UTF8-1 / UTF8-2 / UTF8-3 / UTF8-4: the length of the character at `i`, 0 where the bytes fit no row (F2.2).
+#[tactic(auto, using(crate::proofs::Rows::row_of_two))]
 pub fn char_at(s: &[u8], i: usize) -> usize
     ensures { CharAt s.now i result }
 {

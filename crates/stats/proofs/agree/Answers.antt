@@ -1,4 +1,5 @@
 -- No size is there; or it is another; or the fields are followed to where they end.
+use native.Mathlib.Omega.{arith}
 use mathlib.Core.Path.{refl}
 use Rattle.stats.specs.StatLaws.{first_within, agree_short, agree_size, agree_refused, agree_end}
 use Rattle.stats.proofs.agree.Goals as goal
@@ -8,7 +9,7 @@ returns-in_default c =
     agree_short _ c.requires c.read_u16-size.ensures c.in_default.is
 
 pub overflow_sub-s : goal.overflow_sub-s
-overflow_sub-s c = first_within c.read_u16-size.ensures c.in-At.is
+overflow_sub-s c = omega (arith, first_within c.read_u16-size.ensures c.in-At.is)
 
 pub returns-in_default-q : goal.returns-in_default-q
 returns-in_default-q c =

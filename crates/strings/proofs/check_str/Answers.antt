@@ -6,9 +6,9 @@ use Rattle.strings.proofs.check_str.Goals as goal
 pub returns-in_default : goal.returns-in_default
 returns-in_default c = str_span c.check_span-q.ensures c.in_default.is
 
-pub returns-then-v-gt65535 : goal.returns-then-v-gt65535
-returns-then-v-gt65535 c =
-    str_long c.check_span-q.ensures c.in-At.is c.if-v-gt65535.true
+pub returns-then-v-gt-LONGEST : goal.returns-then-v-gt-LONGEST
+returns-then-v-gt-LONGEST c =
+    str_long c.check_span-q.ensures c.in-At.is c.if-v-gt-LONGEST.true
 
 pub check_text-requires : goal.check_text-requires
 check_text-requires c =
@@ -16,4 +16,4 @@ check_text-requires c =
 
 pub returns : goal.returns
 returns c =
-    str_text c.check_span-q.ensures c.in-At.is c.if-v-gt65535.false c.check_text.ensures
+    str_text c.check_span-q.ensures c.in-At.is c.if-v-gt-LONGEST.false c.check_text.ensures

@@ -12,9 +12,6 @@ returns-then-s-i c = at_end_lem c.if-s-i.true
 pub returns-in-0-to-127 : goal.returns-in-0-to-127
 returns-in-0-to-127 c = in_row 0 (omega arith) (lit< tt) (omega arith) (omega arith) alone
 
-pub returns-in-194-to-223 : goal.returns-in-194-to-223
-returns-in-194-to-223 c = in_row 1 (omega arith) (lit< tt) (omega arith) (omega arith) c.two.ensures
-
 pub returns-in-224 : goal.returns-in-224
 returns-in-224 c = in_row 2 (omega arith) (lit< tt) (omega arith) (omega arith) c.three.ensures
 
