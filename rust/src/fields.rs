@@ -59,7 +59,7 @@ pub fn text(bytes: &[u8], start: usize, len: usize) -> &str {
         "{shown:?} is no string"
     );
     // SAFETY: the library accepts a frame, an entry or a walk's names only if each string is UTF-8 by
-    // RFC 3629 (`readString`, `readMany`, `elementAt`, `utf8` in the definitions); names that were
+    // RFC 3629 (`read_string`, `read_many`, `element_at`, `utf8` in the definitions); names that were
     // gathered are copies of `&str`.
     unsafe { core::str::from_utf8_unchecked(shown) }
 }

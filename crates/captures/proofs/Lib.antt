@@ -1,1 +1,9 @@
 pub mod Loops
+pub mod Examples
+pub mod FileLaws
+pub mod FrameLaws
+pub mod PutLaws
+pub mod ReadLaws
+pub mod Round
+pub mod StretchLaws
+pub mod WayLaws

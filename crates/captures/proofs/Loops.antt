@@ -17,9 +17,10 @@ use Rattle.strings.proofs.SpanLaws.{shown_length}
 use Rattle.framing.proofs.WritingLaws.{over_none}
 use Rattle.captures.specs.Captures.{num_in, bytes_in, times_in, frames_in, paired, record_bytes, records_of}
 use Rattle.captures.specs.Steps.{from, Roomy, rest, records, Ready}
-use Rattle.captures.specs.FileLaws.{Stands, bytes_turn, times_turn}
-use Rattle.captures.specs.StretchLaws.{Next, frames_turn, starts}
-use Rattle.captures.specs.PutLaws.{shown, put_over, record_length}
+use Rattle.captures.proofs.FileLaws.{Stands, bytes_turn, times_turn}
+use Rattle.captures.specs.StretchLaws.{Next}
+use Rattle.captures.proofs.StretchLaws.{frames_turn, starts}
+use Rattle.captures.proofs.PutLaws.{shown, put_over, record_length}
 
 -- ---- bytes over an output
 

@@ -2,9 +2,6 @@ pub mod Captures
 pub mod Steps
 pub mod FileLaws
 pub mod StretchLaws
-pub mod PutLaws
 pub mod FrameLaws
-pub mod WayLaws
 pub mod ReadLaws
 pub mod Round
-pub mod Examples

@@ -30,8 +30,10 @@ use Rattle.framing.proofs.Accepted.{accepts}
 use Rattle.framing.specs.Stretch.{type_in, tag_in, table_for, answer_in, answer_of, Listing, entry, ends, stops, list_from, listing}
 use Rattle.framing.proofs.ListingLaws.{front_case, list_next}
 use Rattle.session.specs.Rules.{free, fresh, stepped}
-use Rattle.session.specs.Own.{OwnOf, own_answers}
-use Rattle.session.specs.Sound.{Fair, FairEvent, Sound, fresh_sound, step_sound}
+use Rattle.session.specs.Own.{OwnOf}
+use Rattle.session.proofs.Own.{own_answers}
+use Rattle.session.specs.Sound.{Fair, FairEvent, Sound}
+use Rattle.session.proofs.Sound.{fresh_sound, step_sound}
 use Rattle.session.specs.declared.Request.{Request}
 use Rattle.session.specs.declared.Session.{Session}
 use Rattle.session.specs.declared.What.TheVariants as W

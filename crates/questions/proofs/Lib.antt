@@ -1,2 +1,3 @@
 pub mod Loops
 pub mod Taking
+pub mod QuestionLaws

@@ -7,7 +7,7 @@ use Rattle.fields.specs.Layouts.{Layout}
 use Rattle.layouts.specs.Tables.{Row, table_t, lookup}
 use Rattle.framing.specs.Writing.{HeadPut}
 use Rattle.apart.specs.Apart.{table_two, together, ApartWritten}
-use Rattle.apart.specs.ApartLaws.{row_of_two}
+use Rattle.apart.proofs.ApartLaws.{row_of_two}
 use Rattle.exports.specs.Answers.{ended}
 use Rattle.exports.specs.Frames.{FlatWrote}
 use Rattle.exports.specs.FrameWriting.{frame_wrote}

@@ -1,7 +1,6 @@
 pub mod Rows
 pub mod Rules
 pub mod About
-pub mod Steady
 pub mod Keys
 pub mod Sound
 pub mod Words

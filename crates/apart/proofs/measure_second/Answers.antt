@@ -1,6 +1,6 @@
 -- The place is refused already, the string is too long, or it is measured alone: a law of SecondLaws for each way out.
 use native.Mathlib.Omega.{arith}
-use Rattle.apart.specs.SecondLaws.{second_stays, second_long, second_good, second_lies, second_bad, first_short}
+use Rattle.apart.proofs.SecondLaws.{second_stays, second_long, second_good, second_lies, second_bad, first_short}
 use Rattle.apart.proofs.measure_second.Goals as goal
 
 pub returns-in_default : goal.returns-in_default

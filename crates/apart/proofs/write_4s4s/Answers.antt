@@ -2,8 +2,8 @@
 use mathlib.Core.List.{[]}
 use Rattle.numbers.proofs.Numbers.{bytes_all}
 use Rattle.laying.proofs.LayingLaws.{measure, measure_numbers, measured_none, put_number, put_done}
-use Rattle.apart.specs.SecondLaws.{first_passed, passed_on}
-use Rattle.apart.specs.ApartLaws.{measure_first, put_first, put_second, apart_written}
+use Rattle.apart.proofs.SecondLaws.{first_passed, passed_on}
+use Rattle.apart.proofs.ApartLaws.{measure_first, put_first, put_second, apart_written}
 use Rattle.apart.proofs.write_4s4s.Goals as goal
 
 pub measure_second-end-requires : goal.measure_second-end-requires

@@ -1,7 +1,7 @@
 use native.Mathlib.Omega.{arith}
 use mathlib.Core.Path.{◌∙◌}
 use Rattle.captures.specs.Captures.{counted}
-use Rattle.captures.specs.StretchLaws.{next, stopped, at_end_lem, starts, count_turn, count_stop, count_end}
+use Rattle.captures.proofs.StretchLaws.{next, stopped, at_end_lem, starts, count_turn, count_stop, count_end}
 use mathlib.Core.Path.{ap}
 use Rattle.captures.proofs.count.Goals as goal
 

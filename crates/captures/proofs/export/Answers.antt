@@ -1,6 +1,6 @@
 -- 12 or 13; 25; 24; 11; or the file.
 use native.Mathlib.Omega.{arith}
-use Rattle.captures.specs.WayLaws.{room_yes, room_no, export_cut, export_long, export_rows, export_room, export_ready, export_held}
+use Rattle.captures.proofs.WayLaws.{room_yes, room_no, export_cut, export_long, export_rows, export_room, export_ready, export_held}
 use borrow.Author.Rules.{rules}
 use Rattle.captures.proofs.export.Goals as goal
 

@@ -1,7 +1,7 @@
 use native.Mathlib.Omega.{arith}
 use mathlib.Core.Path.{◌∙◌}
 use Rattle.captures.specs.Captures.{fits}
-use Rattle.captures.specs.StretchLaws.{next, stopped, at_end_lem, starts, fit_turn, fit_long, fit_stop, fit_end}
+use Rattle.captures.proofs.StretchLaws.{next, stopped, at_end_lem, starts, fit_turn, fit_long, fit_stop, fit_end}
 use mathlib.Core.Path.{ap}
 use Rattle.captures.proofs.fit.Goals as goal
 

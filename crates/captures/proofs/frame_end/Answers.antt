@@ -1,5 +1,5 @@
 -- A whole frame, the end, a refusal.
-use Rattle.captures.specs.StretchLaws.{end_whole, end_end, end_stop}
+use Rattle.captures.proofs.StretchLaws.{end_whole, end_end, end_stop}
 use Rattle.captures.proofs.frame_end.Goals as goal
 
 pub returns-in-Whole : goal.returns-in-Whole

@@ -1,7 +1,7 @@
 -- The ways out, in the order in which the record is looked at.
 use native.Mathlib.Omega.{arith}
 use Rattle.numbers.proofs.PlaceLaws.{inside, outside}
-use Rattle.captures.specs.FileLaws.{size_cut, size_unlike, size_small, size_large, size_long, size_other, size_held}
+use Rattle.captures.proofs.FileLaws.{size_cut, size_unlike, size_small, size_large, size_long, size_other, size_held}
 use Rattle.captures.proofs.frame_size.Goals as goal
 
 pub returns-then-not-within : goal.returns-then-not-within

@@ -1,6 +1,6 @@
 -- The ways out, in the order of the fields.
 use native.Mathlib.Omega.{arith}
-use Rattle.captures.specs.FileLaws.{head_short, head_magic, head_major, head_minor, head_link}
+use Rattle.captures.proofs.FileLaws.{head_short, head_magic, head_major, head_minor, head_link}
 use Rattle.captures.proofs.headed.Goals as goal
 
 pub returns-then-file-lt-HEAD : goal.returns-then-file-lt-HEAD

@@ -1,5 +1,5 @@
 -- The header in one order, in the other, or in none.
-use Rattle.captures.specs.WayLaws.{order_little, order_big, order_none, import_none}
+use Rattle.captures.proofs.WayLaws.{order_little, order_big, order_none, import_none}
 use Rattle.captures.proofs.import.Goals as goal
 
 pub import_in-requires : goal.import_in-requires

@@ -1,5 +1,5 @@
 -- Broken; too few rows; too little room; or all of it taken.
-use Rattle.captures.specs.WayLaws.{order_long, import_refused, import_rows, import_room, import_ready, import_held}
+use Rattle.captures.proofs.WayLaws.{order_long, import_refused, import_rows, import_room, import_ready, import_held}
 use Rattle.captures.proofs.import_in.Goals as goal
 
 pub tally-told-requires : goal.tally-told-requires

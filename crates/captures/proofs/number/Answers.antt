@@ -1,6 +1,6 @@
 -- Two and two bytes, in both orders.
 use native.Mathlib.Omega.{arith}
-use Rattle.captures.specs.FileLaws.{number_big, number_little}
+use Rattle.captures.proofs.FileLaws.{number_big, number_little}
 use Rattle.captures.proofs.number.Goals as goal
 
 pub returns-then-big : goal.returns-then-big

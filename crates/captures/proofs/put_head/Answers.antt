@@ -1,6 +1,6 @@
 -- Seven numbers, one after another.
 use native.Mathlib.Omega.{arith}
-use Rattle.captures.specs.PutLaws.{head_put}
+use Rattle.captures.proofs.PutLaws.{head_put}
 use Rattle.captures.proofs.put_head.Goals as goal
 
 pub returns : goal.returns

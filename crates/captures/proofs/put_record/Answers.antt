@@ -1,6 +1,6 @@
 -- Four numbers, and the frame.
 use native.Mathlib.Omega.{arith}
-use Rattle.captures.specs.PutLaws.{record_put}
+use Rattle.captures.proofs.PutLaws.{record_put}
 use Rattle.captures.proofs.put_record.Goals as goal
 
 pub returns : goal.returns

@@ -1,5 +1,5 @@
 use native.Mathlib.Omega.{arith}
-use Rattle.captures.specs.StretchLaws.{next, stopped, at_end_lem, frames_stop, frames_end}
+use Rattle.captures.proofs.StretchLaws.{next, stopped, at_end_lem, frames_stop, frames_end}
 use Rattle.captures.proofs.Loops.{put_begins, row_there, room_there, put_turn, put_ends}
 use Rattle.captures.proofs.put_records.Goals as goal
 

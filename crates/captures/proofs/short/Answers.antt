@@ -1,6 +1,6 @@
 -- Both orders of two bytes.
 use native.Mathlib.Omega.{arith}
-use Rattle.captures.specs.FileLaws.{short_big, short_little}
+use Rattle.captures.proofs.FileLaws.{short_big, short_little}
 use Rattle.captures.proofs.short.Goals as goal
 
 pub returns-then-big : goal.returns-then-big

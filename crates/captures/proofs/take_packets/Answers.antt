@@ -1,5 +1,5 @@
 use native.Mathlib.Omega.{arith}
-use Rattle.captures.specs.FileLaws.{stands, none_stands, none_left, nothing_broken, nothing_left}
+use Rattle.captures.proofs.FileLaws.{stands, none_stands, none_left, nothing_broken, nothing_left}
 use Rattle.captures.proofs.Loops.{row_left, room_left, take_turn, take_ends}
 use Rattle.captures.proofs.take_packets.Goals as goal
 

@@ -1,6 +1,6 @@
 use native.Mathlib.Omega.{arith}
 use mathlib.Core.Path.{◌∙◌}
-use Rattle.captures.specs.FileLaws.{stands, none_stands, none_left, tally_turn, tally_stop, tally_end}
+use Rattle.captures.proofs.FileLaws.{stands, none_stands, none_left, tally_turn, tally_stop, tally_end}
 use Rattle.captures.proofs.tally.Goals as goal
 
 pub returns-in_default : goal.returns-in_default

@@ -2,7 +2,7 @@
 use native.Mathlib.Omega.{arith}
 use Rattle.std.proofs.Common.{ℕ, suc, ◌+◌, length, get_or, sym, ap, ◌∙◌}
 use Rattle.places.specs.Places.{name_in}
-use Rattle.places.specs.PathLaws.{put_root, put_longer, put_older}
+use Rattle.places.proofs.PathLaws.{put_root, put_longer, put_older}
 use Rattle.places.proofs.+put_path.Goals as goal
 
 pub put_path-n-requires : goal.put_path-n-requires

@@ -1,4 +1,4 @@
-use Rattle.places.specs.PathLaws.{fits_root, fits_not, fits_older}
+use Rattle.places.proofs.PathLaws.{fits_root, fits_not, fits_older}
 use mathlib.Core.Path.{◌∙◌}
 use Rattle.places.proofs.fits.Goals as goal
 

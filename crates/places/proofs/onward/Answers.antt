@@ -1,5 +1,5 @@
 -- A walk that is refused, a name, a name that is refused.
-use Rattle.places.specs.PlaceLaws.{onward_refused, onward_step, onward_bad}
+use Rattle.places.proofs.PlaceLaws.{onward_refused, onward_step, onward_bad}
 use Rattle.places.proofs.onward.Goals as goal
 
 pub returns-in_default : goal.returns-in_default

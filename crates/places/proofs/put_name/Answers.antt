@@ -4,7 +4,7 @@ use lib.ListN.{length}
 use Prim.Native.Nat.{ℕ, ◌+◌}
 use mathlib.Core.List.{List}
 use mathlib.Core.Path.{ap, ◌∙◌}
-use Rattle.places.specs.PathLaws.{name_put}
+use Rattle.places.proofs.PathLaws.{name_put}
 use Rattle.places.proofs.put_name.Goals as goal
 
 pub returns : goal.returns

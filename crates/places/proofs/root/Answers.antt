@@ -1,5 +1,5 @@
 -- A row is left, or none is.
-use Rattle.places.specs.PlaceLaws.{added_new, added_full}
+use Rattle.places.proofs.PlaceLaws.{added_new, added_full}
 use Rattle.places.proofs.root.Goals as goal
 
 pub returns-then-i-lt256 : goal.returns-then-i-lt256

@@ -1,5 +1,5 @@
 -- Up, or a child.
-use Rattle.places.specs.PlaceLaws.{step_up, step_on}
+use Rattle.places.proofs.PlaceLaws.{step_up, step_on}
 use Rattle.places.proofs.step.Goals as goal
 
 pub returns-then-is_up : goal.returns-then-is_up

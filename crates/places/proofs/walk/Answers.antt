@@ -1,6 +1,6 @@
 use native.Mathlib.Omega.{arith}
 use mathlib.Core.Path.{◌∙◌}
-use Rattle.places.specs.PlaceLaws.{walk_turn, walk_end}
+use Rattle.places.proofs.PlaceLaws.{walk_turn, walk_end}
 use Rattle.places.proofs.walk.Goals as goal
 
 pub loop-i-preserved : goal.loop-i-preserved

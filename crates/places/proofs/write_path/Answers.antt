@@ -1,5 +1,5 @@
 -- It fits and is put, or does not fit.
-use Rattle.places.specs.PathLaws.{path_put, path_no_room}
+use Rattle.places.proofs.PathLaws.{path_put, path_no_room}
 use Rattle.places.proofs.write_path.Goals as goal
 
 pub returns-then-fits : goal.returns-then-fits

@@ -1,7 +1,7 @@
 use native.Mathlib.Omega.{arith}
 use Rattle.listing.specs.TextLaws.{all_length}
 use Rattle.listing.specs.ListLaws.{moved}
-use Rattle.replaying.specs.ReplayLaws.{upto_none, upto_next, upto_end, upto_stop}
+use Rattle.replaying.proofs.ReplayLaws.{upto_none, upto_next, upto_end, upto_stop}
 use mathlib.Core.Path.{refl, ◌∙◌}
 use Rattle.replaying.proofs.put_lines.Goals as goal
 

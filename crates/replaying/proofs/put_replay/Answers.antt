@@ -1,5 +1,5 @@
 -- Too long, followed, or 19.
-use Rattle.replaying.specs.ReplayLaws.{text_long, text_followed}
+use Rattle.replaying.proofs.ReplayLaws.{text_long, text_followed}
 use Rattle.replaying.proofs.put_replay.Goals as goal
 
 pub returns-then-file-gt65536 : goal.returns-then-file-gt65536

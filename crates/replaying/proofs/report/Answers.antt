@@ -1,7 +1,7 @@
 -- The room is long enough for the text of any file.
 use native.Mathlib.Omega.{arith}
 use Rattle.numbers.proofs.Numbers.{bytes_all}
-use Rattle.replaying.specs.ReplayLaws.{replay_reported}
+use Rattle.replaying.proofs.ReplayLaws.{replay_reported}
 use Rattle.replaying.proofs.report.Goals as goal
 
 pub returns : goal.returns

@@ -1,6 +1,6 @@
 use native.Mathlib.Omega.{arith}
 use mathlib.Core.Path.{◌∙◌}
-use Rattle.session.specs.Rows.{row_start, row_here, row_on, row_none}
+use Rattle.session.proofs.Rows.{row_start, row_here, row_on, row_none}
 use Rattle.session.proofs.find.Goals as goal
 
 pub loop-i-init : goal.loop-i-init

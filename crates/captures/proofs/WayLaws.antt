@@ -18,9 +18,10 @@ use Rattle.captures.specs.declared.Imported.{Imported}
 use Rattle.captures.specs.declared.Imported.TheVariants as I
 use Rattle.captures.specs.Captures.{num_in, headed, order_of, Packets, packet, complete, broken, packets_of, bytes_in, times_in, tallied, within, imported, Imports, frames_in, counted, fits, cut_up, header, exported_file, exported, Exports}
 use Rattle.captures.specs.Steps.{from, Roomy, RoomFor, records, Ready}
-use Rattle.captures.specs.StretchLaws.{starts}
-use Rattle.captures.specs.PutLaws.{head_length, records_length}
-use Rattle.captures.specs.FrameLaws.{Whole, whole}
+use Rattle.captures.proofs.StretchLaws.{starts}
+use Rattle.captures.proofs.PutLaws.{head_length, records_length}
+use Rattle.captures.specs.FrameLaws.{Whole}
+use Rattle.captures.proofs.FrameLaws.{whole}
 
 -- laid over the front
 pub over_front : (o bs : List ℕ) → over o 0 bs ≡ bs ++ drop (length bs) o

@@ -24,7 +24,8 @@ use Rattle.places.specs.declared.Spot.{Spot}
 use Rattle.places.specs.declared.Spot.TheVariants.{At, Refused}
 use Rattle.places.specs.declared.Reached.{Reached}
 use Rattle.places.specs.Places.{rowed, added, child, name_in, is_up, step, stepped, onward, walked}
-use Rattle.places.specs.Sound.{Sound, Grown, onward_grown}
+use Rattle.places.specs.Sound.{Sound, Grown}
+use Rattle.places.proofs.Sound.{onward_grown}
 use Rattle.places.specs.Paths.{Named}
 
 counted : (bs : List ℕ) → length (string_bytes bs) ≡ 2 + length bs

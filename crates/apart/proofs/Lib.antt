@@ -1,0 +1,2 @@
+pub mod ApartLaws
+pub mod SecondLaws

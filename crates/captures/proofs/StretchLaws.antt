@@ -1,0 +1,145 @@
+-- What holds of the definitions in specs/StretchLaws.antt.
+use Rattle.std.specs.Prelude.{ℕ, ◌+◌, ◌-◌, ◌≤◌, ◌<◌, ◌≡◌, refl, List, [], ◌∷◌, length, take, drop}
+use Rattle.std.proofs.Common.{arith, sym, ap, ◌∙◌, drop_of_length-le, length-take-le, take-take}
+use borrow.Author.Tests.{lt-ltb, le-ltb, ne_eqb}
+use Rattle.numbers.specs.Numbers.{from_le}
+use Rattle.numbers.proofs.ReadingLaws.{or_else}
+use Rattle.numbers.specs.declared.Refusal.{Refusal}
+use Rattle.numbers.specs.declared.Refusal.TheVariants as R
+use Rattle.numbers.specs.declared.Place.{Place}
+use Rattle.numbers.specs.declared.Place.TheVariants.{At, Refused}
+use Rattle.layouts.specs.Bodies.{Answer}
+use Rattle.framing.specs.Stretch.{Step, frame, end, stop, front, frame_at, ends, stops, list_from, listing}
+use Rattle.framing.proofs.ListingLaws.{front_case, list_step, whole_at, moves_on}
+use Rattle.framing.specs.Cuts.{CutAt, between}
+use Rattle.framing.proofs.CutLaws.{cut_whole, cut_end, cut_stop, length_whole}
+use Rattle.framing.specs.declared.Cut.{Cut}
+use Rattle.framing.specs.declared.Cut.TheVariants as C
+use Rattle.captures.specs.Captures.{frames_in, counted, fits, cut_up}
+use Rattle.captures.specs.Steps.{step_to, rest}
+use Rattle.captures.specs.StretchLaws.{Next}
+
+-- ---- the ways of a cut
+
+module _ (s : List ℕ) (p : ℕ) {g : Cut} (c : CutAt s p g) where
+  pub end_whole : {ty tag e : ℕ} → g ≡ C.Whole ty tag e → At e ≡ step_to (frame_at [] [] s p)
+  end_whole {ty} {tag} {e} f =
+      let w = cut_whole s p c f in
+      let l = length_whole w in
+      let a = w.seven in
+      let n : e ≡ p + length (between p e s) = omega arith in
+      ap At n ∙ ap step_to (w.is [] [])
+
+  pub end_end : g ≡ C.End → Refused R.StretchCut p ≡ step_to (frame_at [] [] s p)
+  end_end f = ap step_to (cut_end s p c f [] [])
+
+  pub end_stop : {k : Refusal} → g ≡ C.Refused k → Refused k p ≡ step_to (frame_at [] [] s p)
+  end_stop f = ap step_to (cut_stop s p c f [] [])
+
+module _ (s : List ℕ) (p : ℕ) where
+  next_is : {at n ty tag tail e : ℕ} {a : Answer} → p ≤ length s → frame_at [] [] s p ≡ frame at n ty tag a tail e → Next s p e
+  next_is {at} {n} {ty} {tag} {tail} {e} {a} h f =
+      whole_at [] [] s f
+      (λ m x g.
+      let z : length (take m (drop p s)) ≡ m = length-take-le m (drop p s) x.held in
+      let y : length (take m (drop p s)) ≡ n = cc g in
+      let q : p ≡ at = cc g in
+      let k : m ≡ n = sym z ∙ y in
+      let v = moves_on [] [] s f in
+      let w = v.seven in
+      record {
+        ty = ty;
+        tag = tag;
+        tail = tail;
+        answer = a;
+        n = n;
+        seven = w;
+        on = v.on;
+        held = v.within;
+        size = ap from_le (take-take 4 n (drop p s) (omega arith)) ∙ x.size ∙ k;
+        is = list_step [] [] s p h ∙ rw (f, q);
+      })
+
+  pub next : {r : Place} {e : ℕ} → p ≤ length s → r ≡ step_to (frame_at [] [] s p) → r ≡ At e → Next s p e
+  next {r} {e} h u v = go (frame_at [] [] s p) refl u
+    where
+      go : (t : Step) → frame_at [] [] s p ≡ t → r ≡ step_to t → Next s p e
+      go (frame at n ty tag a tail e') f w = let k : e' ≡ e = cc in next_is h (rw k at f)
+      go (end q) f w = absurd (let z : ◌≡◌ {A = ℕ} 0 1 = cc in omega arith)
+      go (stop k q) f w = absurd (let z : ◌≡◌ {A = ℕ} 0 1 = cc in omega arith)
+
+  inside : p < length s → frame_at [] [] s p ≡ front [] [] p (drop p s)
+  unfolding frame_at
+  inside h = rw (le-ltb (length s) p (omega arith), ne_eqb (length s) p (λ e. omega arith))
+
+  pub at_end_lem : length s ≤ p → rest s p ≡ ends p
+  unfolding list_from
+  at_end_lem h = rw (drop_of_length-le s h)
+
+  -- the end, a frame, or a refusal
+  pub rest_case : {X : Type 0} → p ≤ length s → (p ≡ length s → X) → ((e : ℕ) → Next s p e → X) → ((k : Refusal) → p < length s → frame_at [] [] s p ≡ stop k p → rest s p ≡ stops k p → X) → X
+  rest_case h f g i =
+      or_else (length s) p (λ l. f (omega arith))
+      (λ l. front_case [] [] p (drop p s) (λ n x e. g (p + length (take n (drop p s))) (next_is h (inside l ∙ e)))
+      (λ k e. let u = inside l ∙ e in i k l u (list_step [] [] s p h ∙ rw u)))
+
+  pub stopped : {r : Place} {k : Refusal} {j : ℕ} → p < length s → r ≡ step_to (frame_at [] [] s p) → r ≡ Refused k j → rest s p ≡ stops k j
+  stopped {r} {k} {j} h u v = front_case [] [] p (drop p s) (λ n x e. absurd (let t = rw (inside h ∙ e) at u in let z : ◌≡◌ {A = ℕ} 0 1 = cc in omega arith))
+      (λ i e.
+      let f = inside h ∙ e in
+      let t = rw f at u in
+      let a : i ≡ k = cc in
+      let b : p ≡ j = cc in
+      list_step [] [] s p (omega arith) ∙ rw f (rw (a, b)))
+
+-- ---- what the loops make of it
+
+pub starts : (s : List ℕ) → rest s 0 ≡ cut_up s
+unfolding listing
+starts s = refl
+
+module _ {s : List ℕ} {p e : ℕ} (x : Next s p e) where
+  pub count_turn : (m : ℕ) → counted (m + 1) (rest s e) ≡ counted m (rest s p)
+  unfolding counted
+  count_turn m = rw x.is
+
+  size_is : e - p ≡ x.n
+  size_is = let f = x.on in omega arith
+
+  pub fit_turn : e - p ≤ 65535 → fits (rest s e) ≡ fits (rest s p)
+  unfolding fits
+  fit_turn h = rw (x.is, le-ltb 65535 x.n (let f = size_is in omega arith))
+
+  pub fit_long : 65535 < e - p → Refused R.Capture p ≡ fits (rest s p)
+  unfolding fits
+  fit_long h = rw (x.is, lt-ltb 65535 x.n (let f = size_is in omega arith))
+
+  pub frames_turn : frames_in s (rest s p) ≡ take (e - p) (drop p s) ∷ frames_in s (rest s e)
+  unfolding frames_in
+  frames_turn = rw (x.is, size_is)
+
+module _ (s : List ℕ) (p : ℕ) {k : Refusal} {j : ℕ} (x : rest s p ≡ stops k j) where
+  pub count_stop : (m : ℕ) → Refused k j ≡ counted m (rest s p)
+  unfolding counted
+  count_stop m = rw x
+
+  pub fit_stop : Refused k j ≡ fits (rest s p)
+  unfolding fits
+  fit_stop = rw x
+
+  pub frames_stop : frames_in s (rest s p) ≡ []
+  unfolding frames_in
+  frames_stop = rw x
+
+module _ (s : List ℕ) (p : ℕ) (x : rest s p ≡ ends p) where
+  pub count_end : (m : ℕ) → At m ≡ counted m (rest s p)
+  unfolding counted
+  count_end m = rw x
+
+  pub fit_end : At p ≡ fits (rest s p)
+  unfolding fits
+  fit_end = rw x
+
+  pub frames_end : frames_in s (rest s p) ≡ []
+  unfolding frames_in
+  frames_end = rw x
