@@ -1,5 +1,5 @@
-// What C calls of `reply_exports`: each function has the name and the clauses of the library's, which it calls. `tools/promises --check` holds the two to
-// one another.
+// The functions of `reply_exports` as a static library, under the names that C links with. Each restates the clauses of the
+// function that it calls; `tools/promises --check` compares the two.
 
 #![tactic(auto)]
 

@@ -48,7 +48,7 @@ pub fn check_span(lent: &[u8], v: Span, p: Place) -> Place
     Place::Refused(Refusal::SpanOutside, 0)
 }
 
-// The longest string that a count of two bytes has (F2.3).
+// The longest string: its count has two bytes (F1.9).
 const LONGEST: usize = 65535;
 
 // The least byte that is not ASCII's.
