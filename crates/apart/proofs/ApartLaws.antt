@@ -1,5 +1,6 @@
 -- What holds of the definitions in specs/ApartLaws.antt.
-use Rattle.std.specs.Prelude.{ℕ, ◌+◌, ◌≡◌, refl, Bool, true, false, List, [], ◌∷◌, ◌++◌, length, eqb}
+use Rattle.numbers.specs.Place.{Place}
+use Rattle.std.specs.Prelude.{ℕ, ◌+◌, ◌≡◌, refl, Bool, true, false, List, [], ◌∷◌, ◌++◌, length, eqb, Err}
 use Rattle.std.proofs.Common.{arith, sym, ◌∙◌, length-append, eqb-true}
 use Rattle.std.proofs.Math.Option.{some}
 use Rattle.std.proofs.Math.Seq.{take-length, take-append_seam, drop-append_seam}
@@ -7,8 +8,6 @@ use Rattle.numbers.specs.Numbers.{Bytes}
 use Rattle.numbers.proofs.Numbers.{bytes_join}
 use Rattle.numbers.specs.Reading.{ok}
 use Rattle.numbers.specs.declared.Refusal.TheVariants as R
-use Rattle.numbers.specs.declared.Place.{Place}
-use Rattle.numbers.specs.declared.Place.TheVariants.{Refused}
 use Rattle.strings.specs.Spans.{show_span, show_string}
 use Rattle.strings.proofs.SpanLaws.{shown_in}
 use Rattle.fields.specs.Layouts.{str, Layout}
@@ -98,6 +97,6 @@ apart_length {l} {first} {second} {ns} {o} {o'} {p} {q} w =
     written_length v
 
 -- a type that has not two strings
-pub apart_unknown : {first second ns o : List ℕ} {p q : Place} (ty : ℕ) → Nots (Unit {0}) table_two ty → q ≡ Refused R.UnknownType 0
+pub apart_unknown : {first second ns o : List ℕ} {p q : Place} (ty : ℕ) → Nots (Unit {0}) table_two ty → q ≡ Err (R.UnknownType, 0)
     → ApartWritten (lookup table_two ty) first second ns o p o q
 apart_unknown ty h e = record { is = written_unknown table_two ty h e }

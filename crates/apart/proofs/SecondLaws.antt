@@ -1,12 +1,11 @@
 -- What holds of the definitions in specs/SecondLaws.antt.
-use Rattle.std.specs.Prelude.{ℕ, ◌+◌, ◌≤◌, ◌<◌, ◌≡◌, refl, Bool, true, false, cond, List, [], ◌++◌, length}
+use Rattle.numbers.specs.Place.{Place}
+use Rattle.std.specs.Prelude.{ℕ, ◌+◌, ◌≤◌, ◌<◌, ◌≡◌, refl, Bool, true, false, cond, List, [], ◌++◌, length, Ok, Err}
 use Rattle.std.proofs.Common.{arith, sym, ap₂, ◌∙◌}
 use borrow.Author.Tests.{le-leb, lt-leb}
 use Rattle.numbers.specs.Reading.{Result, ok, bad, after}
 use Rattle.numbers.specs.declared.Refusal.{Refusal}
 use Rattle.numbers.specs.declared.Refusal.TheVariants as R
-use Rattle.numbers.specs.declared.Place.{Place}
-use Rattle.numbers.specs.declared.Place.TheVariants.{At, Refused}
 use Rattle.utf8.specs.Utf8.{utf8, sound_start, no_zero, zero_at}
 use Rattle.utf8.proofs.StartLaws.{sound_in, zero_in}
 use Rattle.strings.specs.Strings.{ok_text}
@@ -20,7 +19,7 @@ use Rattle.apart.specs.SecondLaws.{Passed}
 
 -- the place after a text that is checked at a
 abbrev past : Result (List ℕ) → ℕ → Place
-past m a = advance (shown_size (after m (λ bs r. ok (string bs) r))) (check_at (after m (λ bs r. ok (string bs) r)) (At a))
+past m a = advance (shown_size (after m (λ bs r. ok (string bs) r))) (check_at (after m (λ bs r. ok (string bs) r)) (Ok a))
 
 pub first_passed : {s : List ℕ} {p q : Place} → FieldMeasured str s (span 0 (length s)) p q → Passed s q
 unfolding check_field show
@@ -28,15 +27,15 @@ first_passed {s} {p} m = rw m.is (go p (show_string s 0 (length s)) refl)
   where
     go : (p' : Place) (m : Result (List ℕ)) → show_string s 0 (length s) ≡ m
         → Passed s (advance (shown_size (after m (λ bs r. ok (string bs) r))) (check_at (after m (λ bs r. ok (string bs) r)) p'))
-    go (Refused k at) m e = tt
-    go (At a) (ok bs r) e = (string_inv s 0 (length s) e).small
-    go (At a) (bad k at) e = tt
+    go (Err f) m e = tt
+    go (Ok a) (ok bs r) e = (string_inv s 0 (length s) e).small
+    go (Ok a) (bad k at) e = tt
 
 pub passed_on : (s : List ℕ) {n : ℕ} (p : Place) {q : Place} → Advanced n p q → Passed s p → Passed s q
-passed_on s (At a) e h = rw e.is h
-passed_on s (Refused k at) e h = rw e.is h
+passed_on s (Ok a) e h = rw e.is h
+passed_on s (Err f) e h = rw e.is h
 
-pub first_short : (s : List ℕ) {p : Place} {a : ℕ} → p ≡ At a → Passed s p → length s ≤ 65535
+pub first_short : (s : List ℕ) {p : Place} {a : ℕ} → p ≡ Ok a → Passed s p → length s ≤ 65535
 first_short s e h = rw e at h
 
 -- ---- the second
@@ -48,18 +47,18 @@ module _ (first second : List ℕ) where
   abbrev pub Alone : Place → Place → Type 0
   Alone p q = FieldMeasured str second (span 0 (length second)) p q
 
-  pub second_stays : {p : Place} {k : Refusal} {at : ℕ} → p ≡ Refused k at → AsOne p p
+  pub second_stays : {p : Place} {k : Refusal} {at : ℕ} → p ≡ Err (k, at) → AsOne p p
   unfolding check_field
   second_stays e = record { is = rw e }
 
   shown : show_span (first ++ second) (length first) (length second) ≡ ok second []
   shown = sym (in_second first second) ∙ whole second
 
-  pub second_long : {p : Place} {a : ℕ} → p ≡ At a → 65535 < length second → AsOne p (Refused R.StringTooLong 0)
+  pub second_long : {p : Place} {a : ℕ} → p ≡ Ok a → 65535 < length second → AsOne p (Err (R.StringTooLong, 0))
   unfolding check_field show show_string
   second_long e h = record { is = rw (e, shown, lt-leb (length second) 65535 h) }
 
-  module _ {p q : Place} {a : ℕ} (e : p ≡ At a) (l : length second ≤ 65535) where
+  module _ {p q : Place} {a : ℕ} (e : p ≡ Ok a) (l : length second ≤ 65535) where
     alone : Alone p q → q ≡ past (ok_text 0 second []) a
     unfolding check_field show show_string
     alone m = rw (e, whole second, le-leb (length second) 65535 l) at m.is
@@ -68,8 +67,8 @@ module _ (first second : List ℕ) where
     unfolding check_field show show_string
     there f = record { is = rw (e, shown, le-leb (length second) 65535 l) f }
 
-  module _ {p q : Place} {a : ℕ} (e : p ≡ At a) (l : length second ≤ 65535) (m : Alone p q) where
-    pub second_good : {b : ℕ} → q ≡ At b → AsOne p q
+  module _ {p q : Place} {a : ℕ} (e : p ≡ Ok a) (l : length second ≤ 65535) (m : Alone p q) where
+    pub second_good : {b : ℕ} → q ≡ Ok b → AsOne p q
     second_good {b} h = there e l (go (utf8 second) (no_zero second) (0 + zero_at second) (0 + sound_start second) (length first + zero_at second) (length first + sound_start second) (alone e l m))
       where
         go : (u z : Bool) (i j x y : ℕ) → q ≡ past (cond u (cond z (ok second []) (bad R.ZeroByte i)) (bad R.NotUtf8 j)) a
@@ -78,7 +77,7 @@ module _ (first second : List ℕ) where
         go true false i j x y f = absurd (let g = sym h ∙ f in let z : ◌≡◌ {A = ℕ} 0 1 = cc g in omega arith)
         go false z i j x y f = absurd (let g = sym h ∙ f in let z : ◌≡◌ {A = ℕ} 0 1 = cc g in omega arith)
 
-    module _ {k : Refusal} {n : ℕ} (h : q ≡ Refused k n) where
+    module _ {k : Refusal} {n : ℕ} (h : q ≡ Err (k, n)) where
       pub second_lies : n ≤ length second
       second_lies = go (utf8 second) (no_zero second) (zero_at second) (sound_start second) (zero_in second refl) (sound_in second refl) (alone e l m)
         where
@@ -88,19 +87,19 @@ module _ (first second : List ℕ) where
           go true false i j x y f = let g = sym h ∙ f in let b : n ≡ 0 + i = cc g in omega arith
           go false z i j x y f = let g = sym h ∙ f in let b : n ≡ 0 + j = cc g in omega arith
 
-      pub second_bad : AsOne p (Refused k (length first + n))
+      pub second_bad : AsOne p (Err (k, length first + n))
       second_bad = there e l (go (utf8 second) (no_zero second) (zero_at second) (sound_start second) (alone e l m))
         where
           go : (u z : Bool) (i j : ℕ) → q ≡ past (cond u (cond z (ok second []) (bad R.ZeroByte (0 + i))) (bad R.NotUtf8 (0 + j))) a
-              → Refused k (length first + n) ≡ past (cond u (cond z (ok second []) (bad R.ZeroByte (length first + i))) (bad R.NotUtf8 (length first + j))) a
+              → Err (k, length first + n) ≡ past (cond u (cond z (ok second []) (bad R.ZeroByte (length first + i))) (bad R.NotUtf8 (length first + j))) a
           go true true i j f = absurd (let g = sym h ∙ f in let z : ◌≡◌ {A = ℕ} 0 1 = cc g in omega arith)
           go true false i j f =
               let g = sym h ∙ f in
               let c : k ≡ R.ZeroByte = cc g in
               let b : n ≡ 0 + i = cc g in
-              ap₂ Refused c (omega arith)
+              ap₂ Err (c, omega arith)
           go false z i j f =
               let g = sym h ∙ f in
               let c : k ≡ R.NotUtf8 = cc g in
               let b : n ≡ 0 + j = cc g in
-              ap₂ Refused c (omega arith)
+              ap₂ Err (c, omega arith)

@@ -1,7 +1,7 @@
 -- Requests whose two strings lie apart, each all of a slice: they are written as if the second slice stood after the first (F5.20).
+use Rattle.numbers.specs.Place.{Place}
 use Rattle.std.specs.Prelude.{ℕ, ◌+◌, List, [], ◌∷◌, ◌++◌, length, take, drop, get_or}
 use Rattle.std.proofs.Math.Option.{Option, none, some}
-use Rattle.numbers.specs.declared.Place.{Place}
 use Rattle.fields.specs.Layouts.{num, str, dat, strs, quids, boxed, Layout}
 use Rattle.layouts.specs.Tables.{Row, row, layout_tsymlink, layout_trenameat, layout_tauth, layout_tattach}
 use Rattle.flat.specs.Flat.{shape_numbers, FlatWritten}

@@ -16,7 +16,7 @@ ghost use Rattle.apart.specs.Apart.{table_two, ApartWritten};
 ghost use Rattle.apart.specs.SecondLaws.{Passed};
 
 use flat::{U32, WIDTH_T};
-use numbers::{Place, Refusal};
+use numbers::{Fault, Place, Refusal};
 use strings::Span;
 
 // A string that is all of a slice, measured at a place: 7, 5, 6; then the place after its count and its text.
@@ -36,18 +36,18 @@ fn measure_second(first: &[u8], second: &[u8], p: Place) -> Place
     requires { Passed first.now p }
     ensures { FieldMeasured str (first.now ++ second.now) (span (length first.now) (length second.now)) p result }
 {
-    let Place::At(_) = p else {
+    let Ok(_) = p else {
         return p;
     };
     if 65535 < second.len() {
-        return Place::Refused(Refusal::StringTooLong, 0);
+        return Err(Fault(Refusal::StringTooLong, 0));
     }
     let q = measure(second, p);
     match q {
-        Place::At(_) => q,
-        Place::Refused(k, n) => {
+        Ok(_) => q,
+        Err(Fault(k, n)) => {
             let at = first.len() + n;
-            Place::Refused(k, at)
+            Err(Fault(k, at))
         }
     }
 }
@@ -150,6 +150,6 @@ pub fn write_flat(
         74 => write_4s4s(out, p, first, second, values),
         102 => write_4ss4(out, p, first, second, values),
         104 => write_44ss4(out, p, first, second, values),
-        _ => Place::Refused(Refusal::UnknownType, 0),
+        _ => Err(Fault(Refusal::UnknownType, 0)),
     }
 }

@@ -1,10 +1,9 @@
 -- What crosses to Rust of a directory block: an outcome with the values of an entry, and how many entries were packed.
-use Rattle.std.specs.Prelude.{ℕ, ◌≡◌, refl, true, List, length}
+use Rattle.std.specs.Prelude.{ℕ, ◌≡◌, refl, true, List, length, Ok, Err}
 use Rattle.std.proofs.Common.{sym, ap, ◌∙◌}
 use Rattle.numbers.proofs.PlaceLaws.{one_answer}
 use Rattle.numbers.specs.Refusals.{number_of}
 use Rattle.numbers.specs.declared.Refusal.{Refusal}
-use Rattle.numbers.specs.declared.Place.TheVariants.{At, Refused}
 use Rattle.layouts.specs.Records.{dirent}
 use Rattle.flat.specs.Flat.{flat_values, stored}
 use Rattle.exports.specs.declared.Outcome.{Outcome}
@@ -22,9 +21,9 @@ use Rattle.block_exports.specs.declared.Packed.{Packed}
 
 -- an entry is told by the place after it; the end by its own place, and no entry; a refusal by its place: where it stands, the caller knows
 abbrev pub entry_outcome : Found → Outcome
-entry_outcome (entry at vs next) = outcome_of 0 0 true (At next)
-entry_outcome (end at) = ended (At at)
-entry_outcome (stop k n at) = ended (Refused k n)
+entry_outcome (entry at vs next) = outcome_of 0 0 true (Ok next)
+entry_outcome (end at) = ended (Ok at)
+entry_outcome (stop k n at) = ended (Err (k, n))
 
 -- its values are laid flat; where there is none, the lent ones are as they were
 abbrev pub entry_values : List ℕ → Found → List ℕ
@@ -40,14 +39,14 @@ module _ {s : List ℕ} {p : ℕ} {before after : List ℕ} {x : Step} {r : Outc
   found e f g =
       let h = ap view_step (sym e) ∙ a.is in record { is = record { answer = f ∙ ap entry_outcome h; left = g ∙ ap (entry_values before) h } }
 
-  pub entry_there : {l : Listed} → x ≡ S.Entry l → after ≡ stored before 0 (flat_values (dirent l.entry)) → r ≡ outcome_of 0 0 true (At l.next) → EntryRead s p before after r
+  pub entry_there : {l : Listed} → x ≡ S.Entry l → after ≡ stored before 0 (flat_values (dirent l.entry)) → r ≡ outcome_of 0 0 true (Ok l.next) → EntryRead s p before after r
   entry_there e f g = found e g f
 
 module _ {s : List ℕ} {p : ℕ} {before : List ℕ} {x : Step} {r : Outcome} (a : Asked s p x) where
-  pub end_there : {n : ℕ} → x ≡ S.End n → r ≡ ended (At n) → EntryRead s p before before r
+  pub end_there : {n : ℕ} → x ≡ S.End n → r ≡ ended (Ok n) → EntryRead s p before before r
   end_there e g = found a e g refl
 
-  pub stop_there : {k : Refusal} {m n : ℕ} → x ≡ S.Refused k m n → r ≡ ended (Refused k m) → EntryRead s p before before r
+  pub stop_there : {k : Refusal} {m n : ℕ} → x ≡ S.Refused k m n → r ≡ ended (Err (k, m)) → EntryRead s p before before r
   stop_there e g = found a e g refl
 
 -- ---- packing

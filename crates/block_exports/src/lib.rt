@@ -7,7 +7,7 @@ ghost use Rattle.block_exports.specs.Answers.{EntryRead, PackWritten};
 
 use blocks::{Packing, Step};
 use exports::Outcome;
-use numbers::Place;
+use numbers::{Fault, Place};
 
 // What crosses to Rust once entries were packed: 0, how many they are and how many bytes; or the refusal of a name and its place (F2.7), and
 // no entries.
@@ -29,10 +29,10 @@ pub fn sheafsledge_entry_at(block: &[u8], position: usize, values: &mut [u64; 7]
         Step::Entry(listed) => {
             let entry = listed.entry;
             flat::dirents::flat_dirent(entry, values);
-            exports::outcome_of(0, 0, true, Place::At(listed.next))
+            exports::outcome_of(0, 0, true, Ok(listed.next))
         }
-        Step::End(at) => exports::ended(Place::At(at)),
-        Step::Refused(k, n, _) => exports::ended(Place::Refused(k, n)),
+        Step::End(at) => exports::ended(Ok(at)),
+        Step::Refused(k, n, _) => exports::ended(Err(Fault(k, n))),
     }
 }
 

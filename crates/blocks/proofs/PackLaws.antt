@@ -1,5 +1,6 @@
 -- What holds of the definitions in specs/PackLaws.antt.
-use Rattle.std.specs.Prelude.{ℕ, zero, suc, ◌+◌, ◌-◌, ◌≤◌, ◌<◌, min, ◌≡◌, refl, Bool, true, List, [], ◌∷◌, ◌++◌, length, take, drop, get_or}
+use Rattle.numbers.specs.Place.{Place}
+use Rattle.std.specs.Prelude.{ℕ, zero, suc, ◌+◌, ◌-◌, ◌≤◌, ◌<◌, min, ◌≡◌, refl, Bool, true, List, [], ◌∷◌, ◌++◌, length, take, drop, get_or, Ok, Err}
 use Rattle.std.proofs.Common.{arith, add-one, sym, ap₂, ◌∙◌, append_assoc, append-nil, length-append, drop-cons, le-leb}
 use Rattle.std.proofs.Math.Path.{ap}
 use Rattle.std.proofs.Math.Seq.{drop-length}
@@ -11,8 +12,6 @@ use Rattle.numbers.proofs.ReadingLaws.{or_else}
 use Rattle.numbers.specs.Places.{Within, over}
 use Rattle.numbers.proofs.PlaceLaws.{inside, over_then, length_over}
 use Rattle.numbers.specs.declared.Refusal.{Refusal}
-use Rattle.numbers.specs.declared.Place.{Place}
-use Rattle.numbers.specs.declared.Place.TheVariants.{At, Refused}
 use Rattle.strings.specs.Strings.{string_bytes}
 use Rattle.strings.specs.Spans.{show_string, check_at, StrCheck}
 use Rattle.utf8.specs.Plain.{short_plain}
@@ -56,13 +55,13 @@ name_sized names row {bs} e =
     let l : length bs ≡ get_or row 6 0 = rw s.bytes (shown_length names (get_or row 5 0) (get_or row 6 0) s.lies) in
     record { items = items_of row bs; is = named names row e; size = items_length row bs ∙ ap (λ n. n + 24) l; small = s.small }
 
-pub entry_passes : (names row : List ℕ) {a : ℕ} {q : Place} → StrCheck names (get_or row 5 0) (get_or row 6 0) (At 0) q → q ≡ At a → Sized names row
+pub entry_passes : (names row : List ℕ) {a : ℕ} {q : Place} → StrCheck names (get_or row 5 0) (get_or row 6 0) (Ok 0) q → q ≡ Ok a → Sized names row
 entry_passes names row c e = name_sized names row (string_passed c e).shows
 
-pub entry_fails : (names row : List ℕ) {k : Refusal} {at : ℕ} {q : Place} → StrCheck names (get_or row 5 0) (get_or row 6 0) (At 0) q → q ≡ Refused k at → shown names row ≡ bad k at
+pub entry_fails : (names row : List ℕ) {k : Refusal} {at : ℕ} {q : Place} → StrCheck names (get_or row 5 0) (get_or row 6 0) (Ok 0) q → q ≡ Err (k, at) → shown names row ≡ bad k at
 entry_fails names row {k} {at} c e = unnamed names row (go (show_string names (get_or row 5 0) (get_or row 6 0)) (sym c.is ∙ e))
   where
-    go : (m : Result (List ℕ)) → check_at m (At 0) ≡ Refused k at → m ≡ bad k at
+    go : (m : Result (List ℕ)) → check_at m (Ok 0) ≡ Err (k, at) → m ≡ bad k at
     go (ok bs r) f = absurd (let z : ◌≡◌ {A = ℕ} 0 1 = cc f in omega arith)
     go (bad j n) f = let x : j ≡ k = cc f in let y : n ≡ at = cc f in ap₂ bad x y
 
@@ -70,7 +69,7 @@ entry_fails names row {k} {at} c e = unnamed names row (go (show_string names (g
 short_small : (s : List ℕ) {b : Bool} → b ≡ short_plain s → b ≡ true → length s ≤ 16
 short_small s e h = or_else (length s) 16 (λ l. l) (λ l. absurd (let d = short_many s l ∙ sym e ∙ h in let z : ◌≡◌ {A = ℕ} 0 1 = cc d in omega arith))
 
-pub short_name : {names : List ℕ} {x y : ℕ} {t b : Bool} → Within x y (length names) t → t ≡ true → b ≡ short_plain (take (x + y - x) (drop x names)) → b ≡ true → StrCheck names x y (At 0) (At 0)
+pub short_name : {names : List ℕ} {x y : ℕ} {t b : Bool} → Within x y (length names) t → t ≡ true → b ≡ short_plain (take (x + y - x) (drop x names)) → b ≡ true → StrCheck names x y (Ok 0) (Ok 0)
 unfolding show_string
 short_name {names} {x} {y} w h e g =
     let l = inside w h in
@@ -190,7 +189,7 @@ pub first_least : (names : List ℕ) (rows : List (List ℕ)) (m n : ℕ) → m 
 first_least names rows m n h = let e : m + (n - m) ≡ n = omega arith in rw e at (first_grows names rows m (n - m))
 
 pub put_row : {names row o o' : List ℕ} {vs : List Value} {at : ℕ} {q : Place} → Bytes names → Room names row at (length o) → vs ≡ field_values layout_dirent row
-    → PutAll layout_dirent names vs o (At at) o' q → o' ≡ over o at (row_bytes names row)
+    → PutAll layout_dirent names vs o (Ok at) o' q → o' ≡ over o at (row_bytes names row)
 put_row {names} {row} {o} {o'} {vs} {at} b r e p =
     let s = r.shows in
     let g : bytes_of (shown names row) ≡ items_bytes s.items = ap bytes_of s.is in

@@ -1,5 +1,6 @@
 -- What holds of the definitions in specs/StepLaws.antt.
-use Rattle.std.specs.Prelude.{ℕ, ◌<◌, ◌≡◌, refl, false, length, drop}
+use Rattle.numbers.specs.Place.{Place}
+use Rattle.std.specs.Prelude.{ℕ, ◌<◌, ◌≡◌, refl, false, length, drop, Ok, Err}
 use Rattle.std.proofs.Common.{arith, ◌∙◌}
 use Rattle.std.proofs.Math.Path.{sym, ap, ap₂}
 use mathlib.Core.List.{List, [], ◌∷◌}
@@ -10,8 +11,6 @@ use Rattle.numbers.proofs.ReadingLaws.{or_else}
 use Rattle.numbers.proofs.PlaceLaws.{num_short}
 use Rattle.numbers.specs.declared.Refusal.{Refusal}
 use Rattle.numbers.specs.declared.Refusal.TheVariants as R
-use Rattle.numbers.specs.declared.Place.{Place}
-use Rattle.numbers.specs.declared.Place.TheVariants.{At, Refused}
 use Rattle.fields.specs.Layouts.{num, str, Item, read_fields}
 use Rattle.fields.specs.Values.{Value}
 use Rattle.fields.specs.Fields.{past_field, past_fields, Fields}
@@ -25,14 +24,14 @@ use Rattle.blocks.specs.Views.{Asked}
 use Rattle.blocks.specs.StepLaws.{found_at}
 
 module _ (s : List ℕ) (p : ℕ) where
-  byte_short : length s < p → past_field (num 1) s (At p) ≡ Refused R.Short 0
-  byte_short h = sym (number_field (num_short {w = 1} {s = s} {p = At p} {t = false} (omega arith) refl (record { is = omega arith }) refl)).next
+  byte_short : length s < p → past_field (num 1) s (Ok p) ≡ Err (R.Short, 0)
+  byte_short h = sym (number_field (num_short {w = 1} {s = s} {p = Ok p} {t = false} (omega arith) refl (record { is = omega arith }) refl)).next
 
-  past_short : length s < p → past_fields layout_dirent s (At p) ≡ Refused R.Short 0
+  past_short : length s < p → past_fields layout_dirent s (Ok p) ≡ Err (R.Short, 0)
   unfolding past_fields
   past_short h = rw (byte_short h) (stays (num 4 ∷ num 8 ∷ num 8 ∷ num 1 ∷ str ∷ []) s R.Short 0)
 
-  module _ (b : Bytes s) {vs : List Value} {e : Place} (f : Fields layout_dirent s (At p) vs e) where
+  module _ (b : Bytes s) {vs : List Value} {e : Place} (f : Fields layout_dirent s (Ok p) vs e) where
     in_block : p < length s → found_at p vs e ≡ entry_at s p
     unfolding entry_at front
     in_block h = rw (le-ltb (length s) p (omega arith), ne_eqb (length s) p (λ z. omega arith)) (go (read_fields layout_dirent p (drop p s)) refl)
@@ -52,8 +51,8 @@ module _ (s : List ℕ) (p : ℕ) where
   unfolding entry_at
   asked_end e = record { is = rw (le-ltb (length s) p (omega arith), eq-eqb (length s) p (sym e)) }
 
-  pub asked_entry : {d : Dirent} {e : Place} {n : ℕ} → Bytes s → (p ≡ length s → ⊥) → Fields layout_dirent s (At p) (dirent d) e → e ≡ At n → Asked s p (S.Entry record { at = p; entry = d; next = n })
+  pub asked_entry : {d : Dirent} {e : Place} {n : ℕ} → Bytes s → (p ≡ length s → ⊥) → Fields layout_dirent s (Ok p) (dirent d) e → e ≡ Ok n → Asked s p (S.Entry record { at = p; entry = d; next = n })
   asked_entry {d} b h f g = record { is = ap (found_at p (dirent d)) (sym g) ∙ found b f h }
 
-  pub asked_stop : {vs : List Value} {e : Place} {k : Refusal} {n : ℕ} → Bytes s → (p ≡ length s → ⊥) → Fields layout_dirent s (At p) vs e → e ≡ Refused k n → Asked s p (S.Refused k n p)
+  pub asked_stop : {vs : List Value} {e : Place} {k : Refusal} {n : ℕ} → Bytes s → (p ≡ length s → ⊥) → Fields layout_dirent s (Ok p) vs e → e ≡ Err (k, n) → Asked s p (S.Refused k n p)
   asked_stop {vs} b h f g = record { is = ap (found_at p vs) (sym g) ∙ found b f h }

@@ -2,7 +2,6 @@
 use Rattle.std.specs.Prelude.{ℕ, zero, suc, ◌+◌, ◌-◌, ◌≤◌, ◌<◌, ◌≡◌, List, [], ◌∷◌, ◌++◌, length, drop, get_or}
 use Rattle.numbers.specs.Reading.{ok}
 use Rattle.numbers.specs.Places.{over}
-use Rattle.numbers.specs.declared.Place.TheVariants.{Refused}
 use Rattle.fields.specs.Layouts.{Item, items_bytes}
 use Rattle.fields.specs.Values.{shows}
 use Rattle.blocks.specs.declared.Packing.{Packing}

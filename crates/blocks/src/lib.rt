@@ -4,7 +4,6 @@
 
 ghost use Rattle.std.specs.Prelude.{◌≡◌, ◌+◌, ◌≤◌, length};
 ghost use Rattle.numbers.specs.Places.{over};
-ghost use Rattle.numbers.specs.declared.Place.TheVariants.{At};
 ghost use Rattle.strings.specs.Spans.{StrCheck};
 ghost use Rattle.laying.specs.Laying.{PutAll};
 ghost use Rattle.layouts.specs.Tables.{layout_dirent};
@@ -14,7 +13,7 @@ ghost use Rattle.blocks.specs.PackLaws.{Room, Ready, first_bytes};
 
 use layouts::dirents;
 use layouts::dirents::Dirent;
-use numbers::{Place, Refusal};
+use numbers::{Fault, Place, Refusal};
 use strings::Span;
 
 // An entry as it is listed: where it begins, what it is, and where the next one begins. Its name is a span of the block.
@@ -40,16 +39,16 @@ pub fn entry_at(block: &[u8], position: usize) -> Step
     if position == block.len() {
         return Step::End(position);
     }
-    let read = dirents::read_dirent(block, Place::At(position));
+    let read = dirents::read_dirent(block, Ok(position));
     let end = read.next;
     let entry = read.value;
     match end {
-        Place::At(next) => Step::Entry(Listed {
+        Ok(next) => Step::Entry(Listed {
             at: position,
             entry,
             next,
         }),
-        Place::Refused(k, n) => Step::Refused(k, n, position),
+        Err(Fault(k, n)) => Step::Refused(k, n, position),
     }
 }
 
@@ -62,17 +61,17 @@ pub enum Packing {
 
 // The check of an entry's name: 9, 7, 5, 6. Short cut: a short plain name passes all four.
 fn check_name(names: &[u8], name: Span) -> Place
-    ensures { StrCheck names.now name.start name.len (At 0) result }
+    ensures { StrCheck names.now name.start name.len (Ok 0) result }
 {
     let start = name.start;
     let len = name.len;
     if numbers::within(start, len, names.len()) {
         let end = start + len;
         if utf8::short_plain(&names[start..end]) {
-            return Place::At(0);
+            return Ok(0);
         }
     }
-    strings::check_str(names, name, Place::At(0))
+    strings::check_str(names, name, Ok(0))
 }
 
 // How many entries from the front fit so much room. No output is touched here. Room and bytes are compared by their difference, so that no
@@ -88,7 +87,7 @@ fn fitting(names: &[u8], entries: &[[u64; 7]], room: usize) -> Packing
             len: entries[i][6] as usize,
         };
         let q = check_name(names, name);
-        if let Place::Refused(k, n) = q {
+        if let Err(Fault(k, n)) = q {
             return Packing::Refused(k, n);
         }
         let size = name.len + 24;
@@ -123,7 +122,7 @@ fn put_entry(out: &mut [u8], at: usize, names: &[u8], row: [u64; 7])
 {
     if numbers::within(at, 24, out.len()) {
         let d = flat::dirents::dirent_of(row);
-        put_dirent(out, Place::At(at), names, d);
+        put_dirent(out, Ok(at), names, d);
         return;
     }
 }

@@ -1,10 +1,9 @@
 -- Capture files as Rust has them: what was lent, and the outcome.
-use Rattle.std.specs.Prelude.{ℕ, ◌≡◌, List, length, set}
+use Rattle.numbers.specs.Place.{Place}
+use Rattle.std.specs.Prelude.{ℕ, ◌≡◌, List, length, set, Ok, Err}
 use Rattle.std.proofs.Common.{sym, ap, ◌∙◌}
 use Rattle.numbers.proofs.PlaceLaws.{one_answer}
 use Rattle.numbers.specs.declared.Refusal.{Refusal}
-use Rattle.numbers.specs.declared.Place.{Place}
-use Rattle.numbers.specs.declared.Place.TheVariants as P
 use Rattle.captures.specs.declared.Imported.{Imported}
 use Rattle.captures.specs.declared.Imported.TheVariants.{Held, Refused}
 use Rattle.captures.specs.Captures.{bytes_in, times_in, packets_of, imported, held, laid, Imports, exported, exported_file, placed, Exports}
@@ -13,8 +12,8 @@ use Rattle.exports.specs.declared.Outcome.{Outcome}
 
 -- the bytes are the place, the frames the one number that was lent for them
 abbrev pub place_in : Imported → Place
-place_in (Held b n) = P.At b
-place_in (Refused k p) = P.Refused k p
+place_in (Held b n) = Ok b
+place_in (Refused k p) = Err (k, p)
 
 abbrev pub frames_left : Imported → List ℕ → List ℕ
 frames_left (Held b n) m = set m 0 n
@@ -41,10 +40,10 @@ export_made_one x y = (one_answer x.bytes y.bytes, one_answer x.answer y.answer)
 -- ---- the ways
 
 module _ {file o o' : List ℕ} {t t' : List (List ℕ)} {i : Imported} {r : Outcome} (m : List ℕ) (x : Imports file o t o' t' i) where
-  pub import_held : {b n : ℕ} → i ≡ Held b n → r ≡ ended (P.At b) → ImportMade file o t m o' t' (set m 0 n) r
+  pub import_held : {b n : ℕ} → i ≡ Held b n → r ≡ ended (Ok b) → ImportMade file o t m o' t' (set m 0 n) r
   import_held e f = let g = sym e ∙ x.answer in record { answer = rw (← g) f; bytes = x.bytes; times = x.times; frames = rw (← g) }
 
-  pub import_refused : {k : Refusal} {p : ℕ} → i ≡ Refused k p → r ≡ ended (P.Refused k p) → ImportMade file o t m o' t' m r
+  pub import_refused : {k : Refusal} {p : ℕ} → i ≡ Refused k p → r ≡ ended (Err (k, p)) → ImportMade file o t m o' t' m r
   import_refused e f = let g = sym e ∙ x.answer in record { answer = rw (← g) f; bytes = x.bytes; times = x.times; frames = rw (← g) }
 
 pub export_made : {s o o' : List ℕ} {ts : List (List ℕ)} {p : Place} {r : Outcome} → Exports s ts o o' p → r ≡ ended p → ExportMade s ts o o' r

@@ -7,7 +7,7 @@ ghost use Rattle.capture_exports.specs.Captures.{ImportMade, ExportMade};
 
 use captures::Imported;
 use exports::Outcome;
-use numbers::Place;
+use numbers::{Fault, Place};
 
 // The place that is answered is that after the stretch: so many bytes it has. How many frames goes to `frames`, which a refusal leaves as it was.
 pub fn sheafsledge_import(
@@ -22,9 +22,9 @@ pub fn sheafsledge_import(
     match made {
         Imported::Held(bytes, n) => {
             frames[0] = n as u64;
-            exports::ended(Place::At(bytes))
+            exports::ended(Ok(bytes))
         }
-        Imported::Refused(k, at) => exports::ended(Place::Refused(k, at)),
+        Imported::Refused(k, at) => exports::ended(Err(Fault(k, at))),
     }
 }
 

@@ -1,7 +1,8 @@
 -- What holds of the definitions in specs/FileLaws.antt.
+use Rattle.numbers.specs.Place.{Place}
 use Prim.Native.Nat.{ℕ, zero, suc, ◌+◌, ◌*◌, ◌-◌, ◌≤◌, ◌<◌}
 use Rattle.std.proofs.Common.{arith, add-zero, add-one, ap₂, ◌∙◌, drop_of_length-le, drop-cons, drop-drop, take-add, length-take-le}
-use Rattle.std.specs.Prelude.{◌≡◌, Bool, length, take, drop, get_or, ltb, eqb}
+use Rattle.std.specs.Prelude.{◌≡◌, Bool, length, take, drop, get_or, ltb, eqb, Ok, Err}
 use Rattle.std.proofs.Math.Path.{refl, sym, ap}
 use Rattle.std.proofs.Math.Bool.{true, false, cond}
 use mathlib.Core.List.{List, [], ◌∷◌, ◌++◌}
@@ -10,8 +11,6 @@ use borrow.Author.Tests.{lt-ltb, le-ltb, ltb-false, eq-eqb, ne_eqb, eqb-true}
 use Rattle.numbers.specs.Numbers.{from_le}
 use Rattle.numbers.specs.declared.Refusal.{Refusal}
 use Rattle.numbers.specs.declared.Refusal.TheVariants as R
-use Rattle.numbers.specs.declared.Place.{Place}
-use Rattle.numbers.specs.declared.Place.TheVariants.{At, Refused}
 use Rattle.framing.specs.Local.{size_in}
 use Rattle.captures.specs.declared.Imported.TheVariants as I
 use Rattle.captures.specs.Captures.{from_order, num_in, headed, captured, time_in, frame_in, taken, Packets, packet, complete, broken, packets_from, bytes_in, times_in, tallied}
@@ -101,7 +100,7 @@ taken_inv big xs e = go (ltb (length xs) 16) (eqb (captured big xs) (num_in big 
 -- ---- the ways that its size is asked
 
 module _ (big : Bool) (s : List ℕ) (at : ℕ) where
-  pub size_cut : length s < at + 16 → Refused R.Capture at ≡ size_at big at (drop at s)
+  pub size_cut : length s < at + 16 → Err (R.Capture, at) ≡ size_at big at (drop at s)
   unfolding size_at taken
   size_cut h = rw (lt-ltb (length (drop at s)) 16 (let d = length-drop at s in omega arith))
 
@@ -115,21 +114,21 @@ module _ (big : Bool) (s : List ℕ) (at : ℕ) where
     long : 16 ≤ length (drop at s)
     long = let d = length-drop at s in omega arith
 
-    pub size_unlike : (c ≡ o → ⊥) → Refused R.Capture at ≡ size_at big at (drop at s)
+    pub size_unlike : (c ≡ o → ⊥) → Err (R.Capture, at) ≡ size_at big at (drop at s)
     unfolding size_at taken
     size_unlike g = rw (le-ltb (length (drop at s)) 16 long, cap, orig, ne_eqb c o g)
 
     module _ (g : c ≡ o) where
-      pub size_small : c < 7 → Refused R.Capture at ≡ size_at big at (drop at s)
+      pub size_small : c < 7 → Err (R.Capture, at) ≡ size_at big at (drop at s)
       unfolding size_at taken
       size_small i = rw (le-ltb (length (drop at s)) 16 long, cap, orig, eq-eqb c o g, lt-ltb c 7 i)
 
-      pub size_large : 7 ≤ c → 65535 < c → Refused R.Capture at ≡ size_at big at (drop at s)
+      pub size_large : 7 ≤ c → 65535 < c → Err (R.Capture, at) ≡ size_at big at (drop at s)
       unfolding size_at taken
       size_large i j = rw (le-ltb (length (drop at s)) 16 long, cap, orig, eq-eqb c o g, le-ltb c 7 i, lt-ltb 65535 c j)
 
       module _ (i : 7 ≤ c) (j : c ≤ 65535) where
-        pub size_long : length s < at + 16 + c → Refused R.Capture at ≡ size_at big at (drop at s)
+        pub size_long : length s < at + 16 + c → Err (R.Capture, at) ≡ size_at big at (drop at s)
         unfolding size_at taken
         size_long k = rw (le-ltb (length (drop at s)) 16 long, cap, orig, eq-eqb c o g, le-ltb c 7 i, le-ltb 65535 c j, lt-ltb (length (drop at s)) (16 + c) (let d = length-drop at s in omega arith))
 
@@ -138,11 +137,11 @@ module _ (big : Bool) (s : List ℕ) (at : ℕ) where
           unfolding from_order
           inner = ap size_in (drop-drop 16 at s) ∙ sym w
 
-          pub size_other : (z ≡ c → ⊥) → Refused R.Capture at ≡ size_at big at (drop at s)
+          pub size_other : (z ≡ c → ⊥) → Err (R.Capture, at) ≡ size_at big at (drop at s)
           unfolding size_at taken
           size_other u = rw (le-ltb (length (drop at s)) 16 long, cap, orig, eq-eqb c o g, le-ltb c 7 i, le-ltb 65535 c j, le-ltb (length (drop at s)) (16 + c) (let d = length-drop at s in omega arith), inner, ne_eqb z c u)
 
-          pub size_held : z ≡ c → At c ≡ size_at big at (drop at s)
+          pub size_held : z ≡ c → Ok c ≡ size_at big at (drop at s)
           unfolding size_at taken
           size_held u = rw (le-ltb (length (drop at s)) 16 long, cap, orig, eq-eqb c o g, le-ltb c 7 i, le-ltb 65535 c j, le-ltb (length (drop at s)) (16 + c) (let d = length-drop at s in omega arith), inner, eq-eqb z c u)
 
@@ -176,11 +175,11 @@ module _ (big : Bool) where
   packet_none (x ∷ xs) p h e = rw (e, packets_from)
 
   size_inv : (xs : List ℕ) (p : ℕ) {X : Type 0} {r : Place} → r ≡ size_at big p xs
-      → (Taken big xs (captured big xs) → r ≡ At (captured big xs) → X) → (taken big xs ≡ false → r ≡ Refused R.Capture p → X) → X
+      → (Taken big xs (captured big xs) → r ≡ Ok (captured big xs) → X) → (taken big xs ≡ false → r ≡ Err (R.Capture, p) → X) → X
   unfolding size_at
   size_inv xs p {X} {r} e f g = go (taken big xs) refl e
     where
-      go : (b : Bool) → taken big xs ≡ b → r ≡ cond b (At (captured big xs)) (Refused R.Capture p) → X
+      go : (b : Bool) → taken big xs ≡ b → r ≡ cond b (Ok (captured big xs)) (Err (R.Capture, p)) → X
       go true t u = f (taken_inv big xs t) u
       go false t u = g t u
 
@@ -203,7 +202,7 @@ module _ (big : Bool) where
       pub seven : 7 ≤ n
       pub is : from big s p ≡ packet (num_in big 4 p s ∷ num_in big 4 (p + 4) s ∷ []) (take n (drop (p + 16) s)) (from big s (p + 16 + n))
 
-    pub stands : {r : Place} {n : ℕ} → r ≡ size_at big p (drop p s) → r ≡ At n → Stands n
+    pub stands : {r : Place} {n : ℕ} → r ≡ size_at big p (drop p s) → r ≡ Ok n → Stands n
     stands {r} {n} e f = size_inv (drop p s) p e (λ t u. yes t (let k : captured big (drop p s) ≡ n = cc in k)) (λ t u. absurd (let z : ◌≡◌ {A = ℕ} 0 1 = cc in omega arith))
       where
         yes : Taken big (drop p s) (captured big (drop p s)) → captured big (drop p s) ≡ n → Stands n
@@ -220,7 +219,7 @@ module _ (big : Bool) where
                   ∙ rw (drop-drop 4 p s, drop-drop 16 p s, drop-drop (16 + n) p s, a);
             }
 
-    pub none_stands : {r : Place} {k : Refusal} {j : ℕ} → p < length s → r ≡ size_at big p (drop p s) → r ≡ Refused k j → from big s p ≡ broken p
+    pub none_stands : {r : Place} {k : Refusal} {j : ℕ} → p < length s → r ≡ size_at big p (drop p s) → r ≡ Err (k, j) → from big s p ≡ broken p
     none_stands h e f =
         size_inv (drop p s) p e (λ t u. absurd (let z : ◌≡◌ {A = ℕ} 0 1 = cc in omega arith))
         (λ t u. packet_none (drop p s) p (let d = length-drop p s in omega arith) t)

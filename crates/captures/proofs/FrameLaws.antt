@@ -1,13 +1,12 @@
 -- What holds of the definitions in specs/FrameLaws.antt.
-use Rattle.std.specs.Prelude.{ℕ, ◌+◌, ◌-◌, ◌≤◌, refl, Bool, true, false, cond, List, take, drop, ltb}
+use Rattle.numbers.specs.Place.{Place}
+use Rattle.std.specs.Prelude.{ℕ, ◌+◌, ◌-◌, ◌≤◌, refl, Bool, true, false, cond, List, take, drop, ltb, Ok, Err}
 use native.Mathlib.Omega.{arith}
 use Rattle.std.proofs.Math.Path.{◌≡◌, sym}
 use Rattle.std.proofs.Common.{◌∙◌, drop_of_length-le, take-append-drop, ltb-false}
 use Rattle.std.proofs.Math.ListN.{length, length-drop}
 use Rattle.std.proofs.Math.Seq.{length-take-le, drop-drop}
 use Rattle.numbers.specs.declared.Refusal.TheVariants as R
-use Rattle.numbers.specs.declared.Place.{Place}
-use Rattle.numbers.specs.declared.Place.TheVariants.{At, Refused}
 use Rattle.layouts.specs.Bodies.{Answer}
 use Rattle.framing.specs.Stretch.{Listing, entry, ends, stops}
 use Rattle.captures.specs.Captures.{frames_in, counted, fits}
@@ -17,14 +16,14 @@ use Rattle.captures.proofs.StretchLaws.{rest_case, at_end_lem}
 use Rattle.captures.specs.FrameLaws.{Whole}
 
 module _ (s : List ℕ) where
-  small : (n at j : ℕ) (q : Place) → cond (ltb 65535 n) (Refused R.Capture at) q ≡ At j → (n ≤ 65535) × (q ≡ At j)
+  small : (n at j : ℕ) (q : Place) → cond (ltb 65535 n) (Err (R.Capture, at)) q ≡ Ok j → (n ≤ 65535) × (q ≡ Ok j)
   small n at j q = go (ltb 65535 n) refl
     where
-      go : (b : Bool) → ltb 65535 n ≡ b → cond b (Refused R.Capture at) q ≡ At j → (n ≤ 65535) × (q ≡ At j)
+      go : (b : Bool) → ltb 65535 n ≡ b → cond b (Err (R.Capture, at)) q ≡ Ok j → (n ≤ 65535) × (q ≡ Ok j)
       go true e f = absurd (let z : ◌≡◌ {A = ℕ} 0 1 = cc in omega arith)
       go false e f = (ltb-false 65535 n e, f)
 
-  no_more : {p m k q : ℕ} → length s ≤ p → At m ≡ At k → Whole s (ends q) p m k
+  no_more : {p m k q : ℕ} → length s ≤ p → Ok m ≡ Ok k → Whole s (ends q) p m k
   unfolding frames_in
   no_more {p} {m} {k} h e = record { count = let f : m ≡ k = cc e in omega arith; joins = sym (drop_of_length-le s h); goods = tt }
 
@@ -47,7 +46,7 @@ module _ (s : List ℕ) where
         goods = rw j (record { seven = omega arith; most = omega arith; size = rw i x.size ∙ sym len }, w.goods);
       }
 
-  pub whole : (l : Listing) (p : ℕ) {m k j : ℕ} → p ≤ length s → l ≡ rest s p → counted m l ≡ At k → fits l ≡ At j → Whole s l p m k
+  pub whole : (l : Listing) (p : ℕ) {m k j : ℕ} → p ≤ length s → l ≡ rest s p → counted m l ≡ Ok k → fits l ≡ Ok j → Whole s l p m k
   unfolding counted fits
   whole (stops i q) p h e c f = absurd (let z : ◌≡◌ {A = ℕ} 0 1 = cc c in omega arith)
   whole (ends q) p h e c f =

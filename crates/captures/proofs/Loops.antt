@@ -1,4 +1,6 @@
 -- What the two loops that write keep: with what is still to come, the output and the table are what they shall be.
+use Rattle.std.specs.Prelude.{Ok}
+use Rattle.numbers.specs.Place.{Place}
 use Prim.Native.Nat.{ℕ, ◌+◌, ◌-◌, ◌≤◌, ◌<◌}
 use native.Mathlib.Omega.{arith}
 use native.Mathlib.Numerals.{add-one}
@@ -10,8 +12,6 @@ use lib.ListN.{length, take, drop, set, get_or, length-set, length-append}
 use lib.Seq.{sets, sets-eq, drop-cons}
 use Rattle.numbers.specs.Places.{over}
 use Rattle.numbers.proofs.PlaceLaws.{over_then, length_over}
-use Rattle.numbers.specs.declared.Place.{Place}
-use Rattle.numbers.specs.declared.Place.TheVariants.{At}
 use Rattle.strings.specs.Spans.{SpanPut}
 use Rattle.strings.proofs.SpanLaws.{shown_length}
 use Rattle.framing.proofs.WritingLaws.{over_none}
@@ -65,7 +65,7 @@ module _ (big : Bool) (file o₀ : List ℕ) (t₀ : List (List ℕ)) where
         let e = ap length (bytes_turn big file at x) ∙ length-append (take n (drop (at + 16) file)) (bytes_in (from big file (at + 16 + n))) in
         omega arith
 
-    pub take_turn : {n x y : ℕ} {o' : List ℕ} {q : Place} → Stands big file at n → x ≡ num_in big 4 at file → y ≡ num_in big 4 (at + 4) file → SpanPut file (at + 16) n o (At to) o' q
+    pub take_turn : {n x y : ℕ} {o' : List ℕ} {q : Place} → Stands big file at n → x ≡ num_in big 4 at file → y ≡ num_in big 4 (at + 4) file → SpanPut file (at + 16) n o (Ok to) o' q
         → Taking big file o₀ t₀ o' (set t i (x ∷ y ∷ [])) (at + 16 + n) (to + n) (i + 1)
     take_turn {n} {x} {y} {o'} {q} s e f p =
         let k = s.held in

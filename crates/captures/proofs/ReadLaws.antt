@@ -1,5 +1,5 @@
 -- What holds of the definitions in specs/ReadLaws.antt.
-use Rattle.std.specs.Prelude.{ℕ, suc, ◌+◌, ◌^◌, ◌≤◌, ◌<◌, ◌≡◌, refl, Bool, true, false, drop, get_or}
+use Rattle.std.specs.Prelude.{ℕ, suc, ◌+◌, ◌^◌, ◌≤◌, ◌<◌, ◌≡◌, refl, Bool, true, false, drop, get_or, Ok}
 use native.Mathlib.Omega.{arith}
 use Rattle.std.proofs.Math.Path.{sym, ap, ap₂}
 use Rattle.std.proofs.Common.{◌∙◌, length-drop, take-append-drop, length-take-le, take_at, drop_at, drop-drop, take-take, le-ltb}
@@ -10,7 +10,6 @@ use Rattle.std.proofs.lemmas.List.{take-append-le}
 use Rattle.std.proofs.Math.Seq.{take-append_seam, drop-append_seam}
 use Rattle.numbers.specs.Numbers.{Bytes, from_le, to_le}
 use Rattle.numbers.proofs.Numbers.{length_to_le, from_to, to_from, bytes_take, bytes_drop}
-use Rattle.numbers.specs.declared.Place.TheVariants.{At}
 use Rattle.layouts.specs.Tables.{Row}
 use Rattle.framing.specs.Local.{size_in}
 use Rattle.framing.specs.Stretch.{list_from, listing}
@@ -190,7 +189,7 @@ writes_back (packet t f r) xs p b n y e h =
 module _ (ts rs : List Row) where
   pub reads_joined : (pre : List ℕ) (fs : List (List ℕ)) → Goods fs → Reads (pre ++ joined fs) (list_from ts rs (length pre) 0 (joined fs)) fs
   unfolding frames_in counted fits list_from
-  reads_joined pre [] g = record { frames = refl; count = λ m. ap At (omega arith); fit = ap (λ (x : List ℕ). At (length x)) (sym (append-nil pre)) }
+  reads_joined pre [] g = record { frames = refl; count = λ m. ap Ok (omega arith); fit = ap (λ (x : List ℕ). Ok (length x)) (sym (append-nil pre)) }
   reads_joined pre (f ∷ fs) (g, gs) =
       let i = reads_joined (pre ++ f) fs gs in
       let la = length-append f (joined fs) in
@@ -203,8 +202,8 @@ module _ (ts rs : List Row) where
       let l = rw (drop-append_seam f (joined fs), q) at (list_next ts rs (length pre) (length f) (f ++ joined fs) fr) in
       record {
         frames = ap (frames_in (pre ++ (f ++ joined fs))) l ∙ ap₂ {C = List (List ℕ)} (λ x y. x ∷ y) d (ap (λ (x : List ℕ). frames_in x (list_from ts rs (length (pre ++ f)) 0 (joined fs))) a ∙ i.frames);
-        count = λ m. ap (counted m) l ∙ i.count (m + 1) ∙ ap At (omega arith);
-        fit = ap fits l ∙ rw (le-ltb 65535 (length f) most) (i.fit ∙ ap (λ (x : List ℕ). At (length x)) (sym a));
+        count = λ m. ap (counted m) l ∙ i.count (m + 1) ∙ ap Ok (omega arith);
+        fit = ap fits l ∙ rw (le-ltb 65535 (length f) most) (i.fit ∙ ap (λ (x : List ℕ). Ok (length x)) (sym a));
       }
 
   pub reads_stretch : (fs : List (List ℕ)) → Goods fs → Reads (joined fs) (listing ts rs (joined fs)) fs

@@ -1,5 +1,6 @@
 -- What holds of the definitions in specs/Round.antt.
-use Rattle.std.specs.Prelude.{ℕ, ◌+◌, ◌≤◌, ◌≡◌, refl, Bool, true, false, cond, List, [], ◌++◌, length, take, drop, ltb}
+use Rattle.numbers.specs.Place.{Place}
+use Rattle.std.specs.Prelude.{ℕ, ◌+◌, ◌≤◌, ◌≡◌, refl, Bool, true, false, cond, List, [], ◌++◌, length, take, drop, ltb, Ok, Err}
 use Rattle.std.proofs.Common.{arith, zero-add, sym, ap, ap₂, ◌∙◌, take-append-drop, length-take-le, le-ltb, ltb-false}
 use Rattle.std.proofs.Math.Option.{Option, none, some}
 use Rattle.std.proofs.Math.Seq.{take-append_seam}
@@ -8,8 +9,6 @@ use Rattle.numbers.proofs.Numbers.{bytes_drop}
 use Rattle.numbers.proofs.PlaceLaws.{one_answer}
 use Rattle.numbers.specs.declared.Refusal.{Refusal}
 use Rattle.numbers.specs.declared.Refusal.TheVariants as R
-use Rattle.numbers.specs.declared.Place.{Place}
-use Rattle.numbers.specs.declared.Place.TheVariants.{At, Refused}
 use Rattle.layouts.specs.Tables.{Row}
 use Rattle.framing.specs.Stretch.{listing}
 use Rattle.captures.specs.declared.Imported.{Imported}
@@ -35,7 +34,7 @@ exports_one x y = (one_answer x.bytes y.bytes, one_answer x.answer y.answer)
 pub import_untouched : {file o o' : List ℕ} {t t' : List (List ℕ)} {k : Refusal} {p : ℕ} → Imports file o t o' t' (I.Refused k p) → (o' ≡ o) × (t' ≡ t)
 import_untouched x = (rw (← x.answer) at x.bytes, rw (← x.answer) at x.times)
 
-pub export_untouched : {s o o' : List ℕ} {ts : List (List ℕ)} {k : Refusal} {p : ℕ} → Exports s ts o o' (Refused k p) → o' ≡ o
+pub export_untouched : {s o o' : List ℕ} {ts : List (List ℕ)} {k : Refusal} {p : ℕ} → Exports s ts o o' (Err (k, p)) → o' ≡ o
 export_untouched x = rw (← x.answer) at x.bytes
 
 within_inv : {X : Type 0} (room rows : ℕ) (m : Imported) {b n : ℕ} → within room rows m ≡ I.Held b n → (m ≡ I.Held b n → n ≤ rows → b ≤ room → X) → X
@@ -68,18 +67,18 @@ took {file} {o} {o'} {t} {t'} {b} {n} x =
       times = (rw (← x.answer, q) at x.times);
     })
 
-unless_inv : {X : Type 0} (p q : Place) {n : ℕ} → unless p q ≡ At n → ((m : ℕ) → p ≡ At m → q ≡ At n → X) → X
-unless_inv (Refused k j) q e f = absurd (let z : ◌≡◌ {A = ℕ} 0 1 = cc e in omega arith)
-unless_inv (At m) q e f = f m refl e
+unless_inv : {X : Type 0} (p q : Place) {n : ℕ} → unless p q ≡ Ok n → ((m : ℕ) → p ≡ Ok m → q ≡ Ok n → X) → X
+unless_inv (Err w) q e f = absurd (let z : ◌≡◌ {A = ℕ} 0 1 = cc e in omega arith)
+unless_inv (Ok m) q e f = f m refl e
 
-cond_inv : {X : Type 0} (a b : ℕ) (k : Refusal) (q : Place) {n : ℕ} → cond (ltb a b) (Refused k 0) q ≡ At n → (b ≤ a → q ≡ At n → X) → X
+cond_inv : {X : Type 0} (a b : ℕ) (k : Refusal) (q : Place) {n : ℕ} → cond (ltb a b) (Err (k, 0)) q ≡ Ok n → (b ≤ a → q ≡ Ok n → X) → X
 cond_inv {X} a b k q {n} e f = go (ltb a b) refl e
   where
-    go : (c : Bool) → ltb a b ≡ c → cond c (Refused k 0) q ≡ At n → X
+    go : (c : Bool) → ltb a b ≡ c → cond c (Err (k, 0)) q ≡ Ok n → X
     go true u v = absurd (let z : ◌≡◌ {A = ℕ} 0 1 = cc v in omega arith)
     go false u v = f (ltb-false a b u) v
 
-pub wrote : {s o o' : List ℕ} {ts : List (List ℕ)} {n : ℕ} → Exports s ts o o' (At n) → Wrote s ts o o' n
+pub wrote : {s o o' : List ℕ} {ts : List (List ℕ)} {n : ℕ} → Exports s ts o o' (Ok n) → Wrote s ts o o' n
 unfolding exported
 wrote {s} {o} {o'} {ts} {n} x =
     unless_inv (counted 0 (cut_up s)) _ (sym (opened x.answer))
@@ -91,13 +90,13 @@ wrote {s} {o} {o'} {ts} {n} x =
     let l : length (exported_file s ts) ≡ n = cc e''' in
     record { joins = w.joins; goods = w.goods; rows = h; long = l; room = omega arith; bytes = (rw (← x.answer, l) at x.bytes) }))))
   where
-    opened : At n ≡ exported (length o) s ts
-        → At n ≡ unless (counted 0 (cut_up s)) (unless (fits (cut_up s)) (cond (ltb (length ts) (length (frames_in s (cut_up s)))) (Refused R.TableFull 0) (cond (ltb (length o) (length (exported_file s ts))) (Refused R.NoRoom 0) (At (length (exported_file s ts))))))
+    opened : Ok n ≡ exported (length o) s ts
+        → Ok n ≡ unless (counted 0 (cut_up s)) (unless (fits (cut_up s)) (cond (ltb (length ts) (length (frames_in s (cut_up s)))) (Err (R.TableFull, 0)) (cond (ltb (length o) (length (exported_file s ts))) (Err (R.NoRoom, 0)) (Ok (length (exported_file s ts))))))
     opened e = e
 
 -- ---- export, then import (F13.6): the same frames and the same times, wherever there is room for them
 
-pub export_import : {s o o' o2 o2' : List ℕ} {ts t2 t2' : List (List ℕ)} {n : ℕ} {r : Imported} → Pairs ts → Exports s ts o o' (At n) → Imports (take n o') o2 t2 o2' t2' r
+pub export_import : {s o o' o2 o2' : List ℕ} {ts t2 t2' : List (List ℕ)} {n : ℕ} {r : Imported} → Pairs ts → Exports s ts o o' (Ok n) → Imports (take n o') o2 t2 o2' t2' r
     → length s ≤ length o2 → length (frames_in s (cut_up s)) ≤ length t2
     → (r ≡ I.Held (length s) (length (frames_in s (cut_up s)))) × (o2' ≡ s ++ drop (length s) o2)
     × (t2' ≡ take (length (frames_in s (cut_up s))) ts ++ drop (length (frames_in s (cut_up s))) t2)
@@ -122,7 +121,7 @@ export_import {s} {o} {o'} {o2} {o2'} {ts} {t2} {t2'} {n} {r} ps x y h k =
 -- ---- import, then export (F13.7): the same file, if it has the header that export writes
 
 pub import_export : {file o o' o2 o2' : List ℕ} {t t' : List (List ℕ)} {b n : ℕ} {r : Place} → Bytes file → take 24 file ≡ header → Imports file o t o' t' (I.Held b n)
-    → Exports (take b o') (take n t') o2 o2' r → length file ≤ length o2 → (r ≡ At (length file)) × (o2' ≡ file ++ drop (length file) o2)
+    → Exports (take b o') (take n t') o2 o2' r → length file ≤ length o2 → (r ≡ Ok (length file)) × (o2' ≡ file ++ drop (length file) o2)
 unfolding exported
 import_export {file} {o} {o'} {o2} {o2'} {t} {t'} {b} {n} {r} bs hd x y room =
     let p : Packets = packets_from false 24 0 (drop 24 file) in
@@ -140,8 +139,8 @@ import_export {file} {o} {o'} {o2} {o2'} {t} {t'} {b} {n} {r} bs hd x y room =
     let g = reads_stretch [] [] (frames_of p) k.goods in
     let s' : take b o' ≡ joined (frames_of p) = s ∙ e in
     let fr : frames_in (take b o') (cut_up (take b o')) ≡ frames_of p = ap (λ (z : List ℕ). frames_in z (cut_up z)) s' ∙ g.frames in
-    let co : counted 0 (cut_up (take b o')) ≡ At (0 + length (frames_of p)) = ap (λ (z : List ℕ). counted 0 (cut_up z)) s' ∙ g.count 0 in
-    let fi : fits (cut_up (take b o')) ≡ At (length (joined (frames_of p))) = ap (λ (z : List ℕ). fits (cut_up z)) s' ∙ g.fit in
+    let co : counted 0 (cut_up (take b o')) ≡ Ok (0 + length (frames_of p)) = ap (λ (z : List ℕ). counted 0 (cut_up z)) s' ∙ g.count 0 in
+    let fi : fits (cut_up (take b o')) ≡ Ok (length (joined (frames_of p))) = ap (λ (z : List ℕ). fits (cut_up z)) s' ∙ g.fit in
     let same : exported_file (take b o') (take n t') ≡ file
     = ap₂ {C = List ℕ} (λ u v. header ++ records_of (paired u v)) ts fr ∙ ap (λ q. header ++ records_of q) k.pairs
     ∙ ap (λ (z : List ℕ). header ++ z) (writes_back p (drop 24 file) 24 0 0 (bytes_drop 24 file bs) refl told) ∙ whole_file in
@@ -158,7 +157,7 @@ read_in none file e = absurd (let z : ◌≡◌ {A = ℕ} 0 1 = cc e in omega ar
 read_in (some big) file e = let k = reads_back big (packets_from big 24 0 (drop 24 file)) (drop 24 file) 24 0 0 refl e in (k.goods, k.many)
 
 pub imported_reads : {file o o' : List ℕ} {t t' : List (List ℕ)} {b n : ℕ} (ts rs : List Row) → Imports file o t o' t' (I.Held b n)
-    → (counted 0 (listing ts rs (take b o')) ≡ At n) × (frames_in (take b o') (listing ts rs (take b o')) ≡ frames_of (packets_of file)) × (fits (listing ts rs (take b o')) ≡ At b)
+    → (counted 0 (listing ts rs (take b o')) ≡ Ok n) × (frames_in (take b o') (listing ts rs (take b o')) ≡ frames_of (packets_of file)) × (fits (listing ts rs (take b o')) ≡ Ok b)
 unfolding packets_of
 imported_reads {file} {o} {o'} {t} {t'} {b} {n} ts rs x =
     let p : Packets = packets_in (order_of file) file in
@@ -171,7 +170,7 @@ imported_reads {file} {o} {o'} {t} {t'} {b} {n} ts rs x =
     let s : take b o' ≡ joined (frames_of p) = ap (take b) w.bytes ∙ ap (λ j. take j (bytes_in p ++ drop b o)) (sym bl) ∙ take-append_seam (bytes_in p) (drop b o) ∙ bytes_joined p in
     let g = reads_stretch ts rs (frames_of p) k.0 in
     let jl : length (joined (frames_of p)) ≡ b = ap length (sym (bytes_joined p)) ∙ bl in (
-      ap (λ (z : List ℕ). counted 0 (listing ts rs z)) s ∙ g.count 0 ∙ ap At (omega arith),
+      ap (λ (z : List ℕ). counted 0 (listing ts rs z)) s ∙ g.count 0 ∙ ap Ok (omega arith),
       ap (λ (z : List ℕ). frames_in z (listing ts rs z)) s ∙ g.frames,
-      ap (λ (z : List ℕ). fits (listing ts rs z)) s ∙ g.fit ∙ ap At jl,
+      ap (λ (z : List ℕ). fits (listing ts rs z)) s ∙ g.fit ∙ ap Ok jl,
     )

@@ -1,13 +1,12 @@
 -- What holds of the definitions in specs/StretchLaws.antt.
-use Rattle.std.specs.Prelude.{ℕ, ◌+◌, ◌-◌, ◌≤◌, ◌<◌, ◌≡◌, refl, List, [], ◌∷◌, length, take, drop}
+use Rattle.numbers.specs.Place.{Place}
+use Rattle.std.specs.Prelude.{ℕ, ◌+◌, ◌-◌, ◌≤◌, ◌<◌, ◌≡◌, refl, List, [], ◌∷◌, length, take, drop, Ok, Err}
 use Rattle.std.proofs.Common.{arith, sym, ap, ◌∙◌, drop_of_length-le, length-take-le, take-take}
 use borrow.Author.Tests.{lt-ltb, le-ltb, ne_eqb}
 use Rattle.numbers.specs.Numbers.{from_le}
 use Rattle.numbers.proofs.ReadingLaws.{or_else}
 use Rattle.numbers.specs.declared.Refusal.{Refusal}
 use Rattle.numbers.specs.declared.Refusal.TheVariants as R
-use Rattle.numbers.specs.declared.Place.{Place}
-use Rattle.numbers.specs.declared.Place.TheVariants.{At, Refused}
 use Rattle.layouts.specs.Bodies.{Answer}
 use Rattle.framing.specs.Stretch.{Step, frame, end, stop, front, frame_at, ends, stops, list_from, listing}
 use Rattle.framing.proofs.ListingLaws.{front_case, list_step, whole_at, moves_on}
@@ -22,18 +21,18 @@ use Rattle.captures.specs.StretchLaws.{Next}
 -- ---- the ways of a cut
 
 module _ (s : List ℕ) (p : ℕ) {g : Cut} (c : CutAt s p g) where
-  pub end_whole : {ty tag e : ℕ} → g ≡ C.Whole ty tag e → At e ≡ step_to (frame_at [] [] s p)
+  pub end_whole : {ty tag e : ℕ} → g ≡ C.Whole ty tag e → Ok e ≡ step_to (frame_at [] [] s p)
   end_whole {ty} {tag} {e} f =
       let w = cut_whole s p c f in
       let l = length_whole w in
       let a = w.seven in
       let n : e ≡ p + length (between p e s) = omega arith in
-      ap At n ∙ ap step_to (w.is [] [])
+      ap Ok n ∙ ap step_to (w.is [] [])
 
-  pub end_end : g ≡ C.End → Refused R.StretchCut p ≡ step_to (frame_at [] [] s p)
+  pub end_end : g ≡ C.End → Err (R.StretchCut, p) ≡ step_to (frame_at [] [] s p)
   end_end f = ap step_to (cut_end s p c f [] [])
 
-  pub end_stop : {k : Refusal} → g ≡ C.Refused k → Refused k p ≡ step_to (frame_at [] [] s p)
+  pub end_stop : {k : Refusal} → g ≡ C.Refused k → Err (k, p) ≡ step_to (frame_at [] [] s p)
   end_stop f = ap step_to (cut_stop s p c f [] [])
 
 module _ (s : List ℕ) (p : ℕ) where
@@ -60,7 +59,7 @@ module _ (s : List ℕ) (p : ℕ) where
         is = list_step [] [] s p h ∙ rw (f, q);
       })
 
-  pub next : {r : Place} {e : ℕ} → p ≤ length s → r ≡ step_to (frame_at [] [] s p) → r ≡ At e → Next s p e
+  pub next : {r : Place} {e : ℕ} → p ≤ length s → r ≡ step_to (frame_at [] [] s p) → r ≡ Ok e → Next s p e
   next {r} {e} h u v = go (frame_at [] [] s p) refl u
     where
       go : (t : Step) → frame_at [] [] s p ≡ t → r ≡ step_to t → Next s p e
@@ -83,7 +82,7 @@ module _ (s : List ℕ) (p : ℕ) where
       (λ l. front_case [] [] p (drop p s) (λ n x e. g (p + length (take n (drop p s))) (next_is h (inside l ∙ e)))
       (λ k e. let u = inside l ∙ e in i k l u (list_step [] [] s p h ∙ rw u)))
 
-  pub stopped : {r : Place} {k : Refusal} {j : ℕ} → p < length s → r ≡ step_to (frame_at [] [] s p) → r ≡ Refused k j → rest s p ≡ stops k j
+  pub stopped : {r : Place} {k : Refusal} {j : ℕ} → p < length s → r ≡ step_to (frame_at [] [] s p) → r ≡ Err (k, j) → rest s p ≡ stops k j
   stopped {r} {k} {j} h u v = front_case [] [] p (drop p s) (λ n x e. absurd (let t = rw (inside h ∙ e) at u in let z : ◌≡◌ {A = ℕ} 0 1 = cc in omega arith))
       (λ i e.
       let f = inside h ∙ e in
@@ -110,7 +109,7 @@ module _ {s : List ℕ} {p e : ℕ} (x : Next s p e) where
   unfolding fits
   fit_turn h = rw (x.is, le-ltb 65535 x.n (let f = size_is in omega arith))
 
-  pub fit_long : 65535 < e - p → Refused R.Capture p ≡ fits (rest s p)
+  pub fit_long : 65535 < e - p → Err (R.Capture, p) ≡ fits (rest s p)
   unfolding fits
   fit_long h = rw (x.is, lt-ltb 65535 x.n (let f = size_is in omega arith))
 
@@ -119,11 +118,11 @@ module _ {s : List ℕ} {p e : ℕ} (x : Next s p e) where
   frames_turn = rw (x.is, size_is)
 
 module _ (s : List ℕ) (p : ℕ) {k : Refusal} {j : ℕ} (x : rest s p ≡ stops k j) where
-  pub count_stop : (m : ℕ) → Refused k j ≡ counted m (rest s p)
+  pub count_stop : (m : ℕ) → Err (k, j) ≡ counted m (rest s p)
   unfolding counted
   count_stop m = rw x
 
-  pub fit_stop : Refused k j ≡ fits (rest s p)
+  pub fit_stop : Err (k, j) ≡ fits (rest s p)
   unfolding fits
   fit_stop = rw x
 
@@ -132,11 +131,11 @@ module _ (s : List ℕ) (p : ℕ) {k : Refusal} {j : ℕ} (x : rest s p ≡ stop
   frames_stop = rw x
 
 module _ (s : List ℕ) (p : ℕ) (x : rest s p ≡ ends p) where
-  pub count_end : (m : ℕ) → At m ≡ counted m (rest s p)
+  pub count_end : (m : ℕ) → Ok m ≡ counted m (rest s p)
   unfolding counted
   count_end m = rw x
 
-  pub fit_end : At p ≡ fits (rest s p)
+  pub fit_end : Ok p ≡ fits (rest s p)
   unfolding fits
   fit_end = rw x
 

@@ -1,5 +1,6 @@
 -- What import and export answer on each way, and leave of what was lent.
-use Rattle.std.specs.Prelude.{ℕ, ◌+◌, ◌*◌, ◌≤◌, ◌<◌, Bool, ltb, eqb}
+use Rattle.numbers.specs.Place.{Place}
+use Rattle.std.specs.Prelude.{ℕ, ◌+◌, ◌*◌, ◌≤◌, ◌<◌, Bool, ltb, eqb, Ok, Err}
 use native.Mathlib.Omega.{arith}
 use Rattle.std.proofs.Common.{zero-add, sym, ◌∙◌, length-append}
 use Rattle.std.proofs.Math.Path.{◌≡◌, refl, ap}
@@ -12,8 +13,6 @@ use Rattle.numbers.specs.Places.{over}
 use Rattle.numbers.proofs.PlaceLaws.{over_then}
 use Rattle.numbers.specs.declared.Refusal.{Refusal}
 use Rattle.numbers.specs.declared.Refusal.TheVariants as R
-use Rattle.numbers.specs.declared.Place.{Place}
-use Rattle.numbers.specs.declared.Place.TheVariants.{At, Refused}
 use Rattle.captures.specs.declared.Imported.{Imported}
 use Rattle.captures.specs.declared.Imported.TheVariants as I
 use Rattle.captures.specs.Captures.{num_in, headed, order_of, Packets, packet, complete, broken, packets_of, bytes_in, times_in, tallied, within, imported, Imports, frames_in, counted, fits, cut_up, header, exported_file, exported, Exports}
@@ -138,23 +137,23 @@ module _ {room len n : ℕ} {b : Bool} (x : RoomFor room len n b) where
   room_no e = rw e at x.is
 
 module _ (s : List ℕ) (ts : List (List ℕ)) (o : List ℕ) {p : Place} (c : p ≡ counted 0 (cut_up s)) where
-  pub export_cut : {k : Refusal} {j : ℕ} → p ≡ Refused k j → Exports s ts o o p
+  pub export_cut : {k : Refusal} {j : ℕ} → p ≡ Err (k, j) → Exports s ts o o p
   unfolding exported
   export_cut e = record { answer = rw (← c, e); bytes = rw (← c, e) }
 
-  module _ {n : ℕ} {q : Place} (e : p ≡ At n) (f : q ≡ fits (cut_up s)) where
-    pub export_long : {k : Refusal} {j : ℕ} → q ≡ Refused k j → Exports s ts o o q
+  module _ {n : ℕ} {q : Place} (e : p ≡ Ok n) (f : q ≡ fits (cut_up s)) where
+    pub export_long : {k : Refusal} {j : ℕ} → q ≡ Err (k, j) → Exports s ts o o q
     unfolding exported
     export_long g = record { answer = rw (← c, e, ← f, g); bytes = rw (← c, e, ← f, g) }
 
-    module _ {j : ℕ} (g : q ≡ At j) where
+    module _ {j : ℕ} (g : q ≡ Ok j) where
       all : Whole s (cut_up s) 0 0 n
       all = whole s (cut_up s) 0 (omega arith) (sym (starts s)) (sym c ∙ e) (sym f ∙ g)
 
       pub frames_many : length (frames_in s (cut_up s)) ≡ n
       frames_many = let h = all.count in omega arith
 
-      pub export_rows : length ts < n → Exports s ts o o (Refused R.TableFull 0)
+      pub export_rows : length ts < n → Exports s ts o o (Err (R.TableFull, 0))
       unfolding exported
       export_rows h =
           let u = lt-ltb (length ts) n h in
@@ -175,7 +174,7 @@ module _ (s : List ℕ) (ts : List (List ℕ)) (o : List ℕ) {p : Place} (c : p
             let m = records_long in
             omega arith
 
-        pub export_room : length o < 24 + length s + 16 * n → Exports s ts o o (Refused R.NoRoom 0)
+        pub export_room : length o < 24 + length s + 16 * n → Exports s ts o o (Err (R.NoRoom, 0))
         unfolding exported
         export_room k =
             let u = le-ltb (length ts) n h in
@@ -189,7 +188,7 @@ module _ (s : List ℕ) (ts : List (List ℕ)) (o : List ℕ) {p : Place} (c : p
               let r = records_long in
               record { rows = omega arith; room = omega arith }
 
-          pub export_held : {o1 o2 : List ℕ} {m : ℕ} → o1 ≡ over o 0 header → o2 ≡ over o1 24 (records s ts) → m ≡ 24 + length s + 16 * n → Exports s ts o o2 (At m)
+          pub export_held : {o1 o2 : List ℕ} {m : ℕ} → o1 ≡ over o 0 header → o2 ≡ over o1 24 (records s ts) → m ≡ 24 + length s + 16 * n → Exports s ts o o2 (Ok m)
           unfolding exported
           export_held {o1} {o2} {m} x y z =
               let u = le-ltb (length ts) n h in

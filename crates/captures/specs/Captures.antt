@@ -1,10 +1,9 @@
 -- A capture file: a header and records, each with a time and a frame (F13). Of a file, and of a stretch with a table of times.
-use Rattle.std.specs.Prelude.{ℕ, zero, suc, ◌+◌, ◌≡◌, Bool, true, false, cond, List, [], ◌∷◌, ◌++◌, reverse, length, take, drop, get_or, ltb, eqb}
+use Rattle.numbers.specs.Place.{Place}
+use Rattle.std.specs.Prelude.{ℕ, zero, suc, ◌+◌, ◌≡◌, Bool, true, false, cond, List, [], ◌∷◌, ◌++◌, reverse, length, take, drop, get_or, ltb, eqb, Ok, Err}
 use Rattle.std.proofs.Math.Option.{Option, none, some}
 use Rattle.numbers.specs.Numbers.{from_le, to_le}
 use Rattle.numbers.specs.declared.Refusal.TheVariants as R
-use Rattle.numbers.specs.declared.Place.{Place}
-use Rattle.numbers.specs.declared.Place.TheVariants.{At, Refused}
 use Rattle.framing.specs.Local.{size_in}
 use Rattle.framing.specs.Stretch.{Listing, entry, ends, stops, listing}
 use Rattle.captures.specs.declared.Imported.{Imported}
@@ -122,14 +121,14 @@ frames_in s (stops k p) = []
 
 unfoldable pub counted : ℕ → Listing → Place
 counted m (entry at n ty tag a tail l) = counted (m + 1) l
-counted m (ends p) = At m
-counted m (stops k p) = Refused k p
+counted m (ends p) = Ok m
+counted m (stops k p) = Err (k, p)
 
 -- 25 at the first frame over 65,535
 unfoldable pub fits : Listing → Place
-fits (entry at n ty tag a tail l) = cond (ltb 65535 n) (Refused R.Capture at) (fits l)
-fits (ends p) = At p
-fits (stops k p) = Refused k p
+fits (entry at n ty tag a tail l) = cond (ltb 65535 n) (Err (R.Capture, at)) (fits l)
+fits (ends p) = Ok p
+fits (stops k p) = Err (k, p)
 
 -- no body is read, so that no table of types is asked
 abbrev pub cut_up : List ℕ → Listing
@@ -159,8 +158,8 @@ file_of r = header ++ records_of r
 
 -- the first refusal answers
 abbrev pub unless : Place → Place → Place
-unless (Refused k p) q = Refused k p
-unless (At n) q = q
+unless (Err f) q = Err f
+unless (Ok n) q = q
 
 abbrev pub exported_file : List ℕ → List (List ℕ) → List ℕ
 exported_file s ts = file_of (paired ts (frames_in s (cut_up s)))
@@ -170,12 +169,12 @@ unfoldable pub exported : ℕ → List ℕ → List (List ℕ) → Place
 exported room s ts =
     unless (counted 0 (cut_up s))
     (unless (fits (cut_up s))
-    (cond (ltb (length ts) (length (frames_in s (cut_up s)))) (Refused R.TableFull 0)
-    (cond (ltb room (length (exported_file s ts))) (Refused R.NoRoom 0) (At (length (exported_file s ts))))))
+    (cond (ltb (length ts) (length (frames_in s (cut_up s)))) (Err (R.TableFull, 0))
+    (cond (ltb room (length (exported_file s ts))) (Err (R.NoRoom, 0)) (Ok (length (exported_file s ts))))))
 
 abbrev pub placed : Place → Bool
-placed (At n) = true
-placed (Refused k p) = false
+placed (Ok n) = true
+placed (Err f) = false
 
 -- what an export leaves of an output, and answers
 pub record Exports (s : List ℕ) (ts : List (List ℕ)) (o o' : List ℕ) (r : Place) : Type 0 where

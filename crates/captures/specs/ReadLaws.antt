@@ -1,8 +1,7 @@
 -- What is written is read back, and what is read is written back: records and files, and frames back to back.
-use Rattle.std.specs.Prelude.{ℕ, ◌+◌, ◌^◌, ◌<◌, ◌≡◌, Bool, false, drop}
+use Rattle.std.specs.Prelude.{ℕ, ◌+◌, ◌^◌, ◌<◌, ◌≡◌, Bool, false, drop, Ok}
 use mathlib.Core.List.{List, [], ◌∷◌}
 use Rattle.std.proofs.Math.ListN.{length, take}
-use Rattle.numbers.specs.declared.Place.TheVariants.{At}
 use Rattle.framing.specs.Stretch.{Listing}
 use Rattle.captures.specs.Captures.{time_in, Packets, packet, complete, broken, times_in, frames_in, counted, fits, paired}
 use Rattle.captures.specs.Steps.{Goods}
@@ -48,5 +47,5 @@ pub record Back (big : Bool) (xs : List ℕ) (r : Packets) : Type 0 where
 
 pub record Reads (s : List ℕ) (l : Listing) (fs : List (List ℕ)) : Type 0 where
   pub frames : frames_in s l ≡ fs
-  pub count : (m : ℕ) → counted m l ≡ At (m + length fs)
-  pub fit : fits l ≡ At (length s)
+  pub count : (m : ℕ) → counted m l ≡ Ok (m + length fs)
+  pub fit : fits l ≡ Ok (length s)

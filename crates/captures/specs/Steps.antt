@@ -1,8 +1,7 @@
 -- What the private functions answer, one step at a time.
-use Rattle.std.specs.Prelude.{ℕ, ◌+◌, ◌*◌, ◌≤◌, ◌<◌, ◌≡◌, Bool, cond, List, [], ◌∷◌, ◌++◌, length, drop}
+use Rattle.numbers.specs.Place.{Place}
+use Rattle.std.specs.Prelude.{ℕ, ◌+◌, ◌*◌, ◌≤◌, ◌<◌, ◌≡◌, Bool, cond, List, [], ◌∷◌, ◌++◌, length, drop, Ok, Err}
 use Rattle.numbers.specs.declared.Refusal.TheVariants as R
-use Rattle.numbers.specs.declared.Place.{Place}
-use Rattle.numbers.specs.declared.Place.TheVariants.{At, Refused}
 use Rattle.framing.specs.Local.{size_in}
 use Rattle.framing.specs.Stretch.{Step, frame, end, stop, Listing, list_from}
 use Rattle.numbers.specs.Places.{Tells}
@@ -10,7 +9,7 @@ use Rattle.captures.specs.Captures.{captured, taken, Packets, packets_from, byte
 
 -- the size of the frame of a record, of the bytes from p on; 25
 unfoldable pub size_at : Bool → ℕ → List ℕ → Place
-size_at big p xs = cond (taken big xs) (At (captured big xs)) (Refused R.Capture p)
+size_at big p xs = cond (taken big xs) (Ok (captured big xs)) (Err (R.Capture, p))
 
 -- the records from a position on
 abbrev pub from : Bool → List ℕ → ℕ → Packets
@@ -24,9 +23,9 @@ pub record Roomy (file : List ℕ) (r : Packets) (o : List ℕ) (t : List (List 
 
 -- where a frame of a stretch ends; the refusal with its position. It is not asked at the end
 abbrev pub step_to : Step → Place
-step_to (frame at n ty tag a tail next) = At next
-step_to (end p) = Refused R.StretchCut p
-step_to (stop k p) = Refused k p
+step_to (frame at n ty tag a tail next) = Ok next
+step_to (end p) = Err (R.StretchCut, p)
+step_to (stop k p) = Err (k, p)
 
 -- what is listed of it from a position on
 abbrev pub rest : List ℕ → ℕ → Listing

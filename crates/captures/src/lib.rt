@@ -11,7 +11,7 @@ ghost use Rattle.captures.specs.Captures.{num_in, headed, order_of, bytes_in, ti
 ghost use Rattle.captures.specs.Steps.{size_at, from, Roomy, step_to, RoomFor, records, Ready};
 
 use framing::Cut;
-use numbers::{Place, Refusal};
+use numbers::{Fault, Place, Refusal};
 use strings::Span;
 
 const MAGIC: u32 = 2_712_847_316;
@@ -96,7 +96,7 @@ fn headed(file: &[u8], big: bool) -> bool
 fn frame_size(file: &[u8], at: usize, big: bool) -> Place
     ensures { result ≡ size_at big at (drop at file.now) }
 {
-    let none = Place::Refused(Refusal::Capture, at);
+    let none = Err(Fault(Refusal::Capture, at));
     if !numbers::within(at, RECORD, file.len()) {
         return none;
     }
@@ -117,7 +117,7 @@ fn frame_size(file: &[u8], at: usize, big: bool) -> Place
     if number(file, start, false) != captured {
         return none;
     }
-    Place::At(captured as usize)
+    Ok(captured as usize)
 }
 
 // How many bytes of frames and how many frames the records hold, all of which are looked at; 25.
@@ -129,7 +129,7 @@ fn tally(file: &[u8], big: bool) -> Imported
     let mut bytes = 0;
     let mut frames = 0;
     while at < file.len() {
-        let Place::At(size) = frame_size(file, at, big) else {
+        let Ok(size) = frame_size(file, at, big) else {
             return Imported::Refused(Refusal::Capture, at);
         };
         bytes = bytes + size;
@@ -148,14 +148,14 @@ fn take_packets(out: &mut [u8], times: &mut [[u32; 2]], file: &[u8], big: bool)
     let mut to = 0;
     let mut i = 0;
     while at < file.len() {
-        let Place::At(len) = frame_size(file, at, big) else {
+        let Ok(len) = frame_size(file, at, big) else {
             return;
         };
         let seconds = number(file, at, big);
         let micros = number(file, at + 4, big);
         times[i] = [seconds, micros];
         let start = at + RECORD;
-        strings::put_bytes(out, Place::At(to), file, Span { start, len });
+        strings::put_bytes(out, Ok(to), file, Span { start, len });
         to = to + len;
         i = i + 1;
         at = start + len;
@@ -200,9 +200,9 @@ fn frame_end(stretch: &[u8], at: usize) -> Place
 {
     let cut = framing::cut_at(stretch, at);
     match cut {
-        Cut::Whole(_, _, next) => Place::At(next),
-        Cut::End => Place::Refused(Refusal::StretchCut, at),
-        Cut::Refused(k) => Place::Refused(k, at),
+        Cut::Whole(_, _, next) => Ok(next),
+        Cut::End => Err(Fault(Refusal::StretchCut, at)),
+        Cut::Refused(k) => Err(Fault(k, at)),
     }
 }
 
@@ -214,13 +214,13 @@ fn count(stretch: &[u8]) -> Place
     let mut n = 0;
     while at < stretch.len() {
         let p = frame_end(stretch, at);
-        let Place::At(next) = p else {
+        let Ok(next) = p else {
             return p;
         };
         at = next;
         n = n + 1;
     }
-    Place::At(n)
+    Ok(n)
 }
 
 // 25 at the first frame that no record holds.
@@ -230,15 +230,15 @@ fn fit(stretch: &[u8]) -> Place
     let mut at = 0;
     while at < stretch.len() {
         let p = frame_end(stretch, at);
-        let Place::At(next) = p else {
+        let Ok(next) = p else {
             return p;
         };
         if (MOST as usize) < next - at {
-            return Place::Refused(Refusal::Capture, at);
+            return Err(Fault(Refusal::Capture, at));
         }
         at = next;
     }
-    Place::At(at)
+    Ok(at)
 }
 
 // Whether the output has room for a header, so many bytes and so many records.
@@ -262,7 +262,7 @@ fn put_head(out: &mut [u8])
     requires { 24 ≤ length out.old }
     ensures { out.new ≡ over out.old 0 header }
 {
-    let a = numbers::put_u32(out, Place::At(0), MAGIC);
+    let a = numbers::put_u32(out, Ok(0), MAGIC);
     let b = numbers::put_u16(out, a, MAJOR);
     let c = numbers::put_u16(out, b, MINOR);
     let d = numbers::put_u32(out, c, 0);
@@ -284,7 +284,7 @@ fn put_record(
     requires { (at + len ≤ length stretch.now) × (to + 16 + len ≤ length out.old) }
     ensures { out.new ≡ over out.old to (record_bytes seconds micros (take len (drop at stretch.now))) }
 {
-    let a = numbers::put_u32(out, Place::At(to), seconds);
+    let a = numbers::put_u32(out, Ok(to), seconds);
     let b = numbers::put_u32(out, a, micros);
     let c = numbers::put_num(out, b, len as u64, 4);
     let d = numbers::put_num(out, c, len as u64, 4);
@@ -300,7 +300,7 @@ fn put_records(out: &mut [u8], stretch: &[u8], times: &[[u32; 2]])
     let mut to = HEAD;
     let mut i = 0;
     while at < stretch.len() {
-        let Place::At(next) = frame_end(stretch, at) else {
+        let Ok(next) = frame_end(stretch, at) else {
             return;
         };
         let len = next - at;
@@ -318,21 +318,21 @@ pub fn export(out: &mut [u8], stretch: &[u8], times: &[[u32; 2]]) -> Place
     ensures { Exports stretch.now times.now out.old out.new result }
 {
     let frames = count(stretch);
-    let Place::At(n) = frames else {
+    let Ok(n) = frames else {
         return frames;
     };
     let fitting = fit(stretch);
-    let Place::At(_) = fitting else {
+    let Ok(_) = fitting else {
         return fitting;
     };
     if times.len() < n {
-        return Place::Refused(Refusal::TableFull, 0);
+        return Err(Fault(Refusal::TableFull, 0));
     }
     if !room_for(out.len(), stretch.len(), n) {
-        return Place::Refused(Refusal::NoRoom, 0);
+        return Err(Fault(Refusal::NoRoom, 0));
     }
     put_head(out);
     put_records(out, stretch, times);
     let end = HEAD + stretch.len() + n * RECORD;
-    Place::At(end)
+    Ok(end)
 }

@@ -63,10 +63,10 @@ fn span(p: Place, start: u64, len: u64, s: &[u8]) {
 // A string with its count: its text checked, read, and put into 32 bytes.
 fn text(s: &[u8]) {
     let len = questions::part(s, 2, s.len()).len() as u64;
-    span(Place::At(3), 2, len, s);
-    string(Place::At(0), s);
+    span(Ok(3), 2, len, s);
+    string(Ok(0), s);
     let n = [0, 0, 2, len, 0, 0, 0, 0, 0, 0, 0, 0, 0, 0, 0, 0];
-    outputs::write(b'e', 32, Place::At(0), &n, s);
+    outputs::write(b'e', 32, Ok(0), &n, s);
 }
 
 // The questions that want no output.

@@ -1,7 +1,7 @@
 // Requests, as the functions over records have them.
 
 use frames::ReadTframe;
-use numbers::Place;
+use numbers::{Fault, Place};
 use requests::Tbody;
 
 // A body read at a place and written again there.
@@ -12,7 +12,7 @@ fn body(out: &mut [u8], ty: u8, p: Place, s: &[u8]) -> Place {
             questions::at(0, end);
             requests::write_tmessage(out, p, s, m)
         }
-        Tbody::Refused(k, n) => Place::Refused(k, n),
+        Tbody::Refused(k, n) => Err(Fault(k, n)),
     }
 }
 
@@ -31,7 +31,7 @@ fn frame(s: &[u8], ty: u8, out: &mut [u8]) -> Place {
         }
         ReadTframe::Refused(k) => {
             questions::head(numbers::number(k), 0, 0, false, 0);
-            Place::At(0)
+            Ok(0)
         }
     }
 }

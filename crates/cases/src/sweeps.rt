@@ -2,7 +2,7 @@
 
 ghost use Rattle.std.specs.Prelude.{◌<◌};
 
-use numbers::Place;
+use numbers::{Fault, Place};
 use strings::Span;
 
 // The byte at `i` of the ranges; 0 where there is none, so that a range that is not given has one byte.
@@ -33,15 +33,15 @@ fn answer(s: &[u8]) -> usize {
         start: 0,
         len: s.len(),
     };
-    let p = strings::check_str(s, all, Place::At(3));
+    let p = strings::check_str(s, all, Ok(3));
     match p {
-        Place::At(n) => {
+        Ok(n) => {
             if n == 3 {
                 return 0;
             }
             7
         }
-        Place::Refused(k, _) => {
+        Err(Fault(k, _)) => {
             let n = numbers::number(k) as usize;
             if n < 7 {
                 return n;

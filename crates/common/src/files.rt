@@ -7,7 +7,7 @@ ghost use Rattle.layouts.specs.Tables.{layout_tread, layout_rread, layout_twrite
 ghost use Rattle.common.specs.Records.{tread, rread, twrite, rwrite, tremove};
 
 use layouts::ids::Fid;
-use numbers::Place;
+use numbers::{Place, Read};
 use strings::Span;
 
 #[derive(Clone, Copy)]
@@ -17,13 +17,7 @@ pub struct Tread {
     pub count: u32,
 }
 
-#[derive(Clone, Copy)]
-pub struct ReadTread {
-    pub value: Tread,
-    pub next: Place,
-}
-
-pub fn read_tread(s: &[u8], p: Place) -> ReadTread
+pub fn read_tread(s: &[u8], p: Place) -> Read<Tread>
     ensures { Fields layout_tread s.now p (tread result.value) result.next }
 {
     let r1 = numbers::read_u32(s, p);
@@ -38,7 +32,7 @@ pub fn read_tread(s: &[u8], p: Place) -> ReadTread
         offset: r2.value,
         count: r3.value,
     };
-    ReadTread { value, next: p3 }
+    Read { value, next: p3 }
 }
 
 pub fn write_tread(out: &mut [u8], p: Place, lent: &[u8], m: Tread) -> Place
@@ -57,20 +51,14 @@ pub struct Rread {
     pub data: Span,
 }
 
-#[derive(Clone, Copy)]
-pub struct ReadRread {
-    pub value: Rread,
-    pub next: Place,
-}
-
-pub fn read_rread(s: &[u8], p: Place) -> ReadRread
+pub fn read_rread(s: &[u8], p: Place) -> Read<Rread>
     ensures { Fields layout_rread s.now p (rread result.value) result.next }
 {
     let r1 = fields::read_data(s, p);
     let p1 = r1.next;
     let data = r1.value;
     let value = Rread { data };
-    ReadRread { value, next: p1 }
+    Read { value, next: p1 }
 }
 
 pub fn write_rread(out: &mut [u8], p: Place, lent: &[u8], m: Rread) -> Place
@@ -90,13 +78,7 @@ pub struct Twrite {
     pub data: Span,
 }
 
-#[derive(Clone, Copy)]
-pub struct ReadTwrite {
-    pub value: Twrite,
-    pub next: Place,
-}
-
-pub fn read_twrite(s: &[u8], p: Place) -> ReadTwrite
+pub fn read_twrite(s: &[u8], p: Place) -> Read<Twrite>
     ensures { Fields layout_twrite s.now p (twrite result.value) result.next }
 {
     let r1 = numbers::read_u32(s, p);
@@ -112,7 +94,7 @@ pub fn read_twrite(s: &[u8], p: Place) -> ReadTwrite
         offset: r2.value,
         data,
     };
-    ReadTwrite { value, next: p3 }
+    Read { value, next: p3 }
 }
 
 pub fn write_twrite(out: &mut [u8], p: Place, lent: &[u8], m: Twrite) -> Place
@@ -134,19 +116,13 @@ pub struct Rwrite {
     pub count: u32,
 }
 
-#[derive(Clone, Copy)]
-pub struct ReadRwrite {
-    pub value: Rwrite,
-    pub next: Place,
-}
-
-pub fn read_rwrite(s: &[u8], p: Place) -> ReadRwrite
+pub fn read_rwrite(s: &[u8], p: Place) -> Read<Rwrite>
     ensures { Fields layout_rwrite s.now p (rwrite result.value) result.next }
 {
     let r1 = numbers::read_u32(s, p);
     let p1 = r1.next;
     let value = Rwrite { count: r1.value };
-    ReadRwrite { value, next: p1 }
+    Read { value, next: p1 }
 }
 
 pub fn write_rwrite(out: &mut [u8], p: Place, lent: &[u8], m: Rwrite) -> Place
@@ -162,20 +138,14 @@ pub struct Tremove {
     pub fid: Fid,
 }
 
-#[derive(Clone, Copy)]
-pub struct ReadTremove {
-    pub value: Tremove,
-    pub next: Place,
-}
-
-pub fn read_tremove(s: &[u8], p: Place) -> ReadTremove
+pub fn read_tremove(s: &[u8], p: Place) -> Read<Tremove>
     ensures { Fields layout_tremove s.now p (tremove result.value) result.next }
 {
     let r1 = numbers::read_u32(s, p);
     let p1 = r1.next;
     let fid = Fid(r1.value);
     let value = Tremove { fid };
-    ReadTremove { value, next: p1 }
+    Read { value, next: p1 }
 }
 
 pub fn write_tremove(out: &mut [u8], p: Place, lent: &[u8], m: Tremove) -> Place

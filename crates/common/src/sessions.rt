@@ -9,7 +9,7 @@ ghost use Rattle.common.specs.Records.{tversion, rversion, rauth, rattach, tflus
 use layouts::ids::{Fid, Tag};
 use layouts::qids;
 use layouts::qids::Qid;
-use numbers::Place;
+use numbers::{Place, Read};
 use strings::Span;
 
 #[derive(Clone, Copy)]
@@ -18,13 +18,7 @@ pub struct Tversion {
     pub version: Span,
 }
 
-#[derive(Clone, Copy)]
-pub struct ReadTversion {
-    pub value: Tversion,
-    pub next: Place,
-}
-
-pub fn read_tversion(s: &[u8], p: Place) -> ReadTversion
+pub fn read_tversion(s: &[u8], p: Place) -> Read<Tversion>
     ensures { Fields layout_tversion s.now p (tversion result.value) result.next }
 {
     let r1 = numbers::read_u32(s, p);
@@ -36,7 +30,7 @@ pub fn read_tversion(s: &[u8], p: Place) -> ReadTversion
         msize: r1.value,
         version,
     };
-    ReadTversion { value, next: p2 }
+    Read { value, next: p2 }
 }
 
 pub fn write_tversion(out: &mut [u8], p: Place, lent: &[u8], m: Tversion) -> Place
@@ -57,13 +51,7 @@ pub struct Rversion {
     pub version: Span,
 }
 
-#[derive(Clone, Copy)]
-pub struct ReadRversion {
-    pub value: Rversion,
-    pub next: Place,
-}
-
-pub fn read_rversion(s: &[u8], p: Place) -> ReadRversion
+pub fn read_rversion(s: &[u8], p: Place) -> Read<Rversion>
     ensures { Fields layout_rversion s.now p (rversion result.value) result.next }
 {
     let r1 = numbers::read_u32(s, p);
@@ -75,7 +63,7 @@ pub fn read_rversion(s: &[u8], p: Place) -> ReadRversion
         msize: r1.value,
         version,
     };
-    ReadRversion { value, next: p2 }
+    Read { value, next: p2 }
 }
 
 pub fn write_rversion(out: &mut [u8], p: Place, lent: &[u8], m: Rversion) -> Place
@@ -95,20 +83,14 @@ pub struct Rauth {
     pub aqid: Qid,
 }
 
-#[derive(Clone, Copy)]
-pub struct ReadRauth {
-    pub value: Rauth,
-    pub next: Place,
-}
-
-pub fn read_rauth(s: &[u8], p: Place) -> ReadRauth
+pub fn read_rauth(s: &[u8], p: Place) -> Read<Rauth>
     ensures { Fields layout_rauth s.now p (rauth result.value) result.next }
 {
     let r1 = qids::read_qid(s, p);
     let p1 = r1.next;
     let aqid = r1.value;
     let value = Rauth { aqid };
-    ReadRauth { value, next: p1 }
+    Read { value, next: p1 }
 }
 
 pub fn write_rauth(out: &mut [u8], p: Place, lent: &[u8], m: Rauth) -> Place
@@ -127,20 +109,14 @@ pub struct Rattach {
     pub qid: Qid,
 }
 
-#[derive(Clone, Copy)]
-pub struct ReadRattach {
-    pub value: Rattach,
-    pub next: Place,
-}
-
-pub fn read_rattach(s: &[u8], p: Place) -> ReadRattach
+pub fn read_rattach(s: &[u8], p: Place) -> Read<Rattach>
     ensures { Fields layout_rattach s.now p (rattach result.value) result.next }
 {
     let r1 = qids::read_qid(s, p);
     let p1 = r1.next;
     let qid = r1.value;
     let value = Rattach { qid };
-    ReadRattach { value, next: p1 }
+    Read { value, next: p1 }
 }
 
 pub fn write_rattach(out: &mut [u8], p: Place, lent: &[u8], m: Rattach) -> Place
@@ -159,20 +135,14 @@ pub struct Tflush {
     pub oldtag: Tag,
 }
 
-#[derive(Clone, Copy)]
-pub struct ReadTflush {
-    pub value: Tflush,
-    pub next: Place,
-}
-
-pub fn read_tflush(s: &[u8], p: Place) -> ReadTflush
+pub fn read_tflush(s: &[u8], p: Place) -> Read<Tflush>
     ensures { Fields layout_tflush s.now p (tflush result.value) result.next }
 {
     let r1 = numbers::read_u16(s, p);
     let p1 = r1.next;
     let oldtag = Tag(r1.value);
     let value = Tflush { oldtag };
-    ReadTflush { value, next: p1 }
+    Read { value, next: p1 }
 }
 
 pub fn write_tflush(out: &mut [u8], p: Place, lent: &[u8], m: Tflush) -> Place
@@ -189,20 +159,14 @@ pub struct Tclunk {
     pub fid: Fid,
 }
 
-#[derive(Clone, Copy)]
-pub struct ReadTclunk {
-    pub value: Tclunk,
-    pub next: Place,
-}
-
-pub fn read_tclunk(s: &[u8], p: Place) -> ReadTclunk
+pub fn read_tclunk(s: &[u8], p: Place) -> Read<Tclunk>
     ensures { Fields layout_tclunk s.now p (tclunk result.value) result.next }
 {
     let r1 = numbers::read_u32(s, p);
     let p1 = r1.next;
     let fid = Fid(r1.value);
     let value = Tclunk { fid };
-    ReadTclunk { value, next: p1 }
+    Read { value, next: p1 }
 }
 
 pub fn write_tclunk(out: &mut [u8], p: Place, lent: &[u8], m: Tclunk) -> Place

@@ -8,7 +8,7 @@ ghost use Rattle.common.specs.Records.{twalk, rwalk};
 
 use fields::Part;
 use layouts::ids::Fid;
-use numbers::Place;
+use numbers::{Place, Read};
 
 #[derive(Clone, Copy)]
 pub struct Twalk {
@@ -17,13 +17,7 @@ pub struct Twalk {
     pub wnames: Part,
 }
 
-#[derive(Clone, Copy)]
-pub struct ReadTwalk {
-    pub value: Twalk,
-    pub next: Place,
-}
-
-pub fn read_twalk(s: &[u8], p: Place) -> ReadTwalk
+pub fn read_twalk(s: &[u8], p: Place) -> Read<Twalk>
     ensures { Fields layout_twalk s.now p (twalk result.value) result.next }
 {
     let r1 = numbers::read_u32(s, p);
@@ -40,7 +34,7 @@ pub fn read_twalk(s: &[u8], p: Place) -> ReadTwalk
         newfid,
         wnames,
     };
-    ReadTwalk { value, next: p3 }
+    Read { value, next: p3 }
 }
 
 pub fn write_twalk(out: &mut [u8], p: Place, lent: &[u8], m: Twalk) -> Place
@@ -64,20 +58,14 @@ pub struct Rwalk {
     pub wqids: Part,
 }
 
-#[derive(Clone, Copy)]
-pub struct ReadRwalk {
-    pub value: Rwalk,
-    pub next: Place,
-}
-
-pub fn read_rwalk(s: &[u8], p: Place) -> ReadRwalk
+pub fn read_rwalk(s: &[u8], p: Place) -> Read<Rwalk>
     ensures { Fields layout_rwalk s.now p (rwalk result.value) result.next }
 {
     let r1 = fields::read_qids(s, p);
     let p1 = r1.next;
     let wqids = r1.value;
     let value = Rwalk { wqids };
-    ReadRwalk { value, next: p1 }
+    Read { value, next: p1 }
 }
 
 pub fn write_rwalk(out: &mut [u8], p: Place, lent: &[u8], m: Rwalk) -> Place

@@ -2,7 +2,7 @@
 use Prim.Native.Nat.{ℕ, zero, suc, ◌+◌, ◌-◌, ◌%◌, ◌^◌, ◌≤◌, ◌<◌}
 use native.Mathlib.Omega.{arith}
 use Rattle.std.proofs.Math.Nat.{pow-le-pow_right}
-use Rattle.std.specs.Prelude.{◌≡◌, Bool, true, false, cond, ◌⊎◌, eqb}
+use Rattle.std.specs.Prelude.{◌≡◌, Bool, true, false, cond, ◌⊎◌, eqb, Ok}
 use Rattle.std.proofs.Math.Path.{refl, sym, ap}
 use Rattle.std.proofs.Common.{◌∙◌, inl, inr, length-take, take-append-drop, drop-drop, eqb-true}
 use mathlib.Core.List.{List, [], ◌∷◌, ◌++◌, map, append_assoc, append-nil}
@@ -12,7 +12,6 @@ use Rattle.std.proofs.Math.Seq.{drop-append_seam, length-take-le}
 use Rattle.numbers.specs.Numbers.{Bytes, to_le}
 use Rattle.numbers.proofs.Numbers.{length_to_le, from_bound, bytes_take, bytes_drop}
 use Rattle.numbers.specs.Reading.{ok}
-use Rattle.numbers.specs.declared.Place.TheVariants.{At}
 use Rattle.strings.specs.Strings.{read_string, string_bytes}
 use Rattle.strings.proofs.StringLaws.{reads_string}
 use Rattle.strings.specs.Spans.{past_str}
@@ -80,11 +79,11 @@ module _ (p a : ℕ) where
 
 -- ---- the names of a Twalk
 
-past_is : (bs : List ℕ) (q : ℕ) {x r : List ℕ} → read_string q (drop q bs) ≡ ok x r → past_str bs (At q) ≡ At (length bs - length r)
+past_is : (bs : List ℕ) (q : ℕ) {x r : List ℕ} → read_string q (drop q bs) ≡ ok x r → past_str bs (Ok q) ≡ Ok (length bs - length r)
 unfolding past_str
 past_is bs q e = rw e
 
-names_read : (bs : List ℕ) (l : List (List ℕ)) (q : ℕ) (r : List ℕ) → AllGood l → q ≤ length bs → drop q bs ≡ many_bytes l ++ r → NamesRead bs (length l) (At q)
+names_read : (bs : List ℕ) (l : List (List ℕ)) (q : ℕ) (r : List ℕ) → AllGood l → q ≤ length bs → drop q bs ≡ many_bytes l ++ r → NamesRead bs (length l) (Ok q)
 unfolding NamesRead many_bytes
 names_read bs [] q r g h e = tt
 names_read bs (x ∷ l) q r g h e =
@@ -92,7 +91,7 @@ names_read bs (x ∷ l) q r g h e =
     let f : drop q bs ≡ string_bytes x ++ t = e ∙ append_assoc (string_bytes x) (many_bytes l) r in
     let m : read_string q (drop q bs) ≡ ok x t = ap (read_string q) f ∙ (reads_string q x g.0).back t in
     let n : length bs - q ≡ length (string_bytes x) + length t = sym (length-drop q bs) ∙ ap length f ∙ length-append (string_bytes x) t in
-    let k : past_str bs (At q) ≡ At (q + length (string_bytes x)) = past_is bs q m ∙ ap At (omega arith) in
+    let k : past_str bs (Ok q) ≡ Ok (q + length (string_bytes x)) = past_is bs q m ∙ ap Ok (omega arith) in
     let d : drop (q + length (string_bytes x)) bs ≡ t = sym (drop-drop (length (string_bytes x)) q bs) ∙ ap (drop (length (string_bytes x))) f ∙ drop-append_seam (string_bytes x) t in
     rw k (tt, names_read bs l (q + length (string_bytes x)) r g.1 (omega arith) d)
 
@@ -115,7 +114,7 @@ as_strings (box cs) e f = absurd (no (cc e))
 -- after the header, two numbers and the count
 module _ (bs h z : List ℕ) (p : ℕ) (u : length h ≡ 7) (v : p ≤ length bs) where
   abbrev NamesOf : List Item → Type 0
-  NamesOf is = NamesRead bs (count_of (value_in (map (raise_value p) (places 7 is)) 2)) (At (start_of (value_in (map (raise_value p) (places 7 is)) 2)))
+  NamesOf is = NamesRead bs (count_of (value_in (map (raise_value p) (places 7 is)) 2)) (Ok (start_of (value_in (map (raise_value p) (places 7 is)) 2)))
 
   three : (a b : ℕ) (l : List (List ℕ)) → AllGood l → drop p bs ≡ h ++ (items_bytes (number 4 a ∷ number 4 b ∷ strings l ∷ []) ++ z) → NamesOf (number 4 a ∷ number 4 b ∷ strings l ∷ [])
   unfolding places items_bytes item_bytes
@@ -231,7 +230,7 @@ module _ (bs : List ℕ) (p : ℕ) (f r : List ℕ) (b : Bytes f) (v : p ≤ len
         let o = h in
         rw (e, c.0, c.1, x.values) (omega arith)
 
-    reads : ty ≡ 110 → NamesRead bs (asked_by ty (map (raise_value p) vs)).count (At (asked_by ty (map (raise_value p) vs)).start)
+    reads : ty ≡ 110 → NamesRead bs (asked_by ty (map (raise_value p) vs)).count (Ok (asked_by ty (map (raise_value p) vs)).start)
     reads e =
         let c = walk_part (map (raise_value p) vs) in
         let m = sym (walk_layout t (rw e at x.stands.known)) in

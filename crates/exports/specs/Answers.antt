@@ -1,11 +1,10 @@
 -- What crosses to Rust for all that is read or written: one outcome, and the room that was lent, which a reader fills and a writer writes into.
-use Rattle.std.specs.Prelude.{ℕ, ◌≡◌, Bool, false, List}
+use Rattle.numbers.specs.Place.{Place}
+use Rattle.std.specs.Prelude.{ℕ, ◌≡◌, Bool, false, List, Ok, Err}
 use Rattle.std.proofs.Common.{ap, ◌∙◌}
 use Rattle.std.proofs.Math.Option.{some}
 use Rattle.numbers.proofs.PlaceLaws.{one_answer}
 use Rattle.numbers.specs.Refusals.{number_of}
-use Rattle.numbers.specs.declared.Place.{Place}
-use Rattle.numbers.specs.declared.Place.TheVariants.{At, Refused}
 use Rattle.fields.specs.Layouts.{Layout}
 use Rattle.fields.specs.Values.{Value, shows}
 use Rattle.fields.specs.Fields.{values_at, past_fields}
@@ -16,8 +15,8 @@ use Rattle.exports.specs.declared.Outcome.{Outcome}
 -- F4.7: a refusal is told by its number and its place (F2.7), and no bytes count as used. The tag stands beside it where a request's header
 -- was read
 abbrev pub outcome_of : ℕ → ℕ → Bool → Place → Outcome
-outcome_of ty tag held (At n) = record { refusal = 0; ty = ty; tag = tag; held = held; place = n }
-outcome_of ty tag held (Refused k at) = record { refusal = number_of k; ty = 0; tag = tag; held = held; place = at }
+outcome_of ty tag held (Ok n) = record { refusal = 0; ty = ty; tag = tag; held = held; place = n }
+outcome_of ty tag held (Err f) = record { refusal = number_of f.0; ty = 0; tag = tag; held = held; place = f.1 }
 
 -- where there is no frame to tell of
 abbrev pub ended : Place → Outcome

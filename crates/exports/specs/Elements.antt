@@ -1,5 +1,6 @@
 -- An element of a walk as Rust has it: where it starts among the lent bytes, its length, and the place after it.
-use Rattle.std.specs.Prelude.{ℕ, zero, suc, ◌+◌, ◌*◌, ◌^◌, ◌≤◌, ◌<◌, ◌≡◌, take, drop, get_or, eqb}
+use Rattle.numbers.specs.Place.{Place}
+use Rattle.std.specs.Prelude.{ℕ, zero, suc, ◌+◌, ◌*◌, ◌^◌, ◌≤◌, ◌<◌, ◌≡◌, take, drop, get_or, eqb, Ok, Err}
 use Rattle.std.proofs.Common.{arith, sym, ◌∙◌, length-append}
 use Rattle.std.proofs.Math.Path.{refl, ap}
 use mathlib.Core.List.{List, [], ◌∷◌, append-nil}
@@ -11,8 +12,6 @@ use Rattle.numbers.specs.Reading.{Result, ok, bad, after}
 use Rattle.numbers.proofs.ReadingLaws.{after_inv, cond_inv}
 use Rattle.numbers.specs.declared.Refusal.{Refusal}
 use Rattle.numbers.specs.declared.Refusal.TheVariants as R
-use Rattle.numbers.specs.declared.Place.{Place}
-use Rattle.numbers.specs.declared.Place.TheVariants.{At, Refused}
 use Rattle.strings.specs.Strings.{string_bytes}
 use Rattle.strings.proofs.SpanLaws.{span_inv}
 use Rattle.fields.specs.Layouts.{Field, strs, quids, Item, strings, qids, read_many, many_bytes}
@@ -32,8 +31,8 @@ abbrev end_of : Value → ℕ
 end_of v = start_of v + len_of v
 
 abbrev pub past_element : Result Value → Place
-past_element (ok v r) = At (end_of v)
-past_element (bad k at) = Refused k at
+past_element (ok v r) = Ok (end_of v)
+past_element (bad k at) = Err (k, at)
 
 abbrev found_in : Result Value → List Value
 found_in (ok v r) = v ∷ []
@@ -122,11 +121,11 @@ module _ (e : Element) where
   unfolding view_element
   ends_at h n = rw h at n
 
-  pub spanned_found : {before after : List ℕ} {s : Span} {r : Outcome} → e ≡ E.Found s → after ≡ stored before 0 (s.start ∷ s.len ∷ []) → r ≡ ended (At (s.start + s.len)) → Spanned (view_element e) before after r
+  pub spanned_found : {before after : List ℕ} {s : Span} {r : Outcome} → e ≡ E.Found s → after ≡ stored before 0 (s.start ∷ s.len ∷ []) → r ≡ ended (Ok (s.start + s.len)) → Spanned (view_element e) before after r
   unfolding view_element
   spanned_found h a x = rw h (record { is = record { answer = x; left = a } })
 
-  pub spanned_refused : {before : List ℕ} {k : Refusal} {at : ℕ} {r : Outcome} → e ≡ E.Refused k at → r ≡ ended (Refused k at) → Spanned (view_element e) before before r
+  pub spanned_refused : {before : List ℕ} {k : Refusal} {at : ℕ} {r : Outcome} → e ≡ E.Refused k at → r ≡ ended (Err (k, at)) → Spanned (view_element e) before before r
   unfolding view_element
   spanned_refused h x = rw h (record { is = record { answer = x; left = refl } })
 

@@ -1,12 +1,11 @@
 -- A frame or a body that is read flat is the definition's, laid flat. Shown of any direction; requests and replies are two of them.
-use Rattle.std.specs.Prelude.{ℕ, ◌≡◌, refl, true, List, length, take}
+use Rattle.numbers.specs.Place.{Place}
+use Rattle.std.specs.Prelude.{ℕ, ◌≡◌, refl, true, List, length, take, Ok, Err}
 use Rattle.std.proofs.Common.{arith, sym, ap, ap₂, ◌∙◌}
 use Rattle.std.proofs.Math.Option.{Option, none, some}
 use Rattle.numbers.specs.Numbers.{Bytes}
 use Rattle.numbers.specs.declared.Refusal.{Refusal}
 use Rattle.numbers.specs.declared.Refusal.TheVariants as R
-use Rattle.numbers.specs.declared.Place.{Place}
-use Rattle.numbers.specs.declared.Place.TheVariants.{At, Refused}
 use Rattle.fields.specs.Layouts.{Layout}
 use Rattle.fields.specs.Values.{Value}
 use Rattle.fields.specs.Fields.{values_at}
@@ -41,7 +40,7 @@ flat_requests table =
     record {
       rows = table;
       whole = λ f. f;
-      fails = λ tag k at. outcome_of 0 tag true (Refused k at);
+      fails = λ tag k at. outcome_of 0 tag true (Err (k, at));
       none = λ k at. refl;
       good = λ tag ty e vs. refl;
       told = λ tag k at. refl;
@@ -53,7 +52,7 @@ flat_replies table =
     record {
       rows = table;
       whole = refused_whole;
-      fails = λ tag k at. ended (Refused k at);
+      fails = λ tag k at. ended (Err (k, at));
       none = λ k at. refl;
       good = λ tag ty e vs. refl;
       told = λ tag k at. refl;
@@ -63,11 +62,11 @@ flat_replies table =
 -- ---- a body
 
 module _ (ty : ℕ) {s ns ms : List ℕ} {p q : Place} where
-  body_accepted : {e : ℕ} (l : Option Layout) → FlatRead l s p ns ms q → q ≡ At e → accepted ty (row_values l s p) e ≡ body_at l ty s p
+  body_accepted : {e : ℕ} (l : Option Layout) → FlatRead l s p ns ms q → q ≡ Ok e → accepted ty (row_values l s p) e ≡ body_at l ty s p
   body_accepted none f h = absurd (let g = sym h ∙ f.next in let z : ◌≡◌ {A = ℕ} 0 1 = cc g in omega arith)
   body_accepted (some l) f h = ap (finish_at ty (values_at l s p)) (sym h ∙ f.next)
 
-  body_refused : {k : Refusal} {at : ℕ} (l : Option Layout) → FlatRead l s p ns ms q → q ≡ Refused k at → refused k at ≡ body_at l ty s p
+  body_refused : {k : Refusal} {at : ℕ} (l : Option Layout) → FlatRead l s p ns ms q → q ≡ Err (k, at) → refused k at ≡ body_at l ty s p
   body_refused {k} {at} none f h = let g = sym h ∙ f.next in let j : k ≡ R.UnknownType = cc g in let i : at ≡ 0 = cc g in ap₂ refused j i
   body_refused (some l) f h = ap (finish_at ty (values_at l s p)) (sym h ∙ f.next)
 
@@ -82,29 +81,29 @@ module _ (d : FlatDirection) (s : List ℕ) {ns ms : List ℕ} {r : Outcome} whe
   read_as w e a v = let h = sym (ap d.whole e) ∙ w in rw h (record { is = record { answer = a; left = v } })
 
   module _ {g : Head} (h : HeadIs s g) where
-    pub headless_read : {k : Refusal} → g ≡ H.Refused k → r ≡ ended (Refused k 0) → ms ≡ ns → FrameRead (d.whole (read_frame d.rows s)) ns ms r
+    pub headless_read : {k : Refusal} → g ≡ H.Refused k → r ≡ ended (Err (k, 0)) → ms ≡ ns → FrameRead (d.whole (read_frame d.rows s)) ns ms r
     unfolding HeadIs
     headless_read {k} e = read_as (d.none k 0) (frame_headless s d.rows (rw e at h))
 
-    module _ {n ty tag : ℕ} {q : Place} (b : Bytes s) (e : g ≡ H.Held n ty tag) (f : FlatRead (lookup d.rows ty) (take n s) (At 7) ns ms q) where
-      pub frame_read : {a : ℕ} → q ≡ At a → r ≡ outcome_of ty tag true q → FrameRead (d.whole (read_frame d.rows s)) ns ms r
+    module _ {n ty tag : ℕ} {q : Place} (b : Bytes s) (e : g ≡ H.Held n ty tag) (f : FlatRead (lookup d.rows ty) (take n s) (Ok 7) ns ms q) where
+      pub frame_read : {a : ℕ} → q ≡ Ok a → r ≡ outcome_of ty tag true q → FrameRead (d.whole (read_frame d.rows s)) ns ms r
       frame_read {a} i x =
           let its : Option Layout = lookup d.rows ty in
-          let vs : List Value = row_values its (take n s) (At 7) in
+          let vs : List Value = row_values its (take n s) (Ok 7) in
           read_as (d.good tag ty a vs) (ap (framed 0 tag) (body_accepted ty its f i) ∙ frame_is d.rows b (head_yes s h e)) (x ∙ ap (outcome_of ty tag true) i) (values_left its f ∙ ap (λ z. laid z vs ns) i)
 
-      pub body_failed : {k : Refusal} {at : ℕ} → q ≡ Refused k at → r ≡ d.fails tag k at → FrameRead (d.whole (read_frame d.rows s)) ns ms r
+      pub body_failed : {k : Refusal} {at : ℕ} → q ≡ Err (k, at) → r ≡ d.fails tag k at → FrameRead (d.whole (read_frame d.rows s)) ns ms r
       body_failed {k} {at} i x =
           let its : Option Layout = lookup d.rows ty in
-          let vs : List Value = row_values its (take n s) (At 7) in
+          let vs : List Value = row_values its (take n s) (Ok 7) in
           read_as refl (ap (framed 0 tag) (body_refused ty its f i) ∙ frame_is d.rows b (head_yes s h e)) (x ∙ d.told tag k at) (values_left its f ∙ ap (λ z. laid z vs ns) i ∙ d.bare tag k at ns)
 
 -- a request is told in one way, whether its body fails or not
-by_place : {X : Type 0} (q : Place) → ((a : ℕ) → q ≡ At a → X) → ((k : Refusal) (at : ℕ) → q ≡ Refused k at → X) → X
-by_place (At a) f g = f a refl
-by_place (Refused k at) f g = g k at refl
+by_place : {X : Type 0} (q : Place) → ((a : ℕ) → q ≡ Ok a → X) → ((k : Refusal) (at : ℕ) → q ≡ Err (k, at) → X) → X
+by_place (Ok a) f g = f a refl
+by_place (Err e) f g = g e.0 e.1 refl
 
-pub request_read : (table : List Row) (s : List ℕ) {n ty tag : ℕ} {ns ms : List ℕ} {g : Head} {q : Place} {r : Outcome} → HeadIs s g → Bytes s → g ≡ H.Held n ty tag → FlatRead (lookup table ty) (take n s) (At 7) ns ms q → r ≡ outcome_of ty tag true q
+pub request_read : (table : List Row) (s : List ℕ) {n ty tag : ℕ} {ns ms : List ℕ} {g : Head} {q : Place} {r : Outcome} → HeadIs s g → Bytes s → g ≡ H.Held n ty tag → FlatRead (lookup table ty) (take n s) (Ok 7) ns ms q → r ≡ outcome_of ty tag true q
     → FrameRead (read_frame table s) ns ms r
 request_read table s {ty = ty} {tag = tag} {q = q} h b e f x =
     by_place q (λ a i. frame_read (flat_requests table) s h b e f i x) (λ k at i. body_failed (flat_requests table) s h b e f i (x ∙ ap (outcome_of ty tag true) i))

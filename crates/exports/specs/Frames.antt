@@ -1,8 +1,7 @@
 -- What crosses to Rust for a frame: its outcome, its values in the room that is lent for them, and what writing one from such values leaves.
-use Rattle.std.specs.Prelude.{ℕ, true, cond, List, eqb}
+use Rattle.std.specs.Prelude.{ℕ, true, cond, List, eqb, Ok, Err}
 use Rattle.numbers.specs.Reading.{Result, bad}
 use Rattle.numbers.specs.declared.Refusal.TheVariants as R
-use Rattle.numbers.specs.declared.Place.TheVariants.{At, Refused}
 use Rattle.fields.specs.Layouts.{Item}
 use Rattle.layouts.specs.Tables.{Row, lookup}
 use Rattle.layouts.specs.Bodies.{Answer, accepted, refused}
@@ -16,11 +15,11 @@ use Rattle.exports.specs.declared.Outcome.{Outcome}
 
 -- the tag stands beside a message and beside a body's refusal (F4.5); a reply whose body fails has none, since it fails whole (F4.6)
 abbrev pub body_outcome : ℕ → Answer → Outcome
-body_outcome tag (accepted ty vs n) = outcome_of ty tag true (At n)
-body_outcome tag (refused k at) = outcome_of 0 tag true (Refused k at)
+body_outcome tag (accepted ty vs n) = outcome_of ty tag true (Ok n)
+body_outcome tag (refused k at) = outcome_of 0 tag true (Err (k, at))
 
 abbrev pub frame_outcome : Frame → Outcome
-frame_outcome (headless k at) = ended (Refused k at)
+frame_outcome (headless k at) = ended (Err (k, at))
 frame_outcome (framed p tag a) = body_outcome tag a
 
 -- what the lent values are afterwards: those of an accepted body at their front; refused, as they were
@@ -37,8 +36,8 @@ pub record FrameRead (f : Frame) (before after : List ℕ) (r : Outcome) : Type 
 
 -- the body of a frame that stands in a stretch, where its tag is known already (F6.9)
 abbrev pub answer_outcome : Answer → Outcome
-answer_outcome (accepted ty vs n) = ended (At n)
-answer_outcome (refused k at) = ended (Refused k at)
+answer_outcome (accepted ty vs n) = ended (Ok n)
+answer_outcome (refused k at) = ended (Err (k, at))
 
 pub record BodyRead (a : Answer) (before after : List ℕ) (r : Outcome) : Type 0 where
   pub is : Answered (answer_outcome a) (answer_laid a before) after r

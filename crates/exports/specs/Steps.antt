@@ -1,10 +1,9 @@
 -- A stretch asked at a position, as Rust has the answer (F6.2).
-use Rattle.std.specs.Prelude.{ℕ, ◌+◌, ◌-◌, ◌≡◌, refl, true, false, List, length, take}
+use Rattle.std.specs.Prelude.{ℕ, ◌+◌, ◌-◌, ◌≡◌, refl, true, false, List, length, take, Ok}
 use Rattle.std.proofs.Common.{arith, sym, ap, ap₂, ◌∙◌}
 use Rattle.numbers.specs.Numbers.{Bytes}
 use Rattle.numbers.specs.Refusals.{number_of}
 use Rattle.numbers.specs.declared.Refusal.{Refusal}
-use Rattle.numbers.specs.declared.Place.TheVariants.{At}
 use Rattle.layouts.specs.Tables.{table_t, table_r}
 use Rattle.layouts.specs.Bodies.{Answer}
 use Rattle.framing.specs.Raising.{raise, body_from}
@@ -20,20 +19,20 @@ stopped k at = record { refusal = number_of k; ty = 0; tag = 0; held = false; pl
 
 -- a frame is told by its type, its tag and the place after it; the end by its own place, and no frame
 abbrev pub step_outcome : Step → Outcome
-step_outcome (frame at size ty tag a tail next) = outcome_of ty tag true (At next)
-step_outcome (end at) = ended (At at)
+step_outcome (frame at size ty tag a tail next) = outcome_of ty tag true (Ok next)
+step_outcome (end at) = ended (Ok at)
 step_outcome (stop k at) = stopped k at
 
 -- ---- a whole frame
 
 module _ {s : List ℕ} {p ty tag e : ℕ} (w : WholeAt s p ty tag e) where
-  pub step_there : outcome_of ty tag true (At e) ≡ step_outcome (frame_at table_t table_r s p)
+  pub step_there : outcome_of ty tag true (Ok e) ≡ step_outcome (frame_at table_t table_r s p)
   step_there =
       let h = w.seven in
       let z = length_whole w in
       let n : e ≡ p + length (between p e s) = omega arith in
-      let f : outcome_of ty tag true (At (p + length (between p e s))) ≡ step_outcome (frame_at table_t table_r s p) = rw (w.ty, w.tag) (ap step_outcome (w.is table_t table_r)) in
-      ap (λ m. outcome_of ty tag true (At m)) n ∙ f
+      let f : outcome_of ty tag true (Ok (p + length (between p e s))) ≡ step_outcome (frame_at table_t table_r s p) = rw (w.ty, w.tag) (ap step_outcome (w.is table_t table_r)) in
+      ap (λ m. outcome_of ty tag true (Ok m)) n ∙ f
 
   -- what the reader of its direction answers, lent the bytes to its end
   abbrev said : Answer

@@ -1,7 +1,7 @@
 -- Walks written from tables, as Rust has them: what is left and answered.
+use Rattle.numbers.specs.Place.{Place}
 use Rattle.std.specs.Prelude.{ℕ, ◌≡◌, List, [], ◌∷◌, length}
 use Rattle.numbers.specs.Reading.{Result, ok}
-use Rattle.numbers.specs.declared.Place.{Place}
 use Rattle.fields.specs.Layouts.{Item, number, counted}
 use Rattle.fields.specs.Values.{shows}
 use Rattle.layouts.specs.declared.qids.Qid.{Qid}

@@ -20,6 +20,6 @@ pub fn sheafsledge_write_rgetattr(
     ensures { FlatWrote table_r 0 25 tag.0 values.now lent.now out.old out.new result }
 {
     let attr = flat::attributes::rgetattr_of(*values);
-    let end = metadata::attributes::write_rgetattr(out, Place::At(framing::BODY), lent, attr);
+    let end = metadata::attributes::write_rgetattr(out, Ok(framing::BODY), lent, attr);
     crate::ended(framing::put_header(out, end, RGETATTR, tag.0))
 }

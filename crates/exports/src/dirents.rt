@@ -1,7 +1,6 @@
 // Directory entries, as flat values in the layout's order: the qid's type, version and path, the offset, the type, and the name's span. One
 // is read at a position of the caller's bytes, and one is written from such values.
 
-ghost use Rattle.numbers.specs.declared.Place.TheVariants.{At};
 ghost use Rattle.layouts.specs.Tables.{layout_dirent};
 ghost use Rattle.exports.specs.Answers.{FieldsRead, FieldsWritten};
 
@@ -11,11 +10,11 @@ use numbers::Place;
 
 // Refused, the values are as they were.
 pub fn sheafsledge_read_dirent(bytes: &[u8], at: usize, values: &mut [u64; 7]) -> Outcome
-    ensures { FieldsRead layout_dirent bytes.now (At at) values.old values.new result }
+    ensures { FieldsRead layout_dirent bytes.now (Ok at) values.old values.new result }
 {
-    let r = dirents::read_dirent(bytes, Place::At(at));
+    let r = dirents::read_dirent(bytes, Ok(at));
     let next = r.next;
-    let Place::At(_) = next else {
+    let Ok(_) = next else {
         return crate::ended(next);
     };
     flat::dirents::flat_dirent(r.value, values);
@@ -29,8 +28,8 @@ pub fn sheafsledge_write_dirent(
     lent: &[u8],
     values: &[u64; 7],
 ) -> Outcome
-    ensures { FieldsWritten layout_dirent lent.now values.now out.old (At at) out.new result }
+    ensures { FieldsWritten layout_dirent lent.now values.now out.old (Ok at) out.new result }
 {
     let d = flat::dirents::dirent_of(*values);
-    crate::ended(dirents::write_dirent(out, Place::At(at), lent, d))
+    crate::ended(dirents::write_dirent(out, Ok(at), lent, d))
 }

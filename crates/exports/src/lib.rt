@@ -12,7 +12,7 @@ pub mod walks;
 ghost use Rattle.std.specs.Prelude.{◌≡◌};
 ghost use Rattle.exports.specs.Answers.{outcome_of, ended};
 
-use numbers::Place;
+use numbers::{Fault, Place};
 
 // What crosses to Rust for all that is read or written: 0 and the place after it; or the refusal, and where a text breaks, else 0 (F2.7). A
 // frame also has a tag, and a type where it was accepted or stands at a position; `held` says that there is one. Values go into room that the
@@ -31,14 +31,14 @@ pub fn outcome_of(ty: u8, tag: u16, held: bool, p: Place) -> Outcome
     ensures { result ≡ outcome_of ty tag held p }
 {
     match p {
-        Place::At(place) => Outcome {
+        Ok(place) => Outcome {
             refusal: 0,
             ty,
             tag,
             held,
             place,
         },
-        Place::Refused(k, place) => {
+        Err(Fault(k, place)) => {
             let refusal = numbers::number(k);
             Outcome {
                 refusal,

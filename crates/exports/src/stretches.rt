@@ -19,8 +19,8 @@ pub fn sheafsledge_frame_at(bytes: &[u8], position: usize) -> Outcome
 {
     let cut = framing::cut_at(bytes, position);
     match cut {
-        Cut::Whole(ty, tag, next) => crate::outcome_of(ty, tag, true, Place::At(next)),
-        Cut::End => crate::ended(Place::At(position)),
+        Cut::Whole(ty, tag, next) => crate::outcome_of(ty, tag, true, Ok(next)),
+        Cut::End => crate::ended(Ok(position)),
         Cut::Refused(k) => stopped(k, position),
     }
 }

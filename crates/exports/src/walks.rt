@@ -1,7 +1,6 @@
 // Walks: the elements of a vector that was read, a qid, and walks written from tables that the caller lends.
 
 ghost use Rattle.std.specs.Prelude.{◌≡◌};
-ghost use Rattle.numbers.specs.declared.Place.TheVariants.{At};
 ghost use Rattle.fields.specs.Layouts.{q, strs, quids};
 ghost use Rattle.fields.specs.Values.{part};
 ghost use Rattle.laying.specs.Elements.{element_at, view_element};
@@ -17,7 +16,7 @@ use laying::elements::Element;
 use layouts::ids::{Fid, Tag};
 use layouts::qids;
 use layouts::qids::Qid;
-use numbers::Place;
+use numbers::{Fault, Place};
 use strings::Span;
 
 // An element's start and length, and the place after it. Refused, the two numbers are as they were.
@@ -30,9 +29,9 @@ fn spanned(e: Element, span: &mut [u64; 2]) -> Outcome
             span[0] = s.start as u64;
             span[1] = s.len as u64;
             let end = s.start + s.len;
-            crate::ended(Place::At(end))
+            crate::ended(Ok(end))
         }
-        Element::Refused(k, n) => crate::ended(Place::Refused(k, n)),
+        Element::Refused(k, n) => crate::ended(Err(Fault(k, n))),
     }
 }
 
@@ -78,11 +77,11 @@ fn flat_qid(v: Qid, values: &mut [u64; 3])
 
 // Refused, the values are as they were.
 pub fn sheafsledge_read_qid(bytes: &[u8], at: usize, values: &mut [u64; 3]) -> Outcome
-    ensures { FieldsRead q bytes.now (At at) values.old values.new result }
+    ensures { FieldsRead q bytes.now (Ok at) values.old values.new result }
 {
-    let r = qids::read_qid(bytes, Place::At(at));
+    let r = qids::read_qid(bytes, Ok(at));
     let next = r.next;
-    let Place::At(_) = next else {
+    let Ok(_) = next else {
         return crate::ended(next);
     };
     flat_qid(r.value, values);

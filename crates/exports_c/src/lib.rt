@@ -4,7 +4,6 @@
 #![tactic(auto)]
 
 ghost use Rattle.std.specs.Prelude.{◌≡◌};
-ghost use Rattle.numbers.specs.declared.Place.TheVariants.{At};
 ghost use Rattle.utf8.specs.Utf8.{utf8};
 ghost use Rattle.fields.specs.Layouts.{strs, quids, q};
 ghost use Rattle.fields.specs.Values.{part};
@@ -79,7 +78,7 @@ pub extern "C" fn sheafsledge_qid_at(
 
 #[unsafe(no_mangle)]
 pub extern "C" fn sheafsledge_read_qid(bytes: &[u8], at: usize, values: &mut [u64; 3]) -> Outcome
-    ensures { FieldsRead q bytes.now (At at) values.old values.new result }
+    ensures { FieldsRead q bytes.now (Ok at) values.old values.new result }
 {
     exports::walks::sheafsledge_read_qid(bytes, at, values)
 }
@@ -107,7 +106,7 @@ pub extern "C" fn sheafsledge_write_rwalk(out: &mut [u8], tag: u16, qids: &[Qid]
 
 #[unsafe(no_mangle)]
 pub extern "C" fn sheafsledge_read_dirent(bytes: &[u8], at: usize, values: &mut [u64; 7]) -> Outcome
-    ensures { FieldsRead layout_dirent bytes.now (At at) values.old values.new result }
+    ensures { FieldsRead layout_dirent bytes.now (Ok at) values.old values.new result }
 {
     exports::dirents::sheafsledge_read_dirent(bytes, at, values)
 }
@@ -119,7 +118,7 @@ pub extern "C" fn sheafsledge_write_dirent(
     lent: &[u8],
     values: &[u64; 7],
 ) -> Outcome
-    ensures { FieldsWritten layout_dirent lent.now values.now out.old (At at) out.new result }
+    ensures { FieldsWritten layout_dirent lent.now values.now out.old (Ok at) out.new result }
 {
     exports::dirents::sheafsledge_write_dirent(out, at, lent, values)
 }

@@ -1,5 +1,6 @@
 -- What holds of the definitions in specs/BoxLaws.antt.
-use Rattle.std.specs.Prelude.{ℕ, ◌+◌, ◌-◌, ◌≤◌, cond, take, drop}
+use Rattle.numbers.specs.Place.{Place}
+use Rattle.std.specs.Prelude.{ℕ, ◌+◌, ◌-◌, ◌≤◌, cond, take, drop, Ok, Err}
 use Rattle.std.proofs.Common.{arith, ap₂, ◌∙◌, length-take-le}
 use Rattle.std.proofs.Math.Path.{◌≡◌, refl, sym, ap}
 use mathlib.Core.List.{List, [], ◌∷◌, ◌++◌, map}
@@ -10,8 +11,6 @@ use Rattle.numbers.specs.Reading.{Result, ok, bad, after, raw, read_num}
 use Rattle.numbers.specs.Places.{rest_at}
 use Rattle.numbers.specs.declared.Refusal.{Refusal}
 use Rattle.numbers.specs.declared.Refusal.TheVariants as R
-use Rattle.numbers.specs.declared.Place.{Place}
-use Rattle.numbers.specs.declared.Place.TheVariants.{At, Refused}
 use Rattle.strings.specs.Strings.{read_string}
 use Rattle.fields.specs.Layouts.{Shape, fixed, worded, Field, boxed, Cell, amount, words, Item, number, string, box, read_cell, read_cells, agrees, read_field, read_fields, cell_bytes, cells_bytes, item_bytes, items_bytes}
 use Rattle.fields.proofs.LayoutLaws.{took_cells, agreed, whole_box}
@@ -76,12 +75,12 @@ plain_read (f ∷ fs) a xs = ap (λ m. after m (λ i r. after (read_fields (map 
     first (bad k at) ih = refl
 
 -- a field whose place says that it is refused has no value
-unvalued : (f : Field) (s : List ℕ) (p : Place) {k : Refusal} {at : ℕ} → past_field f s p ≡ Refused k at → value_at f s p ≡ nothing f
+unvalued : (f : Field) (s : List ℕ) (p : Place) {k : Refusal} {at : ℕ} → past_field f s p ≡ Err (k, at) → value_at f s p ≡ nothing f
 unfolding past_field value_at
-unvalued f s (Refused j b) e = refl
-unvalued f s (At a) {k} {at} e = go (read_field f a (drop a s)) e
+unvalued f s (Err w) e = refl
+unvalued f s (Ok a) {k} {at} e = go (read_field f a (drop a s)) e
   where
-    go : (m : Result Item) → rest_at (length s) m ≡ Refused k at → placed_in f (At a) m ≡ nothing f
+    go : (m : Result Item) → rest_at (length s) m ≡ Err (k, at) → placed_in f (Ok a) m ≡ nothing f
     go (ok i r) d = absurd (let z : ◌≡◌ {A = ℕ} 0 1 = cc d in omega arith)
     go (bad j b) d = refl
 
@@ -102,11 +101,11 @@ module _ {fs : List Shape} {s : List ℕ} {p q : Place} {end : ℕ} (O : Opened 
   short = length-take-le end s O.lies
 
   -- read through to the end
-  pub box_read : {n : ℕ} → e ≡ At n → FieldRead (boxed fs) s p (block (map slot_of vs)) e
+  pub box_read : {n : ℕ} → e ≡ Ok n → FieldRead (boxed fs) s p (block (map slot_of vs)) e
   unfolding value_at past_field
   box_read {n} h = start q refl
     where
-      there : (m : ℕ) → q ≡ At m → m ≤ end → (B : Box fs s p m end) → (x : Result (List Cell)) → read_cells fs m (drop m (take end s)) ≡ x → FieldRead (boxed fs) s p (block (map slot_of vs)) e
+      there : (m : ℕ) → q ≡ Ok m → m ≤ end → (B : Box fs s p m end) → (x : Result (List Cell)) → read_cells fs m (drop m (take end s)) ≡ x → FieldRead (boxed fs) s p (block (map slot_of vs)) e
       there m d l B (ok cs u) f =
           let g = plain_read fs m (drop m (take end s)) ∙ ap items_of f in
           let A = fields_accepted (map plain_of fs) (take end s) m (bytes_take end s b) (rw short l) g in
@@ -119,7 +118,7 @@ module _ {fs : List Shape} {s : List ℕ} {p q : Place} {end : ℕ} (O : Opened 
           let o = short in
           record {
             value = rw (B.place, i) (ap (λ (z : List Slot). block z) (ap (map slot_of) (F.values ∙ ap (values_at (map plain_of fs) (take end s)) d ∙ A.values) ∙ plain_places cs m ∙ ap (λ j. place_cells j cs) B.start));
-            next = rw (B.place, i) (F.next ∙ ap (past_fields (map plain_of fs) (take end s)) d ∙ A.next ∙ ap At (let j = B.ends in omega arith));
+            next = rw (B.place, i) (F.next ∙ ap (past_fields (map plain_of fs) (take end s)) d ∙ A.next ∙ ap Ok (let j = B.ends in omega arith));
           }
       there m d l B (bad k at) f =
           absurd
@@ -129,18 +128,18 @@ module _ {fs : List Shape} {s : List ℕ} {p q : Place} {end : ℕ} (O : Opened 
           omega arith)
 
       start : (x : Place) → q ≡ x → FieldRead (boxed fs) s p (block (map slot_of vs)) e
-      start (At m) d = let o = O.opens m d in there m d o.0 o.1 (read_cells fs m (drop m (take end s))) refl
-      start (Refused k at) d =
-          absurd (let c = sym h ∙ F.next ∙ ap (past_fields (map plain_of fs) (take end s)) d ∙ stays (map plain_of fs) (take end s) k at in let z : ◌≡◌ {A = ℕ} 0 1 = cc c in omega arith)
+      start (Ok m) d = let o = O.opens m d in there m d o.0 o.1 (read_cells fs m (drop m (take end s))) refl
+      start (Err f) d =
+          absurd (let c = sym h ∙ F.next ∙ ap (past_fields (map plain_of fs) (take end s)) d ∙ stays (map plain_of fs) (take end s) f.0 f.1 in let z : ◌≡◌ {A = ℕ} 0 1 = cc c in omega arith)
 
   -- refused: by its box, or by the text of a string in it
-  pub box_refused : {k : Refusal} {at : ℕ} → e ≡ Refused k at → FieldRead (boxed fs) s p (block (map no_slot fs)) e
+  pub box_refused : {k : Refusal} {at : ℕ} → e ≡ Err (k, at) → FieldRead (boxed fs) s p (block (map no_slot fs)) e
   unfolding past_field
   box_refused {k} {at} h =
       let r = why in
       record { value = sym (unvalued (boxed fs) s p r); next = h ∙ sym r }
     where
-      there : (m : ℕ) → q ≡ At m → m ≤ end → (B : Box fs s p m end) → (x : Result (List Cell)) → read_cells fs m (drop m (take end s)) ≡ x → past_field (boxed fs) s p ≡ Refused k at
+      there : (m : ℕ) → q ≡ Ok m → m ≤ end → (B : Box fs s p m end) → (x : Result (List Cell)) → read_cells fs m (drop m (take end s)) ≡ x → past_field (boxed fs) s p ≡ Err (k, at)
       there m d l B (ok cs u) f =
           absurd
           (let g = fields_accepted (map plain_of fs) (take end s) m (bytes_take end s b) (rw short l) (plain_read fs m (drop m (take end s)) ∙ ap items_of f) in
@@ -152,9 +151,9 @@ module _ {fs : List Shape} {s : List ℕ} {p q : Place} {end : ℕ} (O : Opened 
           let c = sym h ∙ F.next ∙ ap (past_fields (map plain_of fs) (take end s)) d ∙ g in
           rw (B.place, box_is fs s B, f) (sym c)
 
-      go : (x : Place) → q ≡ x → past_field (boxed fs) s p ≡ Refused k at
-      go (At m) d = let o = O.opens m d in there m d o.0 o.1 (read_cells fs m (drop m (take end s))) refl
-      go (Refused j i) d = O.refuses j i d ∙ sym (sym h ∙ F.next ∙ ap (past_fields (map plain_of fs) (take end s)) d ∙ stays (map plain_of fs) (take end s) j i)
+      go : (x : Place) → q ≡ x → past_field (boxed fs) s p ≡ Err (k, at)
+      go (Ok m) d = let o = O.opens m d in there m d o.0 o.1 (read_cells fs m (drop m (take end s))) refl
+      go (Err f) d = O.refuses f.0 f.1 d ∙ sym (sym h ∙ F.next ∙ ap (past_fields (map plain_of fs) (take end s)) d ∙ stays (map plain_of fs) (take end s) f.0 f.1)
 
-      why : past_field (boxed fs) s p ≡ Refused k at
+      why : past_field (boxed fs) s p ≡ Err (k, at)
       why = go q refl

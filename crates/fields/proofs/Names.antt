@@ -1,4 +1,6 @@
 -- The scan of so many strings: what each way out of it says, and a turn of each loop.
+use Rattle.std.specs.Prelude.{Ok, Err}
+use Rattle.numbers.specs.Place.{Place}
 use Prim.Native.Nat.{ℕ, zero, suc, ◌+◌, ◌-◌, ◌≤◌, ◌<◌}
 use native.Mathlib.Omega.{arith}
 use mathlib.Core.Path.{◌≡◌, refl, sym, ap, ◌∙◌}
@@ -13,8 +15,6 @@ use Rattle.numbers.specs.PlaceLaws.{Held}
 use Rattle.numbers.proofs.PlaceLaws.{num_holds, num_refused}
 use Rattle.numbers.specs.declared.Refusal.{Refusal}
 use Rattle.numbers.specs.declared.Refusal.TheVariants as R
-use Rattle.numbers.specs.declared.Place.{Place}
-use Rattle.numbers.specs.declared.Place.TheVariants.{At, Refused}
 use Rattle.utf8.specs.Utf8.{◌to◌, in_range, chars, utf8, no_zero}
 use Rattle.utf8.specs.Plain.{plain_at}
 use Rattle.utf8.proofs.Plain.{plain_each}
@@ -27,7 +27,7 @@ use Rattle.fields.specs.Runs.{Plains, Run}
 
 -- ---- one string off
 
-bad_name : (m : ℕ) (s : List ℕ) (a n : ℕ) {k : Refusal} {i : ℕ} → (n ≡ 0 → ⊥) → read_string a (drop a s) ≡ bad k i → rest_at m (read_many n a (drop a s)) ≡ Refused k i
+bad_name : (m : ℕ) (s : List ℕ) (a n : ℕ) {k : Refusal} {i : ℕ} → (n ≡ 0 → ⊥) → read_string a (drop a s) ≡ bad k i → rest_at m (read_many n a (drop a s)) ≡ Err (k, i)
 unfolding read_many
 bad_name m s a zero f e = absurd (f refl)
 bad_name m s a (suc n) f e = rw e
@@ -88,7 +88,7 @@ all_same : (t : List ℕ) (i : ℕ) → length t ≡ i → utf8 t ≡ true → n
 unfolding utf8 chars no_zero
 all_same t i l u z = rw (← l) (record { form = rw (drop-length t) (sym u); full = rw (drop-length t) (sym z) })
 
-pub all_good : {s : List ℕ} {x y n a : ℕ} {q : Place} (i : ℕ) → length (take (x + y - x) (drop x s)) ≡ i → TextCheck s x y (At n) q → q ≡ At a
+pub all_good : {s : List ℕ} {x y n a : ℕ} {q : Place} (i : ℕ) → length (take (x + y - x) (drop x s)) ≡ i → TextCheck s x y (Ok n) q → q ≡ Ok a
     → Same (take (x + y - x) (drop x s)) i
 all_good {s} {x} {y} i l c e =
     let n : x + y - x ≡ y = omega arith in
@@ -103,10 +103,10 @@ pub record Left (s : List ℕ) (at n : ℕ) (x : Place) : Type 0 where
 
 -- the string at hand: its count c, its bytes from e on
 pub record Name (s : List ℕ) (at c e : ℕ) : Type 0 where
-  pub held : Held 2 s (At at) c e
+  pub held : Held 2 s (Ok at) c e
   pub lies : e + c ≤ length s
 
-pub the_name : {s : List ℕ} {at c e : ℕ} {a : Place} → NumRead 2 s (At at) c a → a ≡ At e → e + c ≤ length s → Name s at c e
+pub the_name : {s : List ℕ} {at c e : ℕ} {a : Place} → NumRead 2 s (Ok at) c a → a ≡ Ok e → e + c ≤ length s → Name s at c e
 the_name r e h = record { held = num_holds (omega arith) r e; lies = h }
 
 pub name_length : (s : List ℕ) (c e : ℕ) → e + c ≤ length s → length (take (e + c - e) (drop e s)) ≡ c
@@ -116,18 +116,18 @@ name_reads : {s : List ℕ} {at c e : ℕ} → Name s at c e → read_string at 
 name_reads {c = c} {e = e} m = let n : e + c - e ≡ c = omega arith in rw n (string_held m.held m.lies)
 
 module _ {s : List ℕ} {at n : ℕ} {x : Place} where
-  pub none_left : n ≡ 0 → at ≤ length s → Left s at n x → At at ≡ x
+  pub none_left : n ≡ 0 → at ≤ length s → Left s at n x → Ok at ≡ x
   unfolding read_many
-  none_left e h l = ap At (let d = length-drop at s in omega arith) ∙ (rw e at l.is)
+  none_left e h l = ap Ok (let d = length-drop at s in omega arith) ∙ (rw e at l.is)
 
-  pub count_cut : {c : ℕ} {a : Place} {k : Refusal} {i : ℕ} → (n ≡ 0 → ⊥) → NumRead 2 s (At at) c a → a ≡ Refused k i → Left s at n x → a ≡ x
-  count_cut f r e l = e ∙ sym (bad_name (length s) s at n f (string_cut s (At at) (num_refused r e).reads)) ∙ l.is
+  pub count_cut : {c : ℕ} {a : Place} {k : Refusal} {i : ℕ} → (n ≡ 0 → ⊥) → NumRead 2 s (Ok at) c a → a ≡ Err (k, i) → Left s at n x → a ≡ x
+  count_cut f r e l = e ∙ sym (bad_name (length s) s at n f (string_cut s (Ok at) (num_refused r e).reads)) ∙ l.is
 
-  pub bytes_cut : {c e : ℕ} {a : Place} → (n ≡ 0 → ⊥) → NumRead 2 s (At at) c a → a ≡ At e → length s < e + c → Left s at n x → Refused R.Short 0 ≡ x
+  pub bytes_cut : {c e : ℕ} {a : Place} → (n ≡ 0 → ⊥) → NumRead 2 s (Ok at) c a → a ≡ Ok e → length s < e + c → Left s at n x → Err (R.Short, 0) ≡ x
   bytes_cut f r e h l = sym (bad_name (length s) s at n f (string_short (num_holds (omega arith) r e) h)) ∙ l.is
 
 module _ {s : List ℕ} {at n c e : ℕ} {x : Place} where
-  pub text_bad : {a : ℕ} {q : Place} {k : Refusal} {i : ℕ} → (n ≡ 0 → ⊥) → Name s at c e → TextCheck s e c (At a) q → q ≡ Refused k i → Left s at n x → q ≡ x
+  pub text_bad : {a : ℕ} {q : Place} {k : Refusal} {i : ℕ} → (n ≡ 0 → ⊥) → Name s at c e → TextCheck s e c (Ok a) q → q ≡ Err (k, i) → Left s at n x → q ≡ x
   text_bad f m t h l = h ∙ sym (bad_name (length s) s at n f (string_held m.held m.lies ∙ text_refused t (drop (e + c) s) h)) ∙ l.is
 
   pub one_off : {i : ℕ} → (n ≡ 0 → ⊥) → Name s at c e → length (take (e + c - e) (drop e s)) ≤ i → Same (take (e + c - e) (drop e s)) i → Left s at n x → Left s (e + c) (n - 1) x

@@ -1,4 +1,6 @@
 -- The ways that the readers of data and vectors go: one law for each way out, over plain variables.
+use Rattle.std.specs.Prelude.{Ok, Err}
+use Rattle.numbers.specs.Place.{Place}
 use Prim.Native.Nat.{ℕ, zero, suc, ◌+◌, ◌-◌, ◌*◌, ◌≤◌, ◌<◌, min}
 use native.Mathlib.Omega.{arith}
 use mathlib.Core.Path.{◌≡◌, refl, sym, ap, ap₂, ◌∙◌}
@@ -17,8 +19,6 @@ use Rattle.numbers.specs.PlaceLaws.{Held}
 use Rattle.numbers.proofs.PlaceLaws.{inside, outside, num_holds, num_refused}
 use Rattle.numbers.specs.declared.Refusal.{Refusal}
 use Rattle.numbers.specs.declared.Refusal.TheVariants as R
-use Rattle.numbers.specs.declared.Place.{Place}
-use Rattle.numbers.specs.declared.Place.TheVariants.{At, Refused}
 use Rattle.strings.specs.Spans.{check_at}
 use Rattle.strings.specs.Strings.{read_string}
 use Rattle.fields.specs.Layouts.{Field, dat, strs, quids, Item, bytes, strings, qids, most, counted, ok_count, read_many, read_field, many_bytes}
@@ -30,14 +30,14 @@ use Rattle.fields.specs.Fields.{CountCheck, CountRead, nothing, placed_in, value
 -- ---- a field, refused or read
 
 placed_bad : (f : Field) (p : Place) (k : Refusal) (at : ℕ) → placed_in f p (bad k at) ≡ nothing f
-placed_bad f (At a) k at = refl
-placed_bad f (Refused j b) k at = refl
+placed_bad f (Ok a) k at = refl
+placed_bad f (Err e) k at = refl
 
-refused_field : {f : Field} {s : List ℕ} {p q : Place} {k : Refusal} {at : ℕ} → read_from (read_field f) s p ≡ bad k at → q ≡ Refused k at → FieldRead f s p (nothing f) q
+refused_field : {f : Field} {s : List ℕ} {p q : Place} {k : Refusal} {at : ℕ} → read_from (read_field f) s p ≡ bad k at → q ≡ Err (k, at) → FieldRead f s p (nothing f) q
 unfolding value_at past_field
 refused_field {f} {s} {p} {q} {k} {at} e h = record { value = rw e (sym (placed_bad f p k at)); next = rw e h }
 
-read_field_lem : {f : Field} {s : List ℕ} {p q : Place} {a : ℕ} {i : Item} {r : List ℕ} → p ≡ At a → read_from (read_field f) s p ≡ ok i r → q ≡ At (length s - length r)
+read_field_lem : {f : Field} {s : List ℕ} {p q : Place} {a : ℕ} {i : Item} {r : List ℕ} → p ≡ Ok a → read_from (read_field f) s p ≡ ok i r → q ≡ Ok (length s - length r)
     → FieldRead f s p (place a i) q
 unfolding value_at past_field
 read_field_lem g e h = record { value = rw (e, g); next = rw e h }
@@ -49,10 +49,10 @@ record Counted (f : Field) (w : ℕ) (g : ℕ → ℕ → List ℕ → Result It
 
 module _ {f : Field} {w : ℕ} {g : ℕ → ℕ → List ℕ → Result Item} where
   counted_cut : Counted f w g → (s : List ℕ) (p : Place) {k : Refusal} {at : ℕ} → read_at (read_num w) s p ≡ bad k at → read_from (read_field f) s p ≡ bad k at
-  counted_cut c s (At a) e = c.is a (drop a s) ∙ rw e
-  counted_cut c s (Refused j b) {k} {at} e = let h : j ≡ k = cc e in let i : b ≡ at = cc e in ap₂ bad h i
+  counted_cut c s (Ok a) e = c.is a (drop a s) ∙ rw e
+  counted_cut c s (Err f) {k} {at} e = let h : f.0 ≡ k = cc e in let i : f.1 ≡ at = cc e in ap₂ bad h i
 
-  counted_refused : {s : List ℕ} {p q : Place} {n : ℕ} {k : Refusal} {at : ℕ} → Counted f w g → NumRead w s p n q → q ≡ Refused k at → FieldRead f s p (nothing f) q
+  counted_refused : {s : List ℕ} {p q : Place} {n : ℕ} {k : Refusal} {at : ℕ} → Counted f w g → NumRead w s p n q → q ≡ Err (k, at) → FieldRead f s p (nothing f) q
   counted_refused {s} {p} c r e = refused_field (counted_cut c s p (num_refused r e).reads) e
 
   counted_held : {s : List ℕ} {p : Place} {n e : ℕ} → Counted f w g → (h : Held w s p n e) → read_from (read_field f) s p ≡ g h.at n (drop e s)
@@ -68,8 +68,8 @@ raw_cut n e s h l = raw_short n (drop e s) (simp length-drop (omega arith))
 held_length : (n e : ℕ) (s : List ℕ) → e + n ≤ length s → length (take n (drop e s)) ≡ n
 held_length n e s h = length-take-le n (drop e s) (simp length-drop (omega arith))
 
-held_next : (n e : ℕ) (s : List ℕ) → e + n ≤ length s → At (e + n) ≡ At (length s - length (drop (e + n) s))
-held_next n e s h = ap At (let d = length-drop (e + n) s in omega arith)
+held_next : (n e : ℕ) (s : List ℕ) → e + n ≤ length s → Ok (e + n) ≡ Ok (length s - length (drop (e + n) s))
+held_next n e s h = ap Ok (let d = length-drop (e + n) s in omega arith)
 
 -- ---- data
 
@@ -77,21 +77,21 @@ counted_dat : Counted dat 4 (λ a n r. cond (leb n most) (after (raw n r) (λ bs
 unfolding read_field
 counted_dat = record { is = λ a xs. refl }
 
-pub data_cut : {s : List ℕ} {p a : Place} {n : ℕ} {k : Refusal} {at : ℕ} → NumRead 4 s p n a → a ≡ Refused k at → FieldRead dat s p (span 0 0) a
+pub data_cut : {s : List ℕ} {p a : Place} {n : ℕ} {k : Refusal} {at : ℕ} → NumRead 4 s p n a → a ≡ Err (k, at) → FieldRead dat s p (span 0 0) a
 data_cut r f = counted_refused counted_dat r f
 
 module _ {s : List ℕ} {p a : Place} {n e : ℕ} where
-  pub data_limit : NumRead 4 s p n a → a ≡ At e → most < n → FieldRead dat s p (span 0 0) (Refused R.DataTooLong 0)
+  pub data_limit : NumRead 4 s p n a → a ≡ Ok e → most < n → FieldRead dat s p (span 0 0) (Err (R.DataTooLong, 0))
   data_limit r f h = refused_field (counted_held counted_dat (num_holds (omega arith) r f) ∙ rw (lt-leb n most h)) refl
 
-  pub data_short : {t : Bool} → NumRead 4 s p n a → a ≡ At e → n ≤ most → Within e n (length s) t → t ≡ false → FieldRead dat s p (span 0 0) (Refused R.Short 0)
+  pub data_short : {t : Bool} → NumRead 4 s p n a → a ≡ Ok e → n ≤ most → Within e n (length s) t → t ≡ false → FieldRead dat s p (span 0 0) (Err (R.Short, 0))
   data_short r f h i l =
       let k = num_holds (omega arith) r f in
       let x = k.fits in
       let y = k.ends in
       refused_field (counted_held counted_dat k ∙ rw (le-leb n most h, raw_cut n e s (outside i l) (omega arith))) refl
 
-  pub data_good : {t : Bool} → NumRead 4 s p n a → a ≡ At e → n ≤ most → Within e n (length s) t → t ≡ true → FieldRead dat s p (span e n) (At (e + n))
+  pub data_good : {t : Bool} → NumRead 4 s p n a → a ≡ Ok e → n ≤ most → Within e n (length s) t → t ≡ true → FieldRead dat s p (span e n) (Ok (e + n))
   data_good r f h i l =
       let k = num_holds (omega arith) r f in
       let m = inside i l in
@@ -108,7 +108,7 @@ record Few (s : List ℕ) (p : Place) (n e : ℕ) : Type 0 where
   pub small : n ≤ 16
   pub held : Held 2 s p n e
 
-count_holds : {s : List ℕ} {p q : Place} {n e : ℕ} → CountRead s p n q → q ≡ At e → Few s p n e
+count_holds : {s : List ℕ} {p q : Place} {n e : ℕ} → CountRead s p n q → q ≡ Ok e → Few s p n e
 count_holds {s} {p} {q} {n} {e} r f =
     let a : NumRead 2 s p n (past_num 2 s p) = record { value = r.value; next = refl } in
     let b : CountCheck n (past_num 2 s p) q = record { is = r.next } in
@@ -119,12 +119,12 @@ record Vector (f : Field) (g : ℕ → ℕ → List ℕ → Result Item) : Type 
   pub is : Counted f 2 (λ a n r. counted n (g a n r))
 
 module _ {f : Field} {g : ℕ → ℕ → List ℕ → Result Item} where
-  vector_refused : {s : List ℕ} {p q : Place} {n : ℕ} {k : Refusal} {at : ℕ} → Vector f g → CountRead s p n q → q ≡ Refused k at
+  vector_refused : {s : List ℕ} {p q : Place} {n : ℕ} {k : Refusal} {at : ℕ} → Vector f g → CountRead s p n q → q ≡ Err (k, at)
       → FieldRead f s p (nothing f) q
   unfolding num_at past_num
   vector_refused {s} {p} {q} {n} {k} {at} c r e = refused_field (there p r.value (sym r.next ∙ e)) e
     where
-      go : (a : ℕ) (m : Result ℕ) → n ≡ number_in m → check_at (ok_count n) (rest_at (length s) m) ≡ Refused k at → after m (λ x t. counted x (g a x t)) ≡ bad k at
+      go : (a : ℕ) (m : Result ℕ) → n ≡ number_in m → check_at (ok_count n) (rest_at (length s) m) ≡ Err (k, at) → after m (λ x t. counted x (g a x t)) ≡ bad k at
       go a (bad j b) v h = let x : j ≡ k = cc h in let y : b ≡ at = cc h in ap₂ bad x y
       go a (ok x t) v h =
           or_else x 16
@@ -135,12 +135,12 @@ module _ {f : Field} {g : ℕ → ℕ → List ℕ → Result Item} where
           let y : 0 ≡ at = cc i in
           many (g a x t) l ∙ ap₂ bad j y)
 
-      there : (p' : Place) → n ≡ number_in (read_at (read_num 2) s p') → check_at (ok_count n) (rest_at (length s) (read_at (read_num 2) s p')) ≡ Refused k at
+      there : (p' : Place) → n ≡ number_in (read_at (read_num 2) s p') → check_at (ok_count n) (rest_at (length s) (read_at (read_num 2) s p')) ≡ Err (k, at)
           → read_from (read_field f) s p' ≡ bad k at
-      there (At a) v h = c.is.is a (drop a s) ∙ go a (read_num 2 (drop a s)) v h
-      there (Refused j b) v h = let x : j ≡ k = cc h in let y : b ≡ at = cc h in ap₂ bad x y
+      there (Ok a) v h = c.is.is a (drop a s) ∙ go a (read_num 2 (drop a s)) v h
+      there (Err f) v h = let x : f.0 ≡ k = cc h in let y : f.1 ≡ at = cc h in ap₂ bad x y
 
-  vector_held : {s : List ℕ} {p q : Place} {n e : ℕ} → Vector f g → (r : CountRead s p n q) (h : q ≡ At e)
+  vector_held : {s : List ℕ} {p q : Place} {n e : ℕ} → Vector f g → (r : CountRead s p n q) (h : q ≡ Ok e)
       → read_from (read_field f) s p ≡ g (count_holds r h).held.at n (drop e s)
   vector_held {s} {p} {q} {n} {e} c r h =
       let k = count_holds r h in counted_held c.is k.held ∙ few (g k.held.at n (drop e s)) k.small
@@ -156,18 +156,18 @@ nowhere : {f : Field} {s : List ℕ} {p e k : Place} {v : Value} → nothing f �
 nowhere h n r = record { value = n.value ∙ sym h ∙ r.value; next = n.next ∙ r.next }
 
 module _ {s : List ℕ} {p a q : Place} {n : ℕ} {v : Value} where
-  pub quids_cut : {k : Refusal} {at : ℕ} → CountRead s p n a → a ≡ Refused k at → Nowhere v q a → FieldRead quids s p v q
+  pub quids_cut : {k : Refusal} {at : ℕ} → CountRead s p n a → a ≡ Err (k, at) → Nowhere v q a → FieldRead quids s p v q
   quids_cut r f w = nowhere refl w (vector_refused vector_quids r f)
 
-  pub quids_short : {e : ℕ} {t : Bool} → CountRead s p n a → a ≡ At e → Within e (13 * n) (length s) t → t ≡ false → Nowhere v q (Refused R.Short 0) → FieldRead quids s p v q
+  pub quids_short : {e : ℕ} {t : Bool} → CountRead s p n a → a ≡ Ok e → Within e (13 * n) (length s) t → t ≡ false → Nowhere v q (Err (R.Short, 0)) → FieldRead quids s p v q
   quids_short {e} r f i l w =
       let k = (count_holds r f).held in
       let x = k.fits in
       let y = k.ends in
       nowhere refl w (refused_field (vector_held vector_quids r f ∙ rw (raw_cut (13 * n) e s (outside i l) (omega arith))) refl)
 
-pub quids_good : {s : List ℕ} {p a : Place} {n e : ℕ} {t : Bool} → CountRead s p n a → a ≡ At e → Within e (13 * n) (length s) t → t ≡ true
-    → FieldRead quids s p (part n e (13 * n)) (At (e + 13 * n))
+pub quids_good : {s : List ℕ} {p a : Place} {n e : ℕ} {t : Bool} → CountRead s p n a → a ≡ Ok e → Within e (13 * n) (length s) t → t ≡ true
+    → FieldRead quids s p (part n e (13 * n)) (Ok (e + 13 * n))
 quids_good {s} {p} {a} {n} {e} r f i l =
     let k = (count_holds r f).held in
     let m = inside i l in
@@ -181,22 +181,22 @@ vector_strs : Vector strs (λ a n r. after (read_many n (a + 2) r) (λ l s. ok (
 unfolding read_field
 vector_strs = record { is = record { is = λ a xs. refl } }
 
-rest_bad : {A : Type 0} (m : Result A) (n : ℕ) {k : Refusal} {at : ℕ} → rest_at n m ≡ Refused k at → m ≡ bad k at
+rest_bad : {A : Type 0} (m : Result A) (n : ℕ) {k : Refusal} {at : ℕ} → rest_at n m ≡ Err (k, at) → m ≡ bad k at
 rest_bad (ok a r) n e = absurd (let z : ◌≡◌ {A = ℕ} 0 1 = cc e in omega arith)
 rest_bad (bad j b) n {k} {at} e = let f : j ≡ k = cc e in let g : b ≡ at = cc e in ap₂ bad f g
 
-rest_ok : {A X : Type 0} (m : Result A) (n : ℕ) {g : ℕ} → rest_at n m ≡ At g → ((a : A) (r : List ℕ) → m ≡ ok a r → n - length r ≡ g → X) → X
+rest_ok : {A X : Type 0} (m : Result A) (n : ℕ) {g : ℕ} → rest_at n m ≡ Ok g → ((a : A) (r : List ℕ) → m ≡ ok a r → n - length r ≡ g → X) → X
 rest_ok (ok a r) n e f = f a r refl (cc e)
 rest_ok (bad k at) n e f = absurd (let z : ◌≡◌ {A = ℕ} 0 1 = cc e in omega arith)
 
-pub count_lies : {s : List ℕ} {p a : Place} {n e : ℕ} → CountRead s p n a → a ≡ At e → e ≤ length s
+pub count_lies : {s : List ℕ} {p a : Place} {n e : ℕ} → CountRead s p n a → a ≡ Ok e → e ≤ length s
 count_lies r f = let k = (count_holds r f).held in let x = k.fits in let y = k.ends in omega arith
 
 module _ {s : List ℕ} {p a q : Place} {n : ℕ} {v : Value} where
-  pub strs_cut : {k : Refusal} {at : ℕ} → CountRead s p n a → a ≡ Refused k at → Nowhere v q a → FieldRead strs s p v q
+  pub strs_cut : {k : Refusal} {at : ℕ} → CountRead s p n a → a ≡ Err (k, at) → Nowhere v q a → FieldRead strs s p v q
   strs_cut r f w = nowhere refl w (vector_refused vector_strs r f)
 
-  pub strs_bad : {e : ℕ} {m : Place} {k : Refusal} {at : ℕ} → CountRead s p n a → a ≡ At e → ManyRead n s e m → m ≡ Refused k at → Nowhere v q m → FieldRead strs s p v q
+  pub strs_bad : {e : ℕ} {m : Place} {k : Refusal} {at : ℕ} → CountRead s p n a → a ≡ Ok e → ManyRead n s e m → m ≡ Err (k, at) → Nowhere v q m → FieldRead strs s p v q
   strs_bad {e} r f c h w =
       let z = (count_holds r f).held in
       nowhere refl w
@@ -225,7 +225,7 @@ record Many (n : ℕ) (s : List ℕ) (e g : ℕ) : Type 0 where
   pub size : e + length (many_bytes names) ≡ g
   pub ends : length s - length left ≡ g
 
-run : {n e g : ℕ} {s : List ℕ} {m : Place} → Bytes s → e ≤ length s → ManyRead n s e m → m ≡ At g → Many n s e g
+run : {n e g : ℕ} {s : List ℕ} {m : Place} → Bytes s → e ≤ length s → ManyRead n s e m → m ≡ Ok g → Many n s e g
 run {n} {e} {g} {s} b l c h =
     rest_ok (read_many n e (drop e s)) (length s) (sym c.next ∙ h)
     (λ names left f i.
@@ -234,13 +234,13 @@ run {n} {e} {g} {s} b l c h =
     record { names = names; left = left; reads = f; count = t.good.0; size = omega arith; ends = i })
 
 module _ {s : List ℕ} {p a m : Place} {n e g : ℕ} where
-  pub strs_on : Bytes s → CountRead s p n a → a ≡ At e → ManyRead n s e m → m ≡ At g → e ≤ g
+  pub strs_on : Bytes s → CountRead s p n a → a ≡ Ok e → ManyRead n s e m → m ≡ Ok g → e ≤ g
   strs_on b r f c h = let z = (run b (count_lies r f) c h).size in omega arith
 
-  pub strs_good : Bytes s → CountRead s p n a → a ≡ At e → ManyRead n s e m → m ≡ At g → FieldRead strs s p (part n e (g - e)) (At g)
+  pub strs_good : Bytes s → CountRead s p n a → a ≡ Ok e → ManyRead n s e m → m ≡ Ok g → FieldRead strs s p (part n e (g - e)) (Ok g)
   strs_good b r f c h =
       let z = run b (count_lies r f) c h in
       let k = (count_holds r f).held in
       let u : read_from (read_field strs) s p ≡ ok (strings z.names) z.left = vector_held vector_strs r f ∙ rw (← k.ends, z.reads) in
       let i : length (many_bytes z.names) ≡ g - e = (let y = z.size in omega arith) in
-      rw (z.count, i, ← k.ends) at (read_field_lem k.place u (ap At (sym z.ends)))
+      rw (z.count, i, ← k.ends) at (read_field_lem k.place u (ap Ok (sym z.ends)))

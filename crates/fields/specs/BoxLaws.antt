@@ -1,12 +1,11 @@
 -- The fields of a box are read by the readers of plain fields, once its count, its size and its fields are known to agree (F14.3).
-use Rattle.std.specs.Prelude.{ℕ, ◌+◌, ◌-◌, ◌≤◌, true, take, drop}
+use Rattle.numbers.specs.Place.{Place}
+use Rattle.std.specs.Prelude.{ℕ, ◌+◌, ◌-◌, ◌≤◌, true, take, drop, Ok, Err}
 use Rattle.std.proofs.Math.Path.{◌≡◌}
 use mathlib.Core.List.{List}
 use Rattle.std.proofs.Math.ListN.{length}
 use Rattle.numbers.specs.Reading.{ok, after, raw, read_num}
 use Rattle.numbers.specs.declared.Refusal.{Refusal}
-use Rattle.numbers.specs.declared.Place.{Place}
-use Rattle.numbers.specs.declared.Place.TheVariants.{At, Refused}
 use Rattle.fields.specs.Layouts.{Shape, fixed, worded, Field, num, str, boxed, Cell, amount, words, Item, number, string, agrees}
 use Rattle.fields.specs.Values.{Slot, slot, text, Value, val, span, part, block, place}
 use Rattle.fields.specs.Fields.{past_field}
@@ -33,7 +32,7 @@ pub record Box (fs : List Shape) (s : List ℕ) (p : Place) (m end : ℕ) : Type
   pub at : ℕ
   pub bytes : List ℕ
   pub left : List ℕ
-  pub place : p ≡ At at
+  pub place : p ≡ Ok at
   pub within : at ≤ length s
   pub start : m ≡ at + 4
   pub held : after (read_num 2 (drop at s)) (λ n r. raw n r) ≡ ok bytes left
@@ -43,5 +42,5 @@ pub record Box (fs : List Shape) (s : List ℕ) (p : Place) (m end : ℕ) : Type
 
 pub record Opened (fs : List Shape) (s : List ℕ) (p q : Place) (end : ℕ) : Type 0 where
   pub lies : end ≤ length s
-  pub refuses : (k : Refusal) (at : ℕ) → q ≡ Refused k at → past_field (boxed fs) s p ≡ Refused k at
-  pub opens : (m : ℕ) → q ≡ At m → (m ≤ end) × Box fs s p m end
+  pub refuses : (k : Refusal) (at : ℕ) → q ≡ Err (k, at) → past_field (boxed fs) s p ≡ Err (k, at)
+  pub opens : (m : ℕ) → q ≡ Ok m → (m ≤ end) × Box fs s p m end

@@ -1,6 +1,5 @@
 -- Fields put together; and the one law that takes fields at places to the definition, over any layout.
-use Rattle.std.specs.Prelude.{ℕ, ◌+◌, ◌≤◌, ◌≡◌, List, length, drop}
-use Rattle.numbers.specs.declared.Place.TheVariants.{At}
+use Rattle.std.specs.Prelude.{ℕ, ◌+◌, ◌≤◌, ◌≡◌, List, length, drop, Ok}
 use Rattle.fields.specs.Layouts.{Layout, Item, items_bytes}
 use Rattle.fields.specs.Values.{places}
 use Rattle.fields.specs.Fields.{values_at, past_fields}
@@ -9,5 +8,5 @@ use Rattle.fields.specs.Fields.{values_at, past_fields}
 pub record Accepted (fs : Layout) (s : List ℕ) (a : ℕ) (is : List Item) (r : List ℕ) : Type 0 where
   pub lies : a + length (items_bytes is) ≤ length s
   pub rest : r ≡ drop (a + length (items_bytes is)) s
-  pub values : values_at fs s (At a) ≡ places a is
-  pub next : past_fields fs s (At a) ≡ At (a + length (items_bytes is))
+  pub values : values_at fs s (Ok a) ≡ places a is
+  pub next : past_fields fs s (Ok a) ≡ Ok (a + length (items_bytes is))

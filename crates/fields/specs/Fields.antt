@@ -1,9 +1,8 @@
 -- Fields at places: what the readers' contracts cite.
-use Rattle.std.specs.Prelude.{ℕ, ◌≡◌, List, [], ◌∷◌, map, length, drop}
+use Rattle.numbers.specs.Place.{Place}
+use Rattle.std.specs.Prelude.{ℕ, ◌≡◌, List, [], ◌∷◌, map, length, drop, Ok, Err}
 use Rattle.numbers.specs.Reading.{Result, ok, bad}
 use Rattle.numbers.specs.Places.{read_from, rest_at, num_at, past_num}
-use Rattle.numbers.specs.declared.Place.{Place}
-use Rattle.numbers.specs.declared.Place.TheVariants.{At, Refused}
 use Rattle.strings.specs.Spans.{check_at}
 use Rattle.fields.specs.Layouts.{Shape, fixed, worded, Field, num, str, dat, strs, quids, boxed, Layout, Item, ok_count, read_many, read_field}
 use Rattle.fields.specs.Values.{Slot, slot, text, Value, val, span, part, block, place}
@@ -23,9 +22,9 @@ nothing (boxed fs) = block (map no_slot fs)
 
 -- the value of what was read at a place
 abbrev pub placed_in : Field → Place → Result Item → Value
-placed_in f (At a) (ok i r) = place a i
-placed_in f (At a) (bad k at) = nothing f
-placed_in f (Refused k at) m = nothing f
+placed_in f (Ok a) (ok i r) = place a i
+placed_in f (Ok a) (bad k at) = nothing f
+placed_in f (Err e) m = nothing f
 
 unfoldable pub value_at : Field → List ℕ → Place → Value
 value_at f s p = placed_in f p (read_from (read_field f) s p)

@@ -8,8 +8,8 @@ ghost use Rattle.fields.specs.Values.{span, part};
 ghost use Rattle.fields.specs.Fields.{FieldRead, CountCheck, CountRead, ManyRead, Nowhere};
 ghost use Rattle.fields.specs.Runs.{Run};
 
-use numbers::{Place, Read16, Refusal};
-use strings::{ReadSpan, Span};
+use numbers::{Read, Place, Refusal};
+use strings::{Span};
 use utf8::{eight_plain, is_plain};
 
 // The elements of a vector: how many they are, and the part of the bytes that holds them.
@@ -19,22 +19,15 @@ pub struct Part {
     pub elements: Span,
 }
 
-// The part of what was read, all 0 if it was refused, and the place after it.
-#[derive(Clone, Copy)]
-pub struct ReadPart {
-    pub value: Part,
-    pub next: Place,
-}
-
 // Data at a place: count, then the limit, then bytes.
-pub fn read_data(s: &[u8], p: Place) -> ReadSpan
+pub fn read_data(s: &[u8], p: Place) -> Read<Span>
     ensures { FieldRead dat s.now p (span result.value.start result.value.len) result.next }
 {
     let none = Span { start: 0, len: 0 };
     let count = numbers::read_u32(s, p);
     let a = count.next;
-    let Place::At(start) = a else {
-        return ReadSpan {
+    let Ok(start) = a else {
+        return Read {
             value: none,
             next: a,
         };
@@ -42,22 +35,22 @@ pub fn read_data(s: &[u8], p: Place) -> ReadSpan
     let len = count.value as usize;
     let limit = 33554432;
     if limit < len {
-        return ReadSpan {
+        return Read {
             value: none,
-            next: Place::Refused(Refusal::DataTooLong, 0),
+            next: Err(Fault(Refusal::DataTooLong, 0)),
         };
     }
     if numbers::within(start, len, s.len()) {
         let end = start + len;
         let some = Span { start, len };
-        return ReadSpan {
+        return Read {
             value: some,
-            next: Place::At(end),
+            next: Ok(end),
         };
     }
-    ReadSpan {
+    Read {
         value: none,
-        next: Place::Refused(Refusal::Short, 0),
+        next: Err(Fault(Refusal::Short, 0)),
     }
 }
 
@@ -90,23 +83,23 @@ fn plain_from(s: &[u8], i: usize) -> usize
 pub fn check_count(count: usize, p: Place) -> Place
     ensures { CountCheck count p result }
 {
-    let Place::At(_) = p else {
+    let Ok(_) = p else {
         return p;
     };
     if 16 < count {
-        return Place::Refused(Refusal::TooManyElements, 0);
+        return Err(Fault(Refusal::TooManyElements, 0));
     }
     p
 }
 
 // A vector's count at a place: 1, then 17.
-fn read_count(s: &[u8], p: Place) -> Read16
+fn read_count(s: &[u8], p: Place) -> Read<u16>
     ensures { CountRead s.now p result.value result.next }
 {
     let count = numbers::read_u16(s, p);
     let after = count.next;
     let next = check_count(count.value as usize, after);
-    Read16 {
+    Read {
         value: count.value,
         next,
     }
@@ -121,19 +114,19 @@ fn scan_names(s: &[u8], from: usize, count: u16) -> Place
     let mut n = count;
     'names: loop {
         if n == 0 {
-            break 'names Place::At(at);
+            break 'names Ok(at);
         }
-        let c = numbers::read_u16(s, Place::At(at));
+        let c = numbers::read_u16(s, Ok(at));
         let a = c.next;
-        let Place::At(start) = a else {
+        let Ok(start) = a else {
             break 'names a;
         };
         let len = c.value as usize;
         if s.len() < len {
-            break 'names Place::Refused(Refusal::Short, 0);
+            break 'names Err(Fault(Refusal::Short, 0));
         }
         if s.len() - len < start {
-            break 'names Place::Refused(Refusal::Short, 0);
+            break 'names Err(Fault(Refusal::Short, 0));
         }
         let end = start + len;
         let name = &s[start..end];
@@ -145,8 +138,8 @@ fn scan_names(s: &[u8], from: usize, count: u16) -> Place
                 i += k;
             } else {
                 let all = Span { start, len };
-                let q = strings::check_str(s, all, Place::At(end));
-                let Place::At(_) = q else {
+                let q = strings::check_str(s, all, Ok(end));
+                let Ok(_) = q else {
                     break 'names q;
                 };
                 i = len;
@@ -165,16 +158,16 @@ pub fn scan(s: &[u8], from: usize, count: u16) -> Place
 }
 
 // A vector of strings at a place.
-pub fn read_names(s: &[u8], p: Place) -> ReadPart
+pub fn read_names(s: &[u8], p: Place) -> Read<Part>
     ensures { FieldRead strs s.now p (part result.value.count result.value.elements.start result.value.elements.len) result.next }
 {
     let c = read_count(s, p);
     let a = c.next;
-    let Place::At(start) = a else {
+    let Ok(start) = a else {
         return no_part(a);
     };
     let end = scan_names(s, start, c.value);
-    let Place::At(stop) = end else {
+    let Ok(stop) = end else {
         return no_part(end);
     };
     let len = stop - start;
@@ -183,27 +176,27 @@ pub fn read_names(s: &[u8], p: Place) -> ReadPart
         count: c.value,
         elements,
     };
-    ReadPart {
+    Read {
         value: some,
         next: end,
     }
 }
 
-fn no_part(next: Place) -> ReadPart
+fn no_part(next: Place) -> Read<Part>
     ensures { Nowhere (part result.value.count result.value.elements.start result.value.elements.len) result.next next }
 {
     let elements = Span { start: 0, len: 0 };
     let none = Part { count: 0, elements };
-    ReadPart { value: none, next }
+    Read { value: none, next }
 }
 
 // A vector of qids at a place, each of 13 bytes.
-pub fn read_qids(s: &[u8], p: Place) -> ReadPart
+pub fn read_qids(s: &[u8], p: Place) -> Read<Part>
     ensures { FieldRead quids s.now p (part result.value.count result.value.elements.start result.value.elements.len) result.next }
 {
     let c = read_count(s, p);
     let a = c.next;
-    let Place::At(start) = a else {
+    let Ok(start) = a else {
         return no_part(a);
     };
     let len = 13 * (c.value as usize);
@@ -214,10 +207,10 @@ pub fn read_qids(s: &[u8], p: Place) -> ReadPart
             count: c.value,
             elements,
         };
-        return ReadPart {
+        return Read {
             value: some,
-            next: Place::At(end),
+            next: Ok(end),
         };
     }
-    no_part(Place::Refused(Refusal::Short, 0))
+    no_part(Err(Fault(Refusal::Short, 0)))
 }

@@ -1,5 +1,6 @@
 -- A record's values one after the other, and a layout's values taken from such a run of numbers.
-use Rattle.std.specs.Prelude.{ℕ, suc, ◌+◌, ◌^◌, ◌%◌, max, ◌≡◌, cond, List, [], ◌∷◌, ◌++◌, length, get_or, set, leb, ltb}
+use Rattle.numbers.specs.Place.{Place}
+use Rattle.std.specs.Prelude.{ℕ, suc, ◌+◌, ◌^◌, ◌%◌, max, ◌≡◌, cond, List, [], ◌∷◌, ◌++◌, length, get_or, set, leb, ltb, Ok, Err}
 use Rattle.std.proofs.Math.Option.{Option, none, some}
 use Rattle.fields.specs.Layouts.{Shape, fixed, worded, num, str, dat, strs, quids, boxed, Layout, Item}
 use Rattle.fields.specs.Values.{Slot, slot, text, Value, val, span, part, block, shows}
@@ -8,8 +9,6 @@ use Rattle.laying.specs.Laying.{written_out, written_past}
 use Rattle.layouts.specs.Tables.{Row, row}
 use Rattle.numbers.specs.Reading.{Result, bad}
 use Rattle.numbers.specs.declared.Refusal.TheVariants as R
-use Rattle.numbers.specs.declared.Place.{Place}
-use Rattle.numbers.specs.declared.Place.TheVariants.{At, Refused}
 
 -- ---- out of the values
 
@@ -35,8 +34,8 @@ stored ns i (x ∷ xs) = stored (set ns i x) (suc i) xs
 
 -- what the lent numbers are once values were read: at the front those of the values, after them as they were; refused, all are as they were
 abbrev pub laid : Place → List Value → List ℕ → List ℕ
-laid (At e) vs ns = stored ns 0 (flat_values vs)
-laid (Refused k at) vs ns = ns
+laid (Ok e) vs ns = stored ns 0 (flat_values vs)
+laid (Err f) vs ns = ns
 
 -- ---- and back
 
@@ -75,7 +74,7 @@ row_values none s p = []
 row_values (some l) s p = values_at l s p
 
 abbrev pub row_past : Option Layout → List ℕ → Place → Place
-row_past none s p = Refused R.UnknownType 0
+row_past none s p = Err (R.UnknownType, 0)
 row_past (some l) s p = past_fields l s p
 
 pub record FlatRead (l : Option Layout) (s : List ℕ) (p : Place) (before after : List ℕ) (q : Place) : Type 0 where
@@ -86,8 +85,8 @@ pub record FlatRead (l : Option Layout) (s : List ℕ) (p : Place) (before after
 
 -- the place n bytes on; 1 where they are not all held
 abbrev pub skipped : ℕ → List ℕ → Place → Place
-skipped n s (At a) = cond (leb (a + n) (length s)) (At (a + n)) (Refused R.Short 0)
-skipped n s (Refused k at) = Refused k at
+skipped n s (Ok a) = cond (leb (a + n) (length s)) (Ok (a + n)) (Err (R.Short, 0))
+skipped n s (Err f) = Err f
 
 pub record Skipped (n : ℕ) (s : List ℕ) (p q : Place) : Type 0 where
   pub is : q ≡ skipped n s p
@@ -103,7 +102,7 @@ out_in none lent ns o p = o
 out_in (some l) lent ns o p = written_out (shows l lent (field_values l ns)) o p
 
 abbrev pub end_in : Option Layout → List ℕ → List ℕ → List ℕ → Place → Place
-end_in none lent ns o p = Refused R.UnknownType 0
+end_in none lent ns o p = Err (R.UnknownType, 0)
 end_in (some l) lent ns o p = written_past (shows l lent (field_values l ns)) o p
 
 pub record FlatWritten (l : Option Layout) (lent ns o : List ℕ) (p : Place) (o' : List ℕ) (q : Place) : Type 0 where

@@ -14,7 +14,7 @@ pub mod walking;
 
 ghost use Rattle.flat.specs.Flat.{Skipped};
 
-use numbers::{Place, Refusal};
+use numbers::{Fault, Place, Refusal};
 
 // How many values hold any request, and how many any reply: `enough`, in specs/FlatLaws.antt.
 pub const WIDTH_T: usize = 10;
@@ -32,11 +32,11 @@ pub const U32: u64 = 4294967296;
 pub fn skip(s: &[u8], p: Place, n: usize) -> Place
     ensures { Skipped n s.now p result }
 {
-    let Place::At(at) = p else {
+    let Ok(at) = p else {
         return p;
     };
     if numbers::within(at, n, s.len()) {
-        return Place::At(at + n);
+        return Ok(at + n);
     }
-    Place::Refused(Refusal::Short, 0)
+    Err(Fault(Refusal::Short, 0))
 }

@@ -12,7 +12,7 @@ pub(crate) fn read_rstatfs(s: &[u8], p: Place, values: &mut [u64; WIDTH_R]) -> P
     ensures { FlatRead (some layout_rstatfs) s.now p values.old values.new result }
 {
     let next = flat::skip(s, p, 60);
-    let Place::At(_) = next else {
+    let Ok(_) = next else {
         return next;
     };
     let r = metadata::attributes::read_rstatfs(s, p);
@@ -25,7 +25,7 @@ pub(crate) fn read_rgetattr(s: &[u8], p: Place, values: &mut [u64; WIDTH_R]) -> 
     ensures { FlatRead (some layout_rgetattr) s.now p values.old values.new result }
 {
     let next = flat::skip(s, p, 153);
-    let Place::At(_) = next else {
+    let Ok(_) = next else {
         return next;
     };
     let r = metadata::attributes::read_rgetattr(s, p);
@@ -38,7 +38,7 @@ pub(crate) fn read_rxattrwalk(s: &[u8], p: Place, values: &mut [u64; WIDTH_R]) -
     ensures { FlatRead (some layout_rxattrwalk) s.now p values.old values.new result }
 {
     let next = flat::skip(s, p, 8);
-    let Place::At(_) = next else {
+    let Ok(_) = next else {
         return next;
     };
     let r = metadata::attributes::read_rxattrwalk(s, p);

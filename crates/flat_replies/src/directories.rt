@@ -12,7 +12,7 @@ pub(crate) fn read_rsymlink(s: &[u8], p: Place, values: &mut [u64; WIDTH_R]) -> 
     ensures { FlatRead (some layout_rsymlink) s.now p values.old values.new result }
 {
     let next = flat::skip(s, p, 13);
-    let Place::At(_) = next else {
+    let Ok(_) = next else {
         return next;
     };
     let r = messages::directories::read_rsymlink(s, p);
@@ -25,7 +25,7 @@ pub(crate) fn read_rmknod(s: &[u8], p: Place, values: &mut [u64; WIDTH_R]) -> Pl
     ensures { FlatRead (some layout_rmknod) s.now p values.old values.new result }
 {
     let next = flat::skip(s, p, 13);
-    let Place::At(_) = next else {
+    let Ok(_) = next else {
         return next;
     };
     let r = messages::directories::read_rmknod(s, p);
@@ -39,7 +39,7 @@ pub(crate) fn read_rreadlink(s: &[u8], p: Place, values: &mut [u64; WIDTH_R]) ->
 {
     let r = messages::directories::read_rreadlink(s, p);
     let next = r.next;
-    let Place::At(_) = next else {
+    let Ok(_) = next else {
         return next;
     };
     let m = r.value;
@@ -52,7 +52,7 @@ pub(crate) fn read_rreaddir(s: &[u8], p: Place, values: &mut [u64; WIDTH_R]) -> 
 {
     let r = messages::directories::read_rreaddir(s, p);
     let next = r.next;
-    let Place::At(_) = next else {
+    let Ok(_) = next else {
         return next;
     };
     let m = r.value;
@@ -64,7 +64,7 @@ pub(crate) fn read_rmkdir(s: &[u8], p: Place, values: &mut [u64; WIDTH_R]) -> Pl
     ensures { FlatRead (some layout_rmkdir) s.now p values.old values.new result }
 {
     let next = flat::skip(s, p, 13);
-    let Place::At(_) = next else {
+    let Ok(_) = next else {
         return next;
     };
     let r = messages::directories::read_rmkdir(s, p);

@@ -12,7 +12,7 @@ pub(crate) fn read_rlopen(s: &[u8], p: Place, values: &mut [u64; WIDTH_R]) -> Pl
     ensures { FlatRead (some layout_rlopen) s.now p values.old values.new result }
 {
     let next = flat::skip(s, p, 17);
-    let Place::At(_) = next else {
+    let Ok(_) = next else {
         return next;
     };
     let r = messages::files::read_rlopen(s, p);
@@ -25,7 +25,7 @@ pub(crate) fn read_rlcreate(s: &[u8], p: Place, values: &mut [u64; WIDTH_R]) -> 
     ensures { FlatRead (some layout_rlcreate) s.now p values.old values.new result }
 {
     let next = flat::skip(s, p, 17);
-    let Place::At(_) = next else {
+    let Ok(_) = next else {
         return next;
     };
     let r = messages::files::read_rlcreate(s, p);
@@ -39,7 +39,7 @@ pub(crate) fn read_rread(s: &[u8], p: Place, values: &mut [u64; WIDTH_R]) -> Pla
 {
     let r = common::files::read_rread(s, p);
     let next = r.next;
-    let Place::At(_) = next else {
+    let Ok(_) = next else {
         return next;
     };
     let m = r.value;
@@ -51,7 +51,7 @@ pub(crate) fn read_rwrite(s: &[u8], p: Place, values: &mut [u64; WIDTH_R]) -> Pl
     ensures { FlatRead (some layout_rwrite) s.now p values.old values.new result }
 {
     let next = flat::skip(s, p, 4);
-    let Place::At(_) = next else {
+    let Ok(_) = next else {
         return next;
     };
     let r = common::files::read_rwrite(s, p);

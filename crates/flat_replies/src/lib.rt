@@ -15,7 +15,7 @@ ghost use Rattle.layouts.specs.Tables.{table_r};
 ghost use Rattle.flat.specs.Flat.{FlatRead, FlatWritten};
 
 use flat::WIDTH_R;
-use numbers::{Place, Refusal};
+use numbers::{Fault, Place, Refusal};
 
 // A body read flat at a place: its values go to the front of what the caller lends for them, and the place after its fields is answered;
 // refused, what was lent is as it was. The type decides the body, as in `replies::read_rmessage`; but its record goes flat at once,
@@ -53,7 +53,7 @@ pub fn read_flat(s: &[u8], ty: u8, p: Place, values: &mut [u64; WIDTH_R]) -> Pla
         119 => files::read_rwrite(s, p, values),
         121 => p,
         123 => p,
-        _ => Place::Refused(Refusal::UnknownType, 0),
+        _ => Err(Fault(Refusal::UnknownType, 0)),
     }
 }
 
@@ -113,6 +113,6 @@ pub fn write_flat(out: &mut [u8], p: Place, lent: &[u8], ty: u8, values: &[u64; 
         119 => common::files::write_rwrite(out, p, lent, flat::files::rwrite_of(v)),
         121 => laying::begun(p, p, out.len()),
         123 => laying::begun(p, p, out.len()),
-        _ => Place::Refused(Refusal::UnknownType, 0),
+        _ => Err(Fault(Refusal::UnknownType, 0)),
     }
 }

@@ -12,7 +12,7 @@ pub(crate) fn read_rlock(s: &[u8], p: Place, values: &mut [u64; WIDTH_R]) -> Pla
     ensures { FlatRead (some layout_rlock) s.now p values.old values.new result }
 {
     let next = flat::skip(s, p, 1);
-    let Place::At(_) = next else {
+    let Ok(_) = next else {
         return next;
     };
     let r = metadata::locks::read_rlock(s, p);
@@ -26,7 +26,7 @@ pub(crate) fn read_rgetlock(s: &[u8], p: Place, values: &mut [u64; WIDTH_R]) -> 
 {
     let r = metadata::locks::read_rgetlock(s, p);
     let next = r.next;
-    let Place::At(_) = next else {
+    let Ok(_) = next else {
         return next;
     };
     let m = r.value;

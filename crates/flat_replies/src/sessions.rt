@@ -13,7 +13,7 @@ pub(crate) fn read_rversion(s: &[u8], p: Place, values: &mut [u64; WIDTH_R]) -> 
 {
     let r = common::sessions::read_rversion(s, p);
     let next = r.next;
-    let Place::At(_) = next else {
+    let Ok(_) = next else {
         return next;
     };
     let m = r.value;
@@ -25,7 +25,7 @@ pub(crate) fn read_rauth(s: &[u8], p: Place, values: &mut [u64; WIDTH_R]) -> Pla
     ensures { FlatRead (some layout_rauth) s.now p values.old values.new result }
 {
     let next = flat::skip(s, p, 13);
-    let Place::At(_) = next else {
+    let Ok(_) = next else {
         return next;
     };
     let r = common::sessions::read_rauth(s, p);
@@ -38,7 +38,7 @@ pub(crate) fn read_rattach(s: &[u8], p: Place, values: &mut [u64; WIDTH_R]) -> P
     ensures { FlatRead (some layout_rattach) s.now p values.old values.new result }
 {
     let next = flat::skip(s, p, 13);
-    let Place::At(_) = next else {
+    let Ok(_) = next else {
         return next;
     };
     let r = common::sessions::read_rattach(s, p);
@@ -51,7 +51,7 @@ pub(crate) fn read_rlerror(s: &[u8], p: Place, values: &mut [u64; WIDTH_R]) -> P
     ensures { FlatRead (some layout_rlerror) s.now p values.old values.new result }
 {
     let next = flat::skip(s, p, 4);
-    let Place::At(_) = next else {
+    let Ok(_) = next else {
         return next;
     };
     let r = messages::sessions::read_rlerror(s, p);

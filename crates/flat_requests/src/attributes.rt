@@ -12,7 +12,7 @@ pub(crate) fn read_tstatfs(s: &[u8], p: Place, values: &mut [u64; WIDTH_T]) -> P
     ensures { FlatRead (some layout_tstatfs) s.now p values.old values.new result }
 {
     let next = flat::skip(s, p, 4);
-    let Place::At(_) = next else {
+    let Ok(_) = next else {
         return next;
     };
     let r = metadata::attributes::read_tstatfs(s, p);
@@ -25,7 +25,7 @@ pub(crate) fn read_tgetattr(s: &[u8], p: Place, values: &mut [u64; WIDTH_T]) -> 
     ensures { FlatRead (some layout_tgetattr) s.now p values.old values.new result }
 {
     let next = flat::skip(s, p, 12);
-    let Place::At(_) = next else {
+    let Ok(_) = next else {
         return next;
     };
     let r = metadata::attributes::read_tgetattr(s, p);
@@ -38,7 +38,7 @@ pub(crate) fn read_tsetattr(s: &[u8], p: Place, values: &mut [u64; WIDTH_T]) -> 
     ensures { FlatRead (some layout_tsetattr) s.now p values.old values.new result }
 {
     let next = flat::skip(s, p, 60);
-    let Place::At(_) = next else {
+    let Ok(_) = next else {
         return next;
     };
     let r = metadata::attributes::read_tsetattr(s, p);
@@ -52,7 +52,7 @@ pub(crate) fn read_txattrwalk(s: &[u8], p: Place, values: &mut [u64; WIDTH_T]) -
 {
     let r = metadata::attributes::read_txattrwalk(s, p);
     let next = r.next;
-    let Place::At(_) = next else {
+    let Ok(_) = next else {
         return next;
     };
     let m = r.value;
@@ -65,7 +65,7 @@ pub(crate) fn read_txattrcreate(s: &[u8], p: Place, values: &mut [u64; WIDTH_T])
 {
     let r = metadata::attributes::read_txattrcreate(s, p);
     let next = r.next;
-    let Place::At(_) = next else {
+    let Ok(_) = next else {
         return next;
     };
     let m = r.value;

@@ -13,7 +13,7 @@ pub(crate) fn read_tsymlink(s: &[u8], p: Place, values: &mut [u64; WIDTH_T]) -> 
 {
     let r = messages::directories::read_tsymlink(s, p);
     let next = r.next;
-    let Place::At(_) = next else {
+    let Ok(_) = next else {
         return next;
     };
     let m = r.value;
@@ -26,7 +26,7 @@ pub(crate) fn read_tmknod(s: &[u8], p: Place, values: &mut [u64; WIDTH_T]) -> Pl
 {
     let r = messages::directories::read_tmknod(s, p);
     let next = r.next;
-    let Place::At(_) = next else {
+    let Ok(_) = next else {
         return next;
     };
     let m = r.value;
@@ -39,7 +39,7 @@ pub(crate) fn read_trename(s: &[u8], p: Place, values: &mut [u64; WIDTH_T]) -> P
 {
     let r = messages::directories::read_trename(s, p);
     let next = r.next;
-    let Place::At(_) = next else {
+    let Ok(_) = next else {
         return next;
     };
     let m = r.value;
@@ -51,7 +51,7 @@ pub(crate) fn read_treadlink(s: &[u8], p: Place, values: &mut [u64; WIDTH_T]) ->
     ensures { FlatRead (some layout_treadlink) s.now p values.old values.new result }
 {
     let next = flat::skip(s, p, 4);
-    let Place::At(_) = next else {
+    let Ok(_) = next else {
         return next;
     };
     let r = messages::directories::read_treadlink(s, p);
@@ -64,7 +64,7 @@ pub(crate) fn read_treaddir(s: &[u8], p: Place, values: &mut [u64; WIDTH_T]) -> 
     ensures { FlatRead (some layout_treaddir) s.now p values.old values.new result }
 {
     let next = flat::skip(s, p, 16);
-    let Place::At(_) = next else {
+    let Ok(_) = next else {
         return next;
     };
     let r = messages::directories::read_treaddir(s, p);
@@ -78,7 +78,7 @@ pub(crate) fn read_tlink(s: &[u8], p: Place, values: &mut [u64; WIDTH_T]) -> Pla
 {
     let r = messages::directories::read_tlink(s, p);
     let next = r.next;
-    let Place::At(_) = next else {
+    let Ok(_) = next else {
         return next;
     };
     let m = r.value;
@@ -91,7 +91,7 @@ pub(crate) fn read_tmkdir(s: &[u8], p: Place, values: &mut [u64; WIDTH_T]) -> Pl
 {
     let r = messages::directories::read_tmkdir(s, p);
     let next = r.next;
-    let Place::At(_) = next else {
+    let Ok(_) = next else {
         return next;
     };
     let m = r.value;
@@ -104,7 +104,7 @@ pub(crate) fn read_trenameat(s: &[u8], p: Place, values: &mut [u64; WIDTH_T]) ->
 {
     let r = messages::directories::read_trenameat(s, p);
     let next = r.next;
-    let Place::At(_) = next else {
+    let Ok(_) = next else {
         return next;
     };
     let m = r.value;
@@ -117,7 +117,7 @@ pub(crate) fn read_tunlinkat(s: &[u8], p: Place, values: &mut [u64; WIDTH_T]) ->
 {
     let r = messages::directories::read_tunlinkat(s, p);
     let next = r.next;
-    let Place::At(_) = next else {
+    let Ok(_) = next else {
         return next;
     };
     let m = r.value;

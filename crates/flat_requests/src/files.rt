@@ -12,7 +12,7 @@ pub(crate) fn read_tlopen(s: &[u8], p: Place, values: &mut [u64; WIDTH_T]) -> Pl
     ensures { FlatRead (some layout_tlopen) s.now p values.old values.new result }
 {
     let next = flat::skip(s, p, 8);
-    let Place::At(_) = next else {
+    let Ok(_) = next else {
         return next;
     };
     let r = messages::files::read_tlopen(s, p);
@@ -26,7 +26,7 @@ pub(crate) fn read_tlcreate(s: &[u8], p: Place, values: &mut [u64; WIDTH_T]) -> 
 {
     let r = messages::files::read_tlcreate(s, p);
     let next = r.next;
-    let Place::At(_) = next else {
+    let Ok(_) = next else {
         return next;
     };
     let m = r.value;
@@ -38,7 +38,7 @@ pub(crate) fn read_tread(s: &[u8], p: Place, values: &mut [u64; WIDTH_T]) -> Pla
     ensures { FlatRead (some layout_tread) s.now p values.old values.new result }
 {
     let next = flat::skip(s, p, 16);
-    let Place::At(_) = next else {
+    let Ok(_) = next else {
         return next;
     };
     let r = common::files::read_tread(s, p);
@@ -52,7 +52,7 @@ pub(crate) fn read_twrite(s: &[u8], p: Place, values: &mut [u64; WIDTH_T]) -> Pl
 {
     let r = common::files::read_twrite(s, p);
     let next = r.next;
-    let Place::At(_) = next else {
+    let Ok(_) = next else {
         return next;
     };
     let m = r.value;
@@ -64,7 +64,7 @@ pub(crate) fn read_tfsync(s: &[u8], p: Place, values: &mut [u64; WIDTH_T]) -> Pl
     ensures { FlatRead (some layout_tfsync) s.now p values.old values.new result }
 {
     let next = flat::skip(s, p, 8);
-    let Place::At(_) = next else {
+    let Ok(_) = next else {
         return next;
     };
     let r = messages::files::read_tfsync(s, p);
@@ -77,7 +77,7 @@ pub(crate) fn read_tremove(s: &[u8], p: Place, values: &mut [u64; WIDTH_T]) -> P
     ensures { FlatRead (some layout_tremove) s.now p values.old values.new result }
 {
     let next = flat::skip(s, p, 4);
-    let Place::At(_) = next else {
+    let Ok(_) = next else {
         return next;
     };
     let r = common::files::read_tremove(s, p);

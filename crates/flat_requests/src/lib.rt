@@ -15,7 +15,7 @@ ghost use Rattle.layouts.specs.Tables.{table_t};
 ghost use Rattle.flat.specs.Flat.{FlatRead, FlatWritten};
 
 use flat::WIDTH_T;
-use numbers::{Place, Refusal};
+use numbers::{Fault, Place, Refusal};
 
 // A body read flat at a place: its values go to the front of what the caller lends for them, and the place after its fields is answered;
 // refused, what was lent is as it was. The type decides the body, as in `requests::read_tmessage`; but its record goes flat at once,
@@ -52,7 +52,7 @@ pub fn read_flat(s: &[u8], ty: u8, p: Place, values: &mut [u64; WIDTH_T]) -> Pla
         118 => files::read_twrite(s, p, values),
         120 => sessions::read_tclunk(s, p, values),
         122 => files::read_tremove(s, p, values),
-        _ => Place::Refused(Refusal::UnknownType, 0),
+        _ => Err(Fault(Refusal::UnknownType, 0)),
     }
 }
 
@@ -126,6 +126,6 @@ pub fn write_flat(out: &mut [u8], p: Place, lent: &[u8], ty: u8, values: &[u64; 
         118 => common::files::write_twrite(out, p, lent, flat::files::twrite_of(v)),
         120 => common::sessions::write_tclunk(out, p, lent, flat::sessions::tclunk_of(v)),
         122 => common::files::write_tremove(out, p, lent, flat::files::tremove_of(v)),
-        _ => Place::Refused(Refusal::UnknownType, 0),
+        _ => Err(Fault(Refusal::UnknownType, 0)),
     }
 }

@@ -13,7 +13,7 @@ pub(crate) fn read_tlock(s: &[u8], p: Place, values: &mut [u64; WIDTH_T]) -> Pla
 {
     let r = metadata::locks::read_tlock(s, p);
     let next = r.next;
-    let Place::At(_) = next else {
+    let Ok(_) = next else {
         return next;
     };
     let m = r.value;
@@ -26,7 +26,7 @@ pub(crate) fn read_tgetlock(s: &[u8], p: Place, values: &mut [u64; WIDTH_T]) -> 
 {
     let r = metadata::locks::read_tgetlock(s, p);
     let next = r.next;
-    let Place::At(_) = next else {
+    let Ok(_) = next else {
         return next;
     };
     let m = r.value;

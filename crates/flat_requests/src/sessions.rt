@@ -13,7 +13,7 @@ pub(crate) fn read_tversion(s: &[u8], p: Place, values: &mut [u64; WIDTH_T]) -> 
 {
     let r = common::sessions::read_tversion(s, p);
     let next = r.next;
-    let Place::At(_) = next else {
+    let Ok(_) = next else {
         return next;
     };
     let m = r.value;
@@ -26,7 +26,7 @@ pub(crate) fn read_tauth(s: &[u8], p: Place, values: &mut [u64; WIDTH_T]) -> Pla
 {
     let r = messages::sessions::read_tauth(s, p);
     let next = r.next;
-    let Place::At(_) = next else {
+    let Ok(_) = next else {
         return next;
     };
     let m = r.value;
@@ -39,7 +39,7 @@ pub(crate) fn read_tattach(s: &[u8], p: Place, values: &mut [u64; WIDTH_T]) -> P
 {
     let r = messages::sessions::read_tattach(s, p);
     let next = r.next;
-    let Place::At(_) = next else {
+    let Ok(_) = next else {
         return next;
     };
     let m = r.value;
@@ -51,7 +51,7 @@ pub(crate) fn read_tflush(s: &[u8], p: Place, values: &mut [u64; WIDTH_T]) -> Pl
     ensures { FlatRead (some layout_tflush) s.now p values.old values.new result }
 {
     let next = flat::skip(s, p, 2);
-    let Place::At(_) = next else {
+    let Ok(_) = next else {
         return next;
     };
     let r = common::sessions::read_tflush(s, p);
@@ -64,7 +64,7 @@ pub(crate) fn read_tclunk(s: &[u8], p: Place, values: &mut [u64; WIDTH_T]) -> Pl
     ensures { FlatRead (some layout_tclunk) s.now p values.old values.new result }
 {
     let next = flat::skip(s, p, 4);
-    let Place::At(_) = next else {
+    let Ok(_) = next else {
         return next;
     };
     let r = common::sessions::read_tclunk(s, p);

@@ -14,7 +14,7 @@ ghost use Rattle.frames.specs.Views.{view_tframe, view_rframe, TframeWritten};
 
 use framing::Head;
 use layouts::ids::Tag;
-use numbers::{Place, Refusal};
+use numbers::{Fault, Place, Refusal};
 use replies::{Rbody, Rmessage};
 use requests::Tbody;
 
@@ -137,11 +137,11 @@ pub fn write_tframe(out: &mut [u8], lent: &[u8], f: Tframe) -> Place
     let msg = f.msg;
     match msg {
         Tbody::Message(m, _) => {
-            let end = requests::write_tmessage(out, Place::At(framing::BODY), lent, m);
+            let end = requests::write_tmessage(out, Ok(framing::BODY), lent, m);
             let ty = requests::type_of(m);
             framing::put_header(out, end, ty, tag.0)
         }
-        Tbody::Refused(_, _) => Place::Refused(Refusal::HoldsRefusal, 0),
+        Tbody::Refused(_, _) => Err(Fault(Refusal::HoldsRefusal, 0)),
     }
 }
 
@@ -151,7 +151,7 @@ pub fn write_rframe(out: &mut [u8], lent: &[u8], f: Rframe) -> Place
 {
     let tag = f.tag;
     let msg = f.msg;
-    let end = replies::write_rmessage(out, Place::At(framing::BODY), lent, msg);
+    let end = replies::write_rmessage(out, Ok(framing::BODY), lent, msg);
     let ty = replies::type_of(msg);
     framing::put_header(out, end, ty, tag.0)
 }

@@ -1,5 +1,6 @@
 -- What each way of cutting a stretch at a position answers, over plain variables.
-use Rattle.std.specs.Prelude.{ℕ, ◌+◌, ◌-◌, ◌≤◌, ◌<◌, ◌≡◌, refl, Bool, true, false, List, length, take, drop}
+use Rattle.numbers.specs.Place.{Place}
+use Rattle.std.specs.Prelude.{ℕ, ◌+◌, ◌-◌, ◌≤◌, ◌<◌, ◌≡◌, refl, Bool, true, false, List, length, take, drop, Ok, Err}
 use Rattle.std.proofs.Common.{arith, sym, ap, ◌∙◌, length-take-le, take_all, take-take}
 use Rattle.std.proofs.Math.ListN.{length-drop}
 use Rattle.std.proofs.Math.Seq.{take-length}
@@ -11,8 +12,6 @@ use Rattle.numbers.specs.Places.{Within, num_at, NumRead}
 use Rattle.numbers.proofs.PlaceLaws.{inside, outside, num_holds, held_num, num_refused}
 use Rattle.numbers.specs.declared.Refusal.{Refusal}
 use Rattle.numbers.specs.declared.Refusal.TheVariants as R
-use Rattle.numbers.specs.declared.Place.{Place}
-use Rattle.numbers.specs.declared.Place.TheVariants.{At, Refused}
 use Rattle.layouts.specs.Tables.{Row, lookup}
 use Rattle.layouts.specs.Bodies.{Answer, accepted, refused, body_of}
 use Rattle.framing.specs.Frames.{read_type_tag, read_header, framed, read_frame}
@@ -27,15 +26,15 @@ use Rattle.framing.specs.declared.Cut.TheVariants as C
 
 -- ---- numbers that are held
 
-number_is : (w a : ℕ) (s : List ℕ) → a + w ≤ length s → num_at w s (At a) ≡ from_le (take w (drop a s))
+number_is : (w a : ℕ) (s : List ℕ) → a + w ≤ length s → num_at w s (Ok a) ≡ from_le (take w (drop a s))
 unfolding num_at
 number_is w a s h = rw (held_num w a s h)
 
-size_short : {s : List ℕ} {p x : ℕ} {q : Place} {k : Refusal} {at : ℕ} → NumRead 4 s (At p) x q → q ≡ Refused k at → length s < p + 4
+size_short : {s : List ℕ} {p x : ℕ} {q : Place} {k : Refusal} {at : ℕ} → NumRead 4 s (Ok p) x q → q ≡ Err (k, at) → length s < p + 4
 size_short {s} {p} r e =
     or_else (p + 4) (length s) (λ h. absurd (let f = sym (held_num 4 p s h) ∙ (num_refused r e).reads in let z : ◌≡◌ {A = ℕ} 0 1 = cc f in omega arith)) (λ h. h)
 
-size_held : {s : List ℕ} {p x e : ℕ} {q : Place} → NumRead 4 s (At p) x q → q ≡ At e → (p + 4 ≤ length s) × (size_in (drop p s) ≡ x)
+size_held : {s : List ℕ} {p x e : ℕ} {q : Place} → NumRead 4 s (Ok p) x q → q ≡ Ok e → (p + 4 ≤ length s) × (size_in (drop p s) ≡ x)
 size_held {s} {p} {x} {e} r h =
     or_else (p + 4) (length s) (λ l. (l, sym (r.value ∙ number_is 4 p s l)))
     (λ l. absurd (let j = num_holds (omega arith) r h in let d = j.place in let f : p ≡ j.at = cc d in let g = j.fits in omega arith))
@@ -55,14 +54,14 @@ module _ (ts rs : List Row) (s : List ℕ) (p : ℕ) where
   unfolding frame_at
   inside_it h = rw (le-ltb (length s) p (omega arith), ne_eqb (length s) p (λ e. omega arith))
 
-  pub at_cut : {x : ℕ} {q : Place} {k : Refusal} {at : ℕ} → p < length s → NumRead 4 s (At p) x q → q ≡ Refused k at → stop R.StretchCut p ≡ frame_at ts rs s p
+  pub at_cut : {x : ℕ} {q : Place} {k : Refusal} {at : ℕ} → p < length s → NumRead 4 s (Ok p) x q → q ≡ Err (k, at) → stop R.StretchCut p ≡ frame_at ts rs s p
   unfolding front
   at_cut h r e =
       let l = size_short r e in
       let d = length-drop p s in
       rw (lt-ltb (length (drop p s)) 4 (omega arith)) at (inside_it h)
 
-  pub at_small : {x e : ℕ} {q : Place} → NumRead 4 s (At p) x q → q ≡ At e → x < 7 → stop R.StretchSize p ≡ frame_at ts rs s p
+  pub at_small : {x e : ℕ} {q : Place} → NumRead 4 s (Ok p) x q → q ≡ Ok e → x < 7 → stop R.StretchSize p ≡ frame_at ts rs s p
   unfolding front
   at_small {x} r e l =
       let z = size_held r e in
@@ -70,7 +69,7 @@ module _ (ts rs : List Row) (s : List ℕ) (p : ℕ) where
       let d = length-drop p s in
       rw (le-ltb (length (drop p s)) 4 (omega arith), z.1, lt-ltb x 7 l) at (inside_it (omega arith))
 
-  pub at_long : {x e : ℕ} {q : Place} {t : Bool} → NumRead 4 s (At p) x q → q ≡ At e → 7 ≤ x → Within p x (length s) t → t ≡ false → stop R.StretchCut p ≡ frame_at ts rs s p
+  pub at_long : {x e : ℕ} {q : Place} {t : Bool} → NumRead 4 s (Ok p) x q → q ≡ Ok e → 7 ≤ x → Within p x (length s) t → t ≡ false → stop R.StretchCut p ≡ frame_at ts rs s p
   unfolding front
   at_long {x} r e l w f =
       let z = size_held r e in
@@ -79,7 +78,7 @@ module _ (ts rs : List Row) (s : List ℕ) (p : ℕ) where
       let d = length-drop p s in
       rw (le-ltb (length (drop p s)) 4 (omega arith), z.1, le-ltb x 7 l, lt-ltb (length (drop p s)) x (omega arith)) at (inside_it (omega arith))
 
-  at_whole : {x e : ℕ} {q : Place} → NumRead 4 s (At p) x q → q ≡ At e → 7 ≤ x → p + x ≤ length s → listed_frame ts rs p (take x (drop p s)) ≡ frame_at ts rs s p
+  at_whole : {x e : ℕ} {q : Place} → NumRead 4 s (Ok p) x q → q ≡ Ok e → 7 ≤ x → p + x ≤ length s → listed_frame ts rs p (take x (drop p s)) ≡ frame_at ts rs s p
   unfolding front
   at_whole {x} r e l w =
       let z = size_held r e in
@@ -118,8 +117,8 @@ pub frame_same : {a a' b b' c c' d d' t t' n n' : ℕ} {x x' : Answer} → a ≡
 frame_same e1 e2 e3 e4 e5 e6 e7 = rw (e1, e2, e3, e4, e5, e6, e7)
 
 -- what the size, the type and the tag that are read there make of it
-pub whole_cut : {s : List ℕ} {p x e ty tag : ℕ} {q q' q'' : Place} {t : Bool} → NumRead 4 s (At p) x q → q ≡ At e → 7 ≤ x → Within p x (length s) t → t ≡ true
-    → NumRead 1 (between p (p + x) s) (At 4) ty q' → NumRead 2 (between p (p + x) s) (At 5) tag q'' → CutAt s p (C.Whole ty tag (p + x))
+pub whole_cut : {s : List ℕ} {p x e ty tag : ℕ} {q q' q'' : Place} {t : Bool} → NumRead 4 s (Ok p) x q → q ≡ Ok e → 7 ≤ x → Within p x (length s) t → t ≡ true
+    → NumRead 1 (between p (p + x) s) (Ok 4) ty q' → NumRead 2 (between p (p + x) s) (Ok 5) tag q'' → CutAt s p (C.Whole ty tag (p + x))
 unfolding CutAt
 whole_cut {s} {p} {x} r e h w g a b =
     let n : p + x - p ≡ x = omega arith in
@@ -127,8 +126,8 @@ whole_cut {s} {p} {x} r e h w g a b =
     let f : List ℕ = take x (drop p s) in
     let d = length-drop p s in
     let z : length f ≡ x = length-take-le x (drop p s) (omega arith) in
-    let y : NumRead 1 f (At 4) _ _ = rw n at a in
-    let u : NumRead 2 f (At 5) _ _ = rw n at b in
+    let y : NumRead 1 f (Ok 4) _ _ = rw n at a in
+    let u : NumRead 2 f (Ok 5) _ _ = rw n at b in
     record {
       seven = omega arith;
       held = i;

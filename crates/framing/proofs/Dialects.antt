@@ -1,5 +1,6 @@
 -- What holds of the definitions in specs/Dialects.antt.
-use Rattle.std.specs.Prelude.{ℕ, ◌+◌, ◌-◌, ◌^◌, ◌≤◌, ◌<◌, ◌≡◌, List, ◌++◌, length, take, drop}
+use Rattle.numbers.specs.Place.{Place}
+use Rattle.std.specs.Prelude.{ℕ, ◌+◌, ◌-◌, ◌^◌, ◌≤◌, ◌<◌, ◌≡◌, List, ◌++◌, length, take, drop, Ok}
 use Rattle.std.proofs.Common.{arith, sym, ap₂, ◌∙◌, subst, length-append, drop_at}
 use Rattle.std.proofs.Math.Path.{ap}
 use Rattle.std.proofs.Math.Seq.{take-length}
@@ -8,8 +9,6 @@ use Rattle.numbers.proofs.Numbers.{length_to_le, bytes_to_le, bytes_join, bytes_
 use Rattle.numbers.specs.Places.{over}
 use Rattle.numbers.specs.declared.Refusal.{Refusal}
 use Rattle.numbers.specs.declared.Refusal.TheVariants as R
-use Rattle.numbers.specs.declared.Place.{Place}
-use Rattle.numbers.specs.declared.Place.TheVariants.{At}
 use Rattle.fields.specs.Layouts.{items_bytes}
 use Rattle.fields.specs.Values.{Value}
 use Rattle.layouts.specs.Tables.{Row}
@@ -122,11 +121,11 @@ module _ (d : Direction) where
     stripped r e = d.one r f (e ∙ ap d.whole (stripped_read d.rows s is ∙ ap (λ x. framed x tag (accepted (d.type m) (d.values m) used)) (sym (at_front d.rows s got)) ∙ sym got) ∙ sym c)
 
     -- and writing it, given room, gives those bytes
-    pub written : {o o' : List ℕ} {q : Place} → used ≤ length o → FrameWritten (d.layout m) (d.type m) tag s (d.values m) o o' q → (o' ≡ over o 0 (resized used s)) × (q ≡ At used)
+    pub written : {o o' : List ℕ} {q : Place} → used ≤ length o → FrameWritten (d.layout m) (d.type m) tag s (d.values m) o o' q → (o' ≡ over o 0 (resized used s)) × (q ≡ Ok used)
     written {o} h w = let y = stripped_written d.rows s is (d.known m) o h in (w.bytes ∙ y.0, w.next ∙ y.1)
 
     -- also when the stripped bytes are lent in place of the frame
-    pub written_again : {o o' : List ℕ} {q : Place} → used ≤ length o → FrameWritten (d.layout m) (d.type m) tag (resized used s) (d.values m) o o' q → (o' ≡ over o 0 (resized used s)) × (q ≡ At used)
+    pub written_again : {o o' : List ℕ} {q : Place} → used ≤ length o → FrameWritten (d.layout m) (d.type m) tag (resized used s) (d.values m) o o' q → (o' ≡ over o 0 (resized used s)) × (q ≡ Ok used)
     written_again {o} h w =
         let A : Accepts d.rows (resized used s) (d.type m) tag (d.values m) used = accepts d.rows (resized used s) (resized_bytes used s b) (stripped_read d.rows s is) in
         let y = stripped_written d.rows (resized used s) A (d.known m) o h in
@@ -138,7 +137,7 @@ module _ (d : Direction) where
 
   -- 3. read back
   pub back : (m : d.Message) {tag n : ℕ} {lent o o' : List ℕ} → Bytes lent → tag < 256 ^ 2 → Readable (d.layout m) (d.values m)
-      → FrameWritten (d.layout m) (d.type m) tag lent (d.values m) o o' (At n) → Back d.rows (d.layout m) (d.type m) tag lent (d.values m) o' n
+      → FrameWritten (d.layout m) (d.type m) tag lent (d.values m) o o' (Ok n) → Back d.rows (d.layout m) (d.type m) tag lent (d.values m) o' n
   back m b g h w = read_back d.rows (d.known m) (d.small m) g b h w
 
   -- 5. local

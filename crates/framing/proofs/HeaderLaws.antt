@@ -1,5 +1,6 @@
 -- The header's ways, and a frame read at places as the definition reads it.
-use Rattle.std.specs.Prelude.{ℕ, ◌+◌, ◌-◌, ◌≤◌, ◌<◌, min, ◌≡◌, refl, Bool, true, false, cond, List, length, take, drop, leb}
+use Rattle.numbers.specs.Place.{Place}
+use Rattle.std.specs.Prelude.{ℕ, ◌+◌, ◌-◌, ◌≤◌, ◌<◌, min, ◌≡◌, refl, Bool, true, false, cond, List, length, take, drop, leb, Ok, Err}
 use Rattle.std.proofs.Common.{arith, sym, ap, ◌∙◌, length-drop, length-take-le, take_all}
 use Rattle.std.proofs.Math.Nat.{min-eq_left, min-eq_right}
 use Rattle.std.proofs.Math.Seq.{take-length}
@@ -13,8 +14,6 @@ use Rattle.numbers.specs.PlaceLaws.{Held}
 use Rattle.numbers.proofs.PlaceLaws.{num_holds, num_refused}
 use Rattle.numbers.specs.declared.Refusal.{Refusal}
 use Rattle.numbers.specs.declared.Refusal.TheVariants as R
-use Rattle.numbers.specs.declared.Place.{Place}
-use Rattle.numbers.specs.declared.Place.TheVariants.{At, Refused}
 use Rattle.laying.proofs.LayingLaws.{drop_take}
 use Rattle.layouts.specs.Tables.{Row}
 use Rattle.layouts.specs.Bodies.{read_body}
@@ -24,7 +23,7 @@ use Rattle.framing.specs.Headers.{Headed, HeadIs, Tagged, TypeTag}
 use Rattle.framing.specs.declared.Head.{Head}
 use Rattle.framing.specs.declared.Head.TheVariants as H
 
-at_is : {m n : ℕ} → At m ≡ At n → m ≡ n
+at_is : {m n : ℕ} → Ok m ≡ Ok n → m ≡ n
 at_is e = cc
 
 -- a number is refused with no place
@@ -41,7 +40,7 @@ bad_is {k = k} e h = e ∙ ap (bad k) h
 
 -- ---- the type and the tag
 
-pub tagged : {b : List ℕ} {ty tag e : ℕ} {a c : Place} → NumRead 1 b (At 4) ty a → NumRead 2 b a tag c → c ≡ At e → Tagged b (length b) ty tag
+pub tagged : {b : List ℕ} {ty tag e : ℕ} {a c : Place} → NumRead 1 b (Ok 4) ty a → NumRead 2 b a tag c → c ≡ Ok e → Tagged b (length b) ty tag
 unfolding read_type_tag
 tagged {b} {ty} {tag} {e} r1 r2 h =
     let k = num_holds (omega arith) r2 h in
@@ -57,24 +56,24 @@ tagged {b} {ty} {tag} {e} r1 r2 h =
 unfoldable made : ℕ → ℕ → List ℕ → Result Header
 made ty tag d = ok (record { ty = ty; tag = tag }) d
 
-pub untagged : {b : List ℕ} {ty tag : ℕ} {a c : Place} {k : Refusal} {at : ℕ} → NumRead 1 b (At 4) ty a → NumRead 2 b a tag c → c ≡ Refused k at → read_type_tag (drop 4 b) ≡ bad k 0
+pub untagged : {b : List ℕ} {ty tag : ℕ} {a c : Place} {k : Refusal} {at : ℕ} → NumRead 1 b (Ok 4) ty a → NumRead 2 b a tag c → c ≡ Err (k, at) → read_type_tag (drop 4 b) ≡ bad k 0
 unfolding read_type_tag made
 untagged {b} {ty} {tag} {a} {c} {k} {at} r1 r2 h = go a refl (num_refused r2 h).reads
   where
     go : (a' : Place) → a ≡ a' → read_at (read_num 2) b a' ≡ bad k at → after (read_num 1 (drop 4 b)) (λ ty c. after (read_num 2 c) (λ tag d. made ty tag d)) ≡ bad k 0
-    go (At n) f g =
+    go (Ok n) f g =
         let j = num_holds (omega arith) r1 f in
         let x : 4 ≡ j.at = at_is j.place in
         let v : read_num 1 (drop 4 b) ≡ ok ty (drop n b) = rw x j.reads in
         rw (v, bad_is g (no_place 2 (drop n b) g))
-    go (Refused j i) f g =
-        let v : read_num 1 (drop 4 b) ≡ bad j i = (num_refused r1 f).reads in
-        let e : j ≡ k = cc g in
+    go (Err w) f g =
+        let v : read_num 1 (drop 4 b) ≡ bad w.0 w.1 = (num_refused r1 f).reads in
+        let e : w.0 ≡ k = cc g in
         rw (bad_is v (no_place 1 (drop 4 b) v), e)
 
 -- ---- the size in front
 
-size_held : {s : List ℕ} {x e : ℕ} {q : Place} → NumRead 4 s (At 0) x q → q ≡ At e → (read_num 4 s ≡ ok x (drop 4 s)) × (4 ≤ length s)
+size_held : {s : List ℕ} {x e : ℕ} {q : Place} → NumRead 4 s (Ok 0) x q → q ≡ Ok e → (read_num 4 s ≡ ok x (drop 4 s)) × (4 ≤ length s)
 size_held {s} {x} {e} r h =
     let k = num_holds (omega arith) r h in
     let a : 0 ≡ k.at = at_is k.place in
@@ -83,11 +82,11 @@ size_held {s} {x} {e} r h =
     let n : e ≡ 4 = omega arith in
     (rw (← a, n) at k.reads, omega arith)
 
-pub size_cut : {s : List ℕ} {x : ℕ} {q : Place} {k : Refusal} {at : ℕ} → NumRead 4 s (At 0) x q → q ≡ Refused k at → read_header s ≡ bad k 0
+pub size_cut : {s : List ℕ} {x : ℕ} {q : Place} {k : Refusal} {at : ℕ} → NumRead 4 s (Ok 0) x q → q ≡ Err (k, at) → read_header s ≡ bad k 0
 unfolding read_header
 size_cut {s} r h = let e = (num_refused r h).reads in rw (bad_is e (no_place 4 s e))
 
-pub size_below : {s : List ℕ} {x e : ℕ} {q : Place} → NumRead 4 s (At 0) x q → q ≡ At e → x < 4 → read_header s ≡ bad R.SizeBelowFour 0
+pub size_below : {s : List ℕ} {x e : ℕ} {q : Place} → NumRead 4 s (Ok 0) x q → q ≡ Ok e → x < 4 → read_header s ≡ bad R.SizeBelowFour 0
 unfolding read_header
 size_below {x = x} r h l = rw ((size_held r h).0, lt-ltb x 4 l)
 
@@ -99,7 +98,7 @@ own s x h =
     go : x ≤ length s → take (x - 4) (drop 4 s) ≡ drop 4 (take x s)
     go l = let e : x ≡ 4 + (x - 4) = omega arith in sym (ap (λ n. drop 4 (take n s)) e ∙ drop_take 4 (x - 4) s)
 
-module _ {s : List ℕ} {x e n : ℕ} {q : Place} (r : NumRead 4 s (At 0) x q) (h : q ≡ At e) (l : 4 ≤ x) (m : n ≡ min x (length s)) where
+module _ {s : List ℕ} {x e n : ℕ} {q : Place} (r : NumRead 4 s (Ok 0) x q) (h : q ≡ Ok e) (l : 4 ≤ x) (m : n ≡ min x (length s)) where
   header_is : read_header s ≡ read_type_tag (drop 4 (take n s))
   unfolding read_header
   header_is = rw ((size_held r h).0, le-ltb x 4 l, m) (ap read_type_tag (own s x l))
@@ -121,7 +120,7 @@ module _ {s : List ℕ} {x e n : ℕ} {q : Place} (r : NumRead 4 s (At 0) x q) (
 
 -- ---- the frame
 
-pub frame_is : {s : List ℕ} {n ty tag : ℕ} (rs : List Row) → Bytes s → Headed s n ty tag → framed 0 tag (read_body rs ty (take n s) (At 7)) ≡ read_frame rs s
+pub frame_is : {s : List ℕ} {n ty tag : ℕ} (rs : List Row) → Bytes s → Headed s n ty tag → framed 0 tag (read_body rs ty (take n s) (Ok 7)) ≡ read_frame rs s
 unfolding read_frame
 frame_is {s} {n} {ty} {tag} rs b h =
     let a = length-take-le n s h.held in

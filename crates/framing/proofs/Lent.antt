@@ -1,6 +1,7 @@
 -- Where a frame that is written, or an element that is asked for, is refused with 5 or 6, a text among the lent bytes breaks at that place, counted
 -- from the first of them (F2.7).
-use Rattle.std.specs.Prelude.{ℕ, ◌+◌, ◌*◌, ◌≤◌, Bool, drop, leb, ltb, eqb}
+use Rattle.numbers.specs.Place.{Place}
+use Rattle.std.specs.Prelude.{ℕ, ◌+◌, ◌*◌, ◌≤◌, Bool, drop, leb, ltb, eqb, Ok, Err}
 use native.Mathlib.Omega.{arith}
 use Rattle.std.proofs.Math.Path.{◌≡◌}
 use Rattle.std.proofs.Common.{sym, ap₂, ◌∙◌}
@@ -15,8 +16,6 @@ use Rattle.numbers.specs.Places.{past_put}
 use Rattle.numbers.specs.Refusals.{number_of}
 use Rattle.numbers.specs.declared.Refusal.{Refusal}
 use Rattle.numbers.specs.declared.Refusal.TheVariants as R
-use Rattle.numbers.specs.declared.Place.{Place}
-use Rattle.numbers.specs.declared.Place.TheVariants.{At, Refused}
 use Rattle.strings.specs.Strings.{ok_text}
 use Rattle.strings.specs.Spans.{show_span, show_string}
 use Rattle.strings.proofs.SpanLaws.{shown_in, shown_out, span_inv}
@@ -135,21 +134,21 @@ module _ {k : Refusal} {n : ℕ} (t : OfText k) where
       (λ bs r g h. bad_inv (show f lent v) _ h (show_lent f lent v b) (λ it u w z. not_bad z))
 
   -- a frame that is refused so was so by its fields
-  past_bad : (ty tag : ℕ) (m : Result (List Item)) (o : List ℕ) → frame_past ty tag m o ≡ Refused k n → m ≡ bad k n
+  past_bad : (ty tag : ℕ) (m : Result (List Item)) (o : List ℕ) → frame_past ty tag m o ≡ Err (k, n) → m ≡ bad k n
   unfolding frame_past past_put
   past_bad ty tag (bad j i) o e = cc e
   past_bad ty tag (ok is r) o e = absurd (go (ltb (7 + length (items_bytes is)) limit) (leb (0 + length (frame_bytes ty tag is)) (length o)) e)
     where
-      go : (u w : Bool) → cond u (cond w (At (0 + length (frame_bytes ty tag is))) (Refused R.NoRoom 0)) (Refused R.FrameTooLong 0) ≡ Refused k n → ⊥
+      go : (u w : Bool) → cond u (cond w (Ok (0 + length (frame_bytes ty tag is))) (Err (R.NoRoom, 0))) (Err (R.FrameTooLong, 0)) ≡ Err (k, n) → ⊥
       go true true f = let z : ◌≡◌ {A = ℕ} 0 1 = cc f in omega arith
       go true false f = above t R.NoRoom (omega arith) (cc f)
       go false w f = above t R.FrameTooLong (omega arith) (cc f)
 
 module _ {fs : Layout} {ty tag n : ℕ} {lent : List ℕ} {vs : List Value} {o o' : List ℕ} {q : Place} (b : Bytes lent) (w : FrameWritten fs ty tag lent vs o o' q) where
-  pub written_five : q ≡ Refused R.NotUtf8 n → NotUtf8In lent n
+  pub written_five : q ≡ Err (R.NotUtf8, n) → NotUtf8In lent n
   written_five e = five_in lent (shows_lent of_five fs lent vs b (past_bad of_five ty tag (shows fs lent vs) o (sym w.next ∙ e)))
 
-  pub written_six : q ≡ Refused R.ZeroByte n → ZeroIn lent n
+  pub written_six : q ≡ Err (R.ZeroByte, n) → ZeroIn lent n
   written_six e = six_in lent (shows_lent of_six fs lent vs b (past_bad of_six ty tag (shows fs lent vs) o (sym w.next ∙ e)))
 
 module _ (f : Field) (lent : List ℕ) (v : Value) (i : ℕ) {n : ℕ} (b : Bytes lent) where

@@ -1,10 +1,10 @@
 -- Any two answers that the promises of this crate allow are equal.
+use Rattle.numbers.specs.Place.{Place}
 use Rattle.std.specs.Prelude.{ℕ, ◌-◌, ◌≤◌, ◌≡◌, refl, List, [], length, take, drop}
 use Rattle.std.proofs.Common.{arith, sym, ap, ◌∙◌, length-drop, length-take-le}
 use Rattle.numbers.specs.Reading.{ok, bad}
 use Rattle.numbers.proofs.PlaceLaws.{one_answer}
 use Rattle.numbers.specs.declared.Refusal.{Refusal}
-use Rattle.numbers.specs.declared.Place.{Place}
 use Rattle.fields.specs.Layouts.{Layout}
 use Rattle.fields.specs.Values.{Value}
 use Rattle.framing.specs.Frames.{Header}

@@ -1,5 +1,5 @@
 -- What a frame that is listed shows of the stretch, and what is written of that; over any tables (F6.9).
-use Rattle.std.specs.Prelude.{ℕ, ◌+◌, ◌-◌, ◌≤◌, ◌≡◌, List, [], ◌++◌, map, length, take, drop}
+use Rattle.std.specs.Prelude.{ℕ, ◌+◌, ◌-◌, ◌≤◌, ◌≡◌, List, [], ◌++◌, map, length, take, drop, Ok}
 use Rattle.std.proofs.Common.{arith, sym, ap, ap₂, ◌∙◌, append_assoc, length-append, length-drop, take-append-drop, length-take-le, drop-drop, take-take}
 use Rattle.std.proofs.Math.Option.{some}
 use Rattle.numbers.specs.Numbers.{Bytes, from_le}
@@ -8,7 +8,6 @@ use Rattle.numbers.specs.Reading.{ok}
 use Rattle.numbers.specs.Places.{over}
 use Rattle.numbers.specs.declared.Refusal.{Refusal}
 use Rattle.numbers.specs.declared.Refusal.TheVariants as R
-use Rattle.numbers.specs.declared.Place.TheVariants.{At}
 use Rattle.fields.specs.Layouts.{Layout, kind, items_bytes}
 use Rattle.fields.specs.Values.{Value, places, shows}
 use Rattle.fields.proofs.ValueLaws.{shows_items}
@@ -67,7 +66,7 @@ module _ (rows : List Row) (s : List ℕ) (p e : ℕ) (b : Bytes s) (h : p ≤ e
       ∙ sym (shows_record rows (between p e s) is known)
 
   written_there : (o : List ℕ) → used ≤ length o
-      → (frame_out ty tag (shows l s (map (raise_value p) vs)) o ≡ over o 0 (resized used (between p e s))) × (frame_past ty tag (shows l s (map (raise_value p) vs)) o ≡ At used)
+      → (frame_out ty tag (shows l s (map (raise_value p) vs)) o ≡ over o 0 (resized used (between p e s))) × (frame_past ty tag (shows l s (map (raise_value p) vs)) o ≡ Ok used)
   written_there o r =
       let w = stripped_written rows (between p e s) is known o r in (
         ap (λ m. frame_out ty tag m o) shown_there ∙ w.0,
@@ -129,7 +128,7 @@ module _ (ts rs : List Row) (s : List ℕ) (p : ℕ) {at n ty tag y used tail ne
         ap (shows l s) (sym alone.raised) ∙ shown_there (table_for ts rs ty) s p next b w.start w.held known alone.reads
 
     -- and writing it with the stretch as the lent bytes gives the frame stripped of its tail
-    pub listed_written : (o : List ℕ) → used ≤ length o → (frame_out y tag (shows l s vs) o ≡ over o 0 (resized used (between p next s))) × (frame_past y tag (shows l s vs) o ≡ At used)
+    pub listed_written : (o : List ℕ) → used ≤ length o → (frame_out y tag (shows l s vs) o ≡ over o 0 (resized used (between p next s))) × (frame_past y tag (shows l s vs) o ≡ Ok used)
     listed_written o h =
         let w = stood ts rs s p e in
         let v : shows l s vs ≡ shows l s (map (raise_value p) alone.values) = ap (shows l s) (sym alone.raised) in

@@ -1,5 +1,6 @@
 -- What holds of the definitions in specs/RaisedLaws.antt.
-use Rattle.std.specs.Prelude.{ℕ, zero, suc, ◌+◌, ◌-◌, ◌*◌, ◌≤◌, ◌≡◌, refl, Bool, true, false, cond, List, [], ◌∷◌, map, length, take, drop, leb, eqb}
+use Rattle.numbers.specs.Place.{Place}
+use Rattle.std.specs.Prelude.{ℕ, zero, suc, ◌+◌, ◌-◌, ◌*◌, ◌≤◌, ◌≡◌, refl, Bool, true, false, cond, List, [], ◌∷◌, map, length, take, drop, leb, eqb, Ok, Err}
 use Rattle.std.proofs.Common.{arith, add-zero, sym, ap₂, ◌∙◌, length-drop, length-take-le, drop-drop, le-leb}
 use Rattle.std.proofs.Math.Path.{ap}
 use Rattle.std.proofs.Math.Option.{Option, none, some}
@@ -12,8 +13,6 @@ use Rattle.numbers.specs.Places.{Within}
 use Rattle.numbers.proofs.PlaceLaws.{inside, outside}
 use Rattle.numbers.specs.declared.Refusal.{Refusal}
 use Rattle.numbers.specs.declared.Refusal.TheVariants as R
-use Rattle.numbers.specs.declared.Place.{Place}
-use Rattle.numbers.specs.declared.Place.TheVariants.{At, Refused}
 use Rattle.utf8.specs.Utf8.{utf8, sound_start, no_zero, zero_at}
 use Rattle.strings.specs.Strings.{ok_text, read_string, string_bytes}
 use Rattle.fields.specs.Layouts.{Shape, fixed, worded, Field, num, str, dat, strs, quids, boxed, Layout, Cell, amount, words, Item, number, string, bytes, strings, qids, box, most, read_many, read_cell, read_cells, agrees, read_field, read_fields, many_bytes, cell_bytes, item_bytes}
@@ -67,17 +66,17 @@ single rows s = frame_zero (read_frame rows s)
 
 -- ---- the places that code meets
 
-pub since_refused : (p : ℕ) {e : Place} {k : Refusal} {at : ℕ} → e ≡ Refused k at → e ≡ since p e
+pub since_refused : (p : ℕ) {e : Place} {k : Refusal} {at : ℕ} → e ≡ Err (k, at) → e ≡ since p e
 since_refused p h = rw h
 
-pub since_at : (p : ℕ) {m n : ℕ} {e : Place} → e ≡ At m → n ≡ m - p → At n ≡ since p e
+pub since_at : (p : ℕ) {m n : ℕ} {e : Place} → e ≡ Ok m → n ≡ m - p → Ok n ≡ since p e
 since_at p h d = rw (h, d)
 
 module _ {p len : ℕ} {t : Bool} (w : Within p 7 len t) where
-  pub body_held : t ≡ true → At (p + 7) ≡ body_place len p
+  pub body_held : t ≡ true → Ok (p + 7) ≡ body_place len p
   body_held h = rw (le-leb (p + 7) len (inside w h))
 
-  pub body_short : t ≡ false → Refused R.Short 0 ≡ body_place len p
+  pub body_short : t ≡ false → Err (R.Short, 0) ≡ body_place len p
   body_short h = rw (lt-leb (p + 7) len (outside w h))
 
 -- read where the body begins, and told by the bytes used

@@ -1,5 +1,5 @@
 -- What holds of the definitions in specs/ReadBack.antt.
-use Rattle.std.specs.Prelude.{ℕ, ◌+◌, ◌*◌, ◌^◌, ◌≤◌, ◌<◌, ◌≡◌, refl, true, List, [], ◌∷◌, ◌++◌, map, length, drop, leb, eqb}
+use Rattle.std.specs.Prelude.{ℕ, ◌+◌, ◌*◌, ◌^◌, ◌≤◌, ◌<◌, ◌≡◌, refl, true, List, [], ◌∷◌, ◌++◌, map, length, drop, leb, eqb, Ok}
 use Rattle.std.proofs.Common.{arith, sym, ap, ap₂, ◌∙◌, append_assoc, append-nil, lt-ltb, le-ltb, leb-true, eqb-true}
 use Rattle.std.proofs.Math.Option.{some}
 use Rattle.std.proofs.lemmas.Bool.{lt-leb}
@@ -9,7 +9,6 @@ use Rattle.numbers.specs.Reading.{Result, ok, bad, after}
 use Rattle.numbers.proofs.ReadingLaws.{or_else, after_inv, cond_inv}
 use Rattle.numbers.specs.Places.{over}
 use Rattle.numbers.specs.declared.Refusal.TheVariants as R
-use Rattle.numbers.specs.declared.Place.TheVariants.{At}
 use Rattle.utf8.specs.Utf8.{utf8, no_zero}
 use Rattle.strings.specs.Strings.{GoodText}
 use Rattle.strings.specs.Spans.{show_span, show_string}
@@ -122,7 +121,7 @@ laid o ty tag n is u =
     let l : 0 + length (frame_bytes ty tag is) ≡ n = (let f = frame_length ty tag is in omega arith) in
     ap (λ m. head_bytes (7 + length (items_bytes is)) ty tag ++ items_bytes is ++ drop m o) l ∙ ap (λ m. head_bytes m ty tag ++ items_bytes is ++ drop n o) (sym u)
 
-pub wrote : (m : Result (List Item)) (ty tag : ℕ) {n : ℕ} {o o' : List ℕ} → o' ≡ frame_out ty tag m o → At n ≡ frame_past ty tag m o → Wrote m ty tag o o' n
+pub wrote : (m : Result (List Item)) (ty tag : ℕ) {n : ℕ} {o o' : List ℕ} → o' ≡ frame_out ty tag m o → Ok n ≡ frame_past ty tag m o → Wrote m ty tag o o' n
 unfolding frame_out frame_past
 wrote (bad k at) ty tag x y = absurd (let z : ◌≡◌ {A = ℕ} 0 1 = cc y in omega arith)
 wrote (ok is r) ty tag {n} {o} x y =
@@ -139,7 +138,7 @@ wrote (ok is r) ty tag {n} {o} x y =
     (λ h. absurd (let d = (rw t at y) ∙ (put_full (frame_bytes ty tag is) o 0 h).1 in let z : ◌≡◌ {A = ℕ} 0 1 = cc d in omega arith)))
 
 pub read_back : (rows : List Row) {fs : Layout} {ty tag n : ℕ} {lent o o' : List ℕ} {vs : List Value} → lookup rows ty ≡ some fs → ty < 256 ^ 1 → tag < 256 ^ 2 → Bytes lent → Readable fs vs
-    → FrameWritten fs ty tag lent vs o o' (At n) → Back rows fs ty tag lent vs o' n
+    → FrameWritten fs ty tag lent vs o o' (Ok n) → Back rows fs ty tag lent vs o' n
 read_back rows {fs} {ty} {tag} {n} {lent} {o} {o'} {vs} k t g b f w =
     let W = wrote (shows fs lent vs) ty tag w.bytes w.next in
     let is : List Item = W.items in

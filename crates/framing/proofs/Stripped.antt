@@ -1,5 +1,5 @@
 -- What holds of the definitions in specs/Stripped.antt.
-use Rattle.std.specs.Prelude.{ℕ, ◌+◌, ◌-◌, ◌≤◌, ◌<◌, ◌≡◌}
+use Rattle.std.specs.Prelude.{ℕ, ◌+◌, ◌-◌, ◌≤◌, ◌<◌, ◌≡◌, Ok}
 use native.Mathlib.Omega.{arith}
 use Rattle.std.proofs.Math.Path.{sym, ap}
 use Rattle.std.proofs.Common.{ap₂, ◌∙◌, length-append, take-append-drop, take_at, drop_at}
@@ -14,7 +14,6 @@ use Rattle.numbers.specs.Reading.{ok, read_num}
 use Rattle.numbers.proofs.ReadingLaws.{or_else, reads_num, cutting, raw_short}
 use Rattle.numbers.specs.Places.{over}
 use Rattle.numbers.specs.declared.Refusal.TheVariants as R
-use Rattle.numbers.specs.declared.Place.TheVariants.{At}
 use Rattle.fields.specs.Layouts.{Layout, Item, kind, items_bytes}
 use Rattle.fields.proofs.LayoutLaws.{reads_fields}
 use Rattle.fields.specs.Values.{Value, places, shows}
@@ -94,7 +93,7 @@ module _ (rows : List Row) (s : List ℕ) {ty tag used : ℕ} {vs : List Value} 
 
   -- and is written back byte for byte
   pub stripped_written : {l : Layout} → lookup rows ty ≡ some l → (o : List ℕ) → used ≤ length o
-      → (frame_out ty tag (shows l s vs) o ≡ over o 0 (resized used s)) × (frame_past ty tag (shows l s vs) o ≡ At used)
+      → (frame_out ty tag (shows l s vs) o ≡ over o 0 (resized used s)) × (frame_past ty tag (shows l s vs) o ≡ Ok used)
   unfolding frame_out frame_past frame_bytes
   stripped_written known o h =
       let u = A.uses in
@@ -104,7 +103,7 @@ module _ (rows : List Row) (s : List ℕ) {ty tag used : ℕ} {vs : List Value} 
       let w = used_within in
       let t = lt-ltb (7 + length (items_bytes A.items)) limit (omega arith) in (
         rw (shows_record known, t) (put_fits (frame_bytes ty tag A.items) o 0 (omega arith) ∙ ap (over o 0) b),
-        rw (shows_record known, t) (past_fits (frame_bytes ty tag A.items) o 0 (omega arith) ∙ ap At (omega arith)),
+        rw (shows_record known, t) (past_fits (frame_bytes ty tag A.items) o 0 (omega arith) ∙ ap Ok (omega arith)),
       )
 
 -- after the size: type, tag and items, cut anywhere

@@ -1,10 +1,9 @@
 -- A frame at a position (F6.9): what it reads alone, its positions counted from the first byte of the stretch.
-use Rattle.std.specs.Prelude.{ℕ, ◌+◌, ◌-◌, cond, List, map, length, drop, leb, eqb}
+use Rattle.numbers.specs.Place.{Place}
+use Rattle.std.specs.Prelude.{ℕ, ◌+◌, ◌-◌, cond, List, map, length, drop, leb, eqb, Ok, Err}
 use Rattle.numbers.specs.Refusals.{number_of}
 use Rattle.numbers.specs.declared.Refusal.{Refusal}
 use Rattle.numbers.specs.declared.Refusal.TheVariants as R
-use Rattle.numbers.specs.declared.Place.{Place}
-use Rattle.numbers.specs.declared.Place.TheVariants.{At, Refused}
 use Rattle.fields.specs.Values.{Slot, slot, text, Value, val, span, part, block}
 use Rattle.layouts.specs.Tables.{Row}
 use Rattle.layouts.specs.Bodies.{Answer, accepted, refused, read_body}
@@ -43,12 +42,12 @@ read_frame_at rows s p = raise_frame p (read_frame rows (drop p s))
 
 -- where the body begins, if that is held
 abbrev pub body_place : ℕ → ℕ → Place
-body_place len p = cond (leb (p + 7) len) (At (p + 7)) (Refused R.Short 0)
+body_place len p = cond (leb (p + 7) len) (Ok (p + 7)) (Err (R.Short, 0))
 
 -- how far the fields' end is from p
 abbrev pub since : ℕ → Place → Place
-since p (At n) = At (n - p)
-since p (Refused k at) = Refused k at
+since p (Ok n) = Ok (n - p)
+since p (Err f) = Err f
 
 abbrev pub used_since : ℕ → Answer → Answer
 used_since p (accepted ty vs n) = accepted ty vs (n - p)

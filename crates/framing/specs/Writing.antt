@@ -1,11 +1,10 @@
 -- Writing one frame (F5): its fields in order, then 10, then 11 (F5.2); what success leaves in the output (F5.12), and what a refusal does (F5.13).
-use Rattle.std.specs.Prelude.{ℕ, ◌+◌, ◌≡◌, cond, List, ◌++◌, length, leb, ltb}
+use Rattle.numbers.specs.Place.{Place}
+use Rattle.std.specs.Prelude.{ℕ, ◌+◌, ◌≡◌, cond, List, ◌++◌, length, leb, ltb, Ok, Err}
 use Rattle.numbers.specs.Numbers.{to_le}
 use Rattle.numbers.specs.Reading.{Result, ok, bad}
 use Rattle.numbers.specs.Places.{put_at, past_put}
 use Rattle.numbers.specs.declared.Refusal.TheVariants as R
-use Rattle.numbers.specs.declared.Place.{Place}
-use Rattle.numbers.specs.declared.Place.TheVariants.{At, Refused}
 use Rattle.fields.specs.Layouts.{Layout, Item, items_bytes}
 use Rattle.fields.specs.Values.{Value, shows}
 use Rattle.laying.specs.Laying.{limit}
@@ -20,11 +19,11 @@ frame_bytes ty tag is = head_bytes (7 + length (items_bytes is)) ty tag ++ items
 
 unfoldable pub frame_out : ℕ → ℕ → Result (List Item) → List ℕ → List ℕ
 frame_out ty tag (bad k at) o = o
-frame_out ty tag (ok is r) o = cond (ltb (7 + length (items_bytes is)) limit) (put_at (frame_bytes ty tag is) o (At 0)) o
+frame_out ty tag (ok is r) o = cond (ltb (7 + length (items_bytes is)) limit) (put_at (frame_bytes ty tag is) o (Ok 0)) o
 
 unfoldable pub frame_past : ℕ → ℕ → Result (List Item) → List ℕ → Place
-frame_past ty tag (bad k at) o = Refused k at
-frame_past ty tag (ok is r) o = cond (ltb (7 + length (items_bytes is)) limit) (past_put (frame_bytes ty tag is) o (At 0)) (Refused R.FrameTooLong 0)
+frame_past ty tag (bad k at) o = Err (k, at)
+frame_past ty tag (ok is r) o = cond (ltb (7 + length (items_bytes is)) limit) (past_put (frame_bytes ty tag is) o (Ok 0)) (Err (R.FrameTooLong, 0))
 
 -- what writing a frame of that type, tag and values leaves in the output, and answers: its length, or the refusal
 pub record FrameWritten (fs : Layout) (ty tag : ℕ) (lent : List ℕ) (vs : List Value) (o o' : List ℕ) (q : Place) : Type 0 where
@@ -32,12 +31,12 @@ pub record FrameWritten (fs : Layout) (ty tag : ℕ) (lent : List ℕ) (vs : Lis
   pub next : q ≡ frame_past ty tag (shows fs lent vs) o
 
 abbrev pub head_out : ℕ → ℕ → Place → List ℕ → List ℕ
-head_out ty tag (Refused k at) o = o
-head_out ty tag (At n) o = put_at (head_bytes n ty tag) o (At 0)
+head_out ty tag (Err f) o = o
+head_out ty tag (Ok n) o = put_at (head_bytes n ty tag) o (Ok 0)
 
 abbrev pub head_past : Place → List ℕ → Place
-head_past (Refused k at) o = Refused k at
-head_past (At n) o = cond (leb 7 (length o)) (At n) (Refused R.NoRoom 0)
+head_past (Err f) o = Err f
+head_past (Ok n) o = cond (leb 7 (length o)) (Ok n) (Err (R.NoRoom, 0))
 
 -- the header put in front of a body that ends at `end`, if there is room for it; nothing where the body was refused
 pub record HeadPut (ty tag : ℕ) (end : Place) (o o' : List ℕ) (q : Place) : Type 0 where

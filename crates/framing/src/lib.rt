@@ -9,7 +9,7 @@ ghost use Rattle.framing.specs.Headers.{TypeTag, HeadIs};
 ghost use Rattle.framing.specs.Cuts.{CutAt};
 ghost use Rattle.framing.specs.Raising.{body_place, since};
 
-use numbers::{Place, Refusal};
+use numbers::{Fault, Place, Refusal};
 
 // Where a frame's body begins: after its size, its type and its tag.
 pub const BODY: usize = 7;
@@ -38,13 +38,13 @@ fn own(size: u32, held: usize) -> usize
 fn type_and_tag(held: &[u8]) -> Head
     ensures { TypeTag held.now result }
 {
-    let t = numbers::read_u8(held, Place::At(4));
+    let t = numbers::read_u8(held, Ok(4));
     let a = t.next;
     let g = numbers::read_u16(held, a);
     let b = g.next;
     match b {
-        Place::At(_) => Head::Held(held.len(), t.value, g.value),
-        Place::Refused(k, _) => Head::Refused(k),
+        Ok(_) => Head::Held(held.len(), t.value, g.value),
+        Err(Fault(k, _)) => Head::Refused(k),
     }
 }
 
@@ -52,17 +52,17 @@ fn type_and_tag(held: &[u8]) -> Head
 pub fn read_header(s: &[u8]) -> Head
     ensures { HeadIs s.now result }
 {
-    let size = numbers::read_u32(s, Place::At(0));
+    let size = numbers::read_u32(s, Ok(0));
     let a = size.next;
     match a {
-        Place::At(_) => {
+        Ok(_) => {
             if size.value < LEAST_SIZE {
                 return Head::Refused(Refusal::SizeBelowFour);
             }
             let limit = own(size.value, s.len());
             type_and_tag(&s[..limit])
         }
-        Place::Refused(k, _) => Head::Refused(k),
+        Err(Fault(k, _)) => Head::Refused(k),
     }
 }
 
@@ -71,19 +71,19 @@ pub fn body_at(s: &[u8], at: usize) -> Place
     ensures { result ≡ body_place (length s.now) at }
 {
     if numbers::within(at, BODY, s.len()) {
-        return Place::At(at + BODY);
+        return Ok(at + BODY);
     }
-    Place::Refused(Refusal::Short, 0)
+    Err(Fault(Refusal::Short, 0))
 }
 
 // How many bytes of the frame at `at` are used where its fields end: they are no position. A refusal stays as it is.
 pub fn used(at: usize, end: Place) -> Place
     ensures { result ≡ since at end }
 {
-    let Place::At(n) = end else {
+    let Ok(n) = end else {
         return end;
     };
-    Place::At(numbers::saturating_sub(n, at))
+    Ok(numbers::saturating_sub(n, at))
 }
 
 // The header in front of a body that ends at `end`: 11 where there is no room for it, and nothing is put where the body was refused. Size
@@ -91,16 +91,16 @@ pub fn used(at: usize, end: Place) -> Place
 pub fn put_header(out: &mut [u8], end: Place, ty: u8, tag: u16) -> Place
     ensures { HeadPut ty tag end out.old out.new result }
 {
-    let Place::At(n) = end else {
+    let Ok(n) = end else {
         return end;
     };
     if out.len() < HEADER {
-        return Place::Refused(Refusal::NoRoom, 0);
+        return Err(Fault(Refusal::NoRoom, 0));
     }
-    let a = numbers::put_num(out, Place::At(0), n as u64, 4);
+    let a = numbers::put_num(out, Ok(0), n as u64, 4);
     let b = numbers::put_u8(out, a, ty);
     numbers::put_u16(out, b, tag);
-    Place::At(n)
+    Ok(n)
 }
 
 // How a stretch is cut at a position: a whole frame, told by its type, its tag and the next position; the end; or 12, 13. Its body is
@@ -121,9 +121,9 @@ pub fn cut_at(bytes: &[u8], position: usize) -> Cut
     if bytes.len() == position {
         return Cut::End;
     }
-    let size = numbers::read_u32(bytes, Place::At(position));
+    let size = numbers::read_u32(bytes, Ok(position));
     let a = size.next;
-    let Place::At(_) = a else {
+    let Ok(_) = a else {
         return Cut::Refused(Refusal::StretchCut);
     };
     if size.value < 7 {
@@ -133,8 +133,8 @@ pub fn cut_at(bytes: &[u8], position: usize) -> Cut
     if numbers::within(position, len, bytes.len()) {
         let next = position + len;
         let frame = &bytes[position..next];
-        let ty = numbers::read_u8(frame, Place::At(4));
-        let tag = numbers::read_u16(frame, Place::At(5));
+        let ty = numbers::read_u8(frame, Ok(4));
+        let tag = numbers::read_u16(frame, Ok(5));
         return Cut::Whole(ty.value, tag.value, next);
     }
     Cut::Refused(Refusal::StretchCut)

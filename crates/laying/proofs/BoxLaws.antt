@@ -1,5 +1,6 @@
 -- What holds of the definitions in specs/BoxLaws.antt.
-use Rattle.std.specs.Prelude.{ℕ, ◌+◌, ◌≤◌, ◌<◌, min, ◌≡◌, refl, Bool, true, false, cond, List, [], ◌∷◌, map, length, leb}
+use Rattle.numbers.specs.Place.{Place}
+use Rattle.std.specs.Prelude.{ℕ, ◌+◌, ◌≤◌, ◌<◌, min, ◌≡◌, refl, Bool, true, false, cond, List, [], ◌∷◌, map, length, leb, Ok, Err}
 use Rattle.std.proofs.Common.{arith, sym, ap, ap₂, ◌∙◌, length-append, le-leb}
 use Rattle.std.proofs.lemmas.Bool.{lt-leb}
 use Rattle.numbers.specs.Numbers.{to_le}
@@ -10,8 +11,6 @@ use Rattle.numbers.specs.Places.{put_at, Put}
 use Rattle.numbers.proofs.PlaceLaws.{length_put}
 use Rattle.numbers.specs.declared.Refusal.{Refusal}
 use Rattle.numbers.specs.declared.Refusal.TheVariants as R
-use Rattle.numbers.specs.declared.Place.{Place}
-use Rattle.numbers.specs.declared.Place.TheVariants.{At, Refused}
 use Rattle.strings.specs.Spans.{show_string, check_at, SpanPut}
 use Rattle.fields.specs.Layouts.{Shape, fixed, worded, boxed, Layout, Cell, words, Item, string, box, cells_bytes, item_bytes, items_bytes}
 use Rattle.fields.specs.BoxLaws.{plain_of, item_of}
@@ -64,24 +63,24 @@ plain_shown (f ∷ fs) lent vs =
 
 -- fields that show something are passed by as many bytes
 passed_all : (fs : Layout) (lent : List ℕ) (vs : List Value) (a : ℕ) {is : List Item} {r : List ℕ} → a ≤ limit → shows fs lent vs ≡ ok is r
-    → check_fields fs lent vs (At a) ≡ At (min (a + length (items_bytes is)) limit)
+    → check_fields fs lent vs (Ok a) ≡ Ok (min (a + length (items_bytes is)) limit)
 unfolding shows items_bytes check_fields
-passed_all [] lent vs a {is} l e = let f : [] ≡ is = cc e in rw (← f) (ap At (omega arith))
+passed_all [] lent vs a {is} l e = let f : [] ≡ is = cc e in rw (← f) (ap Ok (omega arith))
 passed_all (f ∷ fs) lent vs a {is} l e =
     after_inv (show f lent (first_of vs)) _ e
     (λ i s e1 e2. after_inv (shows fs lent (others_of vs)) _ e2
     (λ js t e3 e4.
     let g : i ∷ js ≡ is = cc e4 in
     let n = length-append (item_bytes i) (items_bytes js) in
-    rw (← g, check_passed f lent (first_of vs) a e1) (passed_all fs lent (others_of vs) (min (a + length (item_bytes i)) limit) (omega arith) e3 ∙ ap At (omega arith))))
+    rw (← g, check_passed f lent (first_of vs) a e1) (passed_all fs lent (others_of vs) (min (a + length (item_bytes i)) limit) (omega arith) e3 ∙ ap Ok (omega arith))))
 
-pub countable : {n a : ℕ} {p : Place} → p ≡ At a → n ≤ 65535 → Countable n p p
+pub countable : {n a : ℕ} {p : Place} → p ≡ Ok a → n ≤ 65535 → Countable n p p
 countable {n} e h = record { is = rw (e, le-leb n 65535 h) }
 
-pub uncountable : {n a : ℕ} {p : Place} → p ≡ At a → 65535 < n → Countable n p (Refused R.StatMalformed 0)
+pub uncountable : {n a : ℕ} {p : Place} → p ≡ Ok a → 65535 < n → Countable n p (Err (R.StatMalformed, 0))
 uncountable {n} e h = record { is = rw (e, lt-leb n 65535 h) }
 
-pub countable_refused : {n at : ℕ} {p : Place} {k : Refusal} → p ≡ Refused k at → Countable n p p
+pub countable_refused : {n at : ℕ} {p : Place} {k : Refusal} → p ≡ Err (k, at) → Countable n p p
 countable_refused e = record { is = rw e }
 
 box_length : (cs : List Cell) → length (item_bytes (box cs)) ≡ 4 + length (cells_bytes cs)
@@ -100,13 +99,13 @@ box_measured {fs} {lent} {vs} {p} x y z = record {
 }
   where
     told : (n : ℕ) (cs : List Cell) (r : List ℕ) (t : Bool)
-        → cond t (At (min (n + (4 + length (cells_bytes cs))) limit)) (Refused R.StatMalformed 0)
-        ≡ advance (shown_size (cond t (ok (box cs) r) (bad R.StatMalformed 0))) (check_at (cond t (ok (box cs) r) (bad R.StatMalformed 0)) (At n))
-    told n cs r true = ap (λ m. At (min (n + m) limit)) (sym (box_length cs))
+        → cond t (Ok (min (n + (4 + length (cells_bytes cs))) limit)) (Err (R.StatMalformed, 0))
+        ≡ advance (shown_size (cond t (ok (box cs) r) (bad R.StatMalformed 0))) (check_at (cond t (ok (box cs) r) (bad R.StatMalformed 0)) (Ok n))
+    told n cs r true = ap (λ m. Ok (min (n + m) limit)) (sym (box_length cs))
     told n cs r false = refl
 
     shown : (n : ℕ) (m : Result (List Cell)) → show_cells fs lent vs ≡ m
-        → countable_at (2 + cells_size fs vs) (check_fields (map plain_of fs) lent (map value_of vs) (advance 4 (At n))) ≡ advance (shown_size (box_of m)) (check_at (box_of m) (At n))
+        → countable_at (2 + cells_size fs vs) (check_fields (map plain_of fs) lent (map value_of vs) (advance 4 (Ok n))) ≡ advance (shown_size (box_of m)) (check_at (box_of m) (Ok n))
     shown n (bad k at) e = rw (failed (map plain_of fs) lent (map value_of vs) (min (n + 4) limit) (plain_shown fs lent vs ∙ ap items_of e))
     shown n (ok cs r) e =
         let g = passed_all (map plain_of fs) lent (map value_of vs) (min (n + 4) limit) (omega arith) (plain_shown fs lent vs ∙ ap items_of e) in
@@ -116,8 +115,8 @@ box_measured {fs} {lent} {vs} {p} x y z = record {
 
     from : (x : Place) → countable_at (2 + cells_size fs vs) (check_fields (map plain_of fs) lent (map value_of vs) (advance 4 x))
         ≡ advance (shown_size (show (boxed fs) lent (block vs))) (check_at (show (boxed fs) lent (block vs)) x)
-    from (Refused k at) = rw (stays (map plain_of fs) lent (map value_of vs) k at)
-    from (At n) = shown n (show_cells fs lent vs) refl
+    from (Err f) = rw (stays (map plain_of fs) lent (map value_of vs) f.0 f.1)
+    from (Ok n) = shown n (show_cells fs lent vs) refl
 
 -- ---- put
 

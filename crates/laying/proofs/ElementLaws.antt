@@ -1,5 +1,6 @@
 -- What holds of the definitions in specs/ElementLaws.antt.
-use Rattle.std.specs.Prelude.{ℕ, zero, suc, ◌+◌, ◌-◌, ◌*◌, ◌≤◌, ◌<◌, ◌≡◌, refl, List, [], ◌∷◌, ◌++◌, length, take, drop, get_or, ltb, eqb}
+use Rattle.numbers.specs.Place.{Place}
+use Rattle.std.specs.Prelude.{ℕ, zero, suc, ◌+◌, ◌-◌, ◌*◌, ◌≤◌, ◌<◌, ◌≡◌, refl, List, [], ◌∷◌, ◌++◌, length, take, drop, get_or, ltb, eqb, Ok, Err}
 use Rattle.std.proofs.Common.{arith, ap, ap₂, ◌∙◌, append_assoc, append-nil, length-append, drop-drop, length-take-le}
 use Rattle.std.proofs.Math.Path.{sym}
 use Rattle.std.proofs.Math.Seq.{drop-append_seam}
@@ -12,8 +13,6 @@ use Rattle.numbers.specs.Places.{read_from}
 use Rattle.numbers.proofs.PlaceLaws.{one_answer}
 use Rattle.numbers.specs.declared.Refusal.{Refusal}
 use Rattle.numbers.specs.declared.Refusal.TheVariants as R
-use Rattle.numbers.specs.declared.Place.{Place}
-use Rattle.numbers.specs.declared.Place.TheVariants.{At, Refused}
 use Rattle.strings.specs.Strings.{read_string, string_bytes, GoodText}
 use Rattle.strings.proofs.StringLaws.{reads_string}
 use Rattle.strings.specs.Spans.{show_span, check_at, str_start, str_len, StrRead}
@@ -48,26 +47,26 @@ element_one (E.Refused k at) (E.Found s) e f = absurd (let g = one_answer e f in
 -- ---- 17, then 9, then 15
 
 module _ {lent : List ℕ} {c x y i : ℕ} {q : Place} where
-  pub asked_outside : {k : Refusal} {at : ℕ} → PartCheck lent c x y (At 0) q → q ≡ Refused k at → ElementAsked lent (part c x y) i q
+  pub asked_outside : {k : Refusal} {at : ℕ} → PartCheck lent c x y (Ok 0) q → q ≡ Err (k, at) → ElementAsked lent (part c x y) i q
   unfolding asked_for
-  asked_outside s e = record { is = e ∙ sym (first_refuses (show_part lent c x y) _ (At 0) (sym s.is ∙ e)) }
+  asked_outside s e = record { is = e ∙ sym (first_refuses (show_part lent c x y) _ (Ok 0) (sym s.is ∙ e)) }
 
-  pub asked_below : {a : ℕ} → PartCheck lent c x y (At 0) q → q ≡ At a → i < c → ElementAsked lent (part c x y) i q
+  pub asked_below : {a : ℕ} → PartCheck lent c x y (Ok 0) q → q ≡ Ok a → i < c → ElementAsked lent (part c x y) i q
   unfolding asked_for
   asked_below s e h = let p = part_passed s e in record { is = e ∙ sym p.place ∙ rw (p.shows, lt-ltb i c h) }
 
-  pub asked_past : {a : ℕ} → PartCheck lent c x y (At 0) q → q ≡ At a → c ≤ i → ElementAsked lent (part c x y) i (Refused R.NoSuchElement 0)
+  pub asked_past : {a : ℕ} → PartCheck lent c x y (Ok 0) q → q ≡ Ok a → c ≤ i → ElementAsked lent (part c x y) i (Err (R.NoSuchElement, 0))
   unfolding asked_for
   asked_past s e h = let p = part_passed s e in record { is = rw (p.shows, le-ltb i c h) }
 
 -- ---- any vector
 
-pub element_refused : {f : Field} {lent : List ℕ} {v : Value} {i : ℕ} {p q : Place} {k : Refusal} {at : ℕ} → ElementAsked lent v i p → ShowCheck f lent v p q → q ≡ Refused k at
+pub element_refused : {f : Field} {lent : List ℕ} {v : Value} {i : ℕ} {p q : Place} {k : Refusal} {at : ℕ} → ElementAsked lent v i p → ShowCheck f lent v p q → q ≡ Err (k, at)
     → bad k at ≡ element_at f lent v i
 unfolding element_at
 element_refused {f} {lent} {v} {i} {p} {q} {k} {at} a s e = go (asked_for lent v i) (show f lent v) (sym e ∙ s.is ∙ ap (check_at (show f lent v)) a.is)
   where
-    go : (m : Result (List ℕ)) (w : Result Item) → Refused k at ≡ check_at w (check_at m (At 0)) → bad k at ≡ after m (λ bs r. after w (λ it t. ok (element_in (start_of v) i it) []))
+    go : (m : Result (List ℕ)) (w : Result Item) → Err (k, at) ≡ check_at w (check_at m (Ok 0)) → bad k at ≡ after m (λ bs r. after w (λ it t. ok (element_in (start_of v) i it) []))
     go (bad j b) w d = let g : k ≡ j = cc d in let h : at ≡ b = cc d in ap₂ bad g h
     go (ok bs r) (bad j b) d = let g : k ≡ j = cc d in let h : at ≡ b = cc d in ap₂ bad g h
     go (ok bs r) (ok it t) d = absurd (let z : ◌≡◌ {A = ℕ} 0 1 = cc d in omega arith)
@@ -77,11 +76,11 @@ unfolding asked_for
 asked_inv lent v i e =
     after_inv (show_part lent (count_of v) (start_of v) (len_of v)) _ e (λ cs s e1 e2. ltb-true i (count_of v) (cond_inv (ltb i (count_of v)) _ R.NoSuchElement 0 e2).0)
 
-pub element : {f : Field} {lent : List ℕ} {v : Value} {i a : ℕ} {p q : Place} → ElementAsked lent v i p → ShowCheck f lent v p q → q ≡ At a → Element f lent v i
+pub element : {f : Field} {lent : List ℕ} {v : Value} {i a : ℕ} {p q : Place} → ElementAsked lent v i p → ShowCheck f lent v p q → q ≡ Ok a → Element f lent v i
 unfolding element_at
 element {f} {lent} {v} {i} {a} {p} n s e =
     check_inv (show f lent v) p (sym s.is ∙ e)
-    (λ it r d g. check_inv (asked_for lent v i) (At 0) (sym n.is ∙ g)
+    (λ it r d g. check_inv (asked_for lent v i) (Ok 0) (sym n.is ∙ g)
     (λ bs t u w. record { item = it; rest = r; shows = d; below = asked_inv lent v i u; is = rw (u, d) }))
 
 -- its part lies among the lent bytes
@@ -166,7 +165,7 @@ name_found {lent} {c} {x} {y} {i} {sx} {sy} {p} b l m r =
     let ls : length s ≡ x + y = length-take-le (x + y) lent n.lies in
     let el : length (many_bytes ns) ≡ length a + length z = ap length t.bytes ∙ length-append a z in
     let e1 = n.size in
-    let ep : p ≡ At (x + length a) = m.next ∙ rw (es, t.before) (ap At (omega arith)) in
+    let ep : p ≡ Ok (x + length a) = m.next ∙ rw (es, t.before) (ap Ok (omega arith)) in
     let ed : drop (x + length a) s ≡ z = sym (drop-drop (length a) x s) ∙ ap (drop (length a)) (es ∙ t.bytes) ∙ drop-append_seam a z in
     let er : read_from read_string s p ≡ ok g (many_bytes (drop (suc i) ns)) = rw (ep, ed) ((reads_string (x + length a) g t.good).back (many_bytes (drop (suc i) ns))) in
     let ex : sx ≡ x + (length a + 2) = r.start ∙ rw (er, ep) (omega arith) in

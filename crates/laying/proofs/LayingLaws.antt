@@ -1,5 +1,6 @@
 -- What holds of the definitions in specs/LayingLaws.antt.
-use Rattle.std.specs.Prelude.{ℕ, zero, suc, ◌+◌, ◌*◌, ◌≤◌, min, ◌≡◌, refl, List, [], ◌∷◌, ◌++◌, length, take, drop, eqb, leb}
+use Rattle.numbers.specs.Place.{Place}
+use Rattle.std.specs.Prelude.{ℕ, zero, suc, ◌+◌, ◌*◌, ◌≤◌, min, ◌≡◌, refl, List, [], ◌∷◌, ◌++◌, length, take, drop, eqb, leb, Ok, Err}
 use Rattle.std.proofs.Common.{arith, sym, ap, ap₂, ◌∙◌, append-nil, length-append, take-append-drop, le-leb, leb-true}
 use Rattle.std.proofs.Math.Seq.{take-nil}
 use Rattle.numbers.specs.Numbers.{Bytes, to_le}
@@ -9,8 +10,6 @@ use Rattle.numbers.proofs.ReadingLaws.{after_inv, cond_inv}
 use Rattle.numbers.specs.Places.{put_at, past_put, Put}
 use Rattle.numbers.proofs.PlaceLaws.{put_then, put_length}
 use Rattle.numbers.specs.declared.Refusal.TheVariants as R
-use Rattle.numbers.specs.declared.Place.{Place}
-use Rattle.numbers.specs.declared.Place.TheVariants.{At, Refused}
 use Rattle.strings.specs.Strings.{string_bytes}
 use Rattle.strings.specs.Spans.{show_span, show_string, SpanPut}
 use Rattle.strings.proofs.SpanLaws.{check_inv, shown_in, shown_length, span_inv, string_inv, passing}
@@ -41,8 +40,8 @@ unfolding check_fields
 measure {fs = fs} {lent} {vs = vs} a b = record { is = b.is ∙ ap (check_fields fs lent vs) a.is }
 
 pub advance_twice : (m n : ℕ) (p : Place) → advance n (advance m p) ≡ advance (m + n) p
-advance_twice m n (At a) = ap At (omega arith)
-advance_twice m n (Refused k at) = refl
+advance_twice m n (Ok a) = ap Ok (omega arith)
+advance_twice m n (Err f) = refl
 
 size : (w x : ℕ) → length (item_bytes (number w x)) ≡ w
 unfolding item_bytes
@@ -50,8 +49,8 @@ size w x = length_to_le w x
 
 check_number : (w : ℕ) (lent : List ℕ) (v : Value) (p : Place) → check_field (num w) lent v p ≡ advance w p
 unfolding check_field show
-check_number w lent v (At a) = ap (λ n. At (min (a + n) 4294967296)) (size w (num_of v))
-check_number w lent v (Refused k at) = refl
+check_number w lent v (Ok a) = ap (λ n. Ok (min (a + n) 4294967296)) (size w (num_of v))
+check_number w lent v (Err f) = refl
 
 check_numbers : (w : ℕ) (ws : List ℕ) (fs : Layout) (lent : List ℕ) (vs : List Value) (p : Place)
     → check_fields fs lent (after_numbers (w ∷ ws) vs) (advance (total (w ∷ ws)) p) ≡ check_fields (numbers (w ∷ ws) fs) lent vs p
@@ -101,7 +100,7 @@ span_shown lent x y {bs} {r} e =
 pub part_inv : (lent : List ℕ) (n x y : ℕ) {bs r : List ℕ} → show_part lent n x y ≡ ok bs r → (n ≤ 16) × (show_span lent x y ≡ ok bs r)
 part_inv lent n x y e = let u = cond_inv (leb n 16) (show_span lent x y) R.TooManyElements 0 e in (leb-true n 16 u.0, u.1)
 
-pub part_passed : {lent : List ℕ} {n x y a : ℕ} {p q : Place} → PartCheck lent n x y p q → q ≡ At a → PartPassed lent n x y p a
+pub part_passed : {lent : List ℕ} {n x y a : ℕ} {p q : Place} → PartCheck lent n x y p q → q ≡ Ok a → PartPassed lent n x y p a
 part_passed {lent} {n} {x} {y} {a} {p} c e =
     check_inv (show_part lent n x y) p (sym c.is ∙ e)
     (λ bs r f g.
@@ -109,7 +108,7 @@ part_passed {lent} {n} {x} {y} {a} {p} c e =
     let h = span_inv lent x y i in
     record { place = g; lies = h; shows = f ∙ sym i ∙ shown_in lent x y h })
 
-pub part_lies : {lent : List ℕ} {n x y a : ℕ} {p q : Place} → PartCheck lent n x y p q → q ≡ At a → x + y ≤ length lent
+pub part_lies : {lent : List ℕ} {n x y a : ℕ} {p q : Place} → PartCheck lent n x y p q → q ≡ Ok a → x + y ≤ length lent
 part_lies c e = (part_passed c e).lies
 
 pub whole_inv : {A X : Type 0} (m : Result A) {a : A} {r : List ℕ} → whole_part m ≡ ok a r → (m ≡ ok a [] → X) → X
@@ -160,7 +159,7 @@ after_count (boxed fs) lent v u b e = absurd u
 
 -- ---- putting, where there is room
 
-put_none : (o : List ℕ) (a : ℕ) → a ≤ length o → Put [] o (At a) o (At a)
+put_none : (o : List ℕ) (a : ℕ) → a ≤ length o → Put [] o (Ok a) o (Ok a)
 unfolding put_at past_put
 put_none o a h =
     let z : a + 0 ≡ a = omega arith in
@@ -170,29 +169,29 @@ put_self : (bs o : List ℕ) (p : Place) → Put bs o p (put_at bs o p) (past_pu
 put_self bs o p = record { bytes = refl; next = refl }
 
 put_after_count : (f : Field) (lent : List ℕ) (v : Value) (o : List ℕ) (a : ℕ) {i : Item} → AfterCount f lent v i → a + length (item_bytes i) ≤ length o
-    → Put (item_bytes i) o (At a) (counted_field f lent v o (At a)) (past_counted f lent v o (At a))
+    → Put (item_bytes i) o (Ok a) (counted_field f lent v o (Ok a)) (past_counted f lent v o (Ok a))
 put_after_count f lent v o a {i} k h =
     let hd : List ℕ = to_le (head_width f) (head_of f v) in
-    let m : Place = past_put hd o (At a) in
+    let m : Place = past_put hd o (Ok a) in
     rw (k.item, k.shows, passing k.tail [] m)
-    (put_then (put_self hd o (At a)) (put_self k.tail (put_at hd o (At a)) m) refl (rw (← k.item) h))
+    (put_then (put_self hd o (Ok a)) (put_self k.tail (put_at hd o (Ok a)) m) refl (rw (← k.item) h))
 
 number_put : (w : ℕ) (lent : List ℕ) (v : Value) (o : List ℕ) (a : ℕ) {i : Item} {r : List ℕ} → show (num w) lent v ≡ ok i r
-    → Put (item_bytes i) o (At a) (put_at (to_le w (num_of v)) o (At a)) (past_put (to_le w (num_of v)) o (At a))
+    → Put (item_bytes i) o (Ok a) (put_at (to_le w (num_of v)) o (Ok a)) (past_put (to_le w (num_of v)) o (Ok a))
 unfolding show item_bytes
 number_put w lent v o a {i} e =
-    let f : number w (num_of v) ≡ i = cc e in rw (← f) (put_self (to_le w (num_of v)) o (At a))
+    let f : number w (num_of v) ≡ i = cc e in rw (← f) (put_self (to_le w (num_of v)) o (Ok a))
 
-put_next : {bs o o' : List ℕ} {a : ℕ} {q : Place} → Put bs o (At a) o' q → a + length bs ≤ length o → q ≡ At (a + length bs)
+put_next : {bs o o' : List ℕ} {a : ℕ} {q : Place} → Put bs o (Ok a) o' q → a + length bs ≤ length o → q ≡ Ok (a + length bs)
 unfolding past_put
 put_next {bs} {o} {o'} {a} f h = f.next ∙ rw (le-leb (a + length bs) (length o) h)
 
 -- ---- the fields of a box
 
 cell_put : (f : Shape) (lent : List ℕ) (v : Slot) (o : List ℕ) (a : ℕ) {i : Cell} {r : List ℕ} → show_cell f lent v ≡ ok i r → a + length (cell_bytes i) ≤ length o
-    → Put (cell_bytes i) o (At a) (put_cell f lent v o (At a)) (past_put_cell f lent v o (At a))
+    → Put (cell_bytes i) o (Ok a) (put_cell f lent v o (Ok a)) (past_put_cell f lent v o (Ok a))
 unfolding show_cell cell_bytes string_bytes put_cell past_put_cell
-cell_put (fixed w) lent v o a {i} e h = let f : amount w (slot_num v) ≡ i = cc e in rw (← f) (put_self (to_le w (slot_num v)) o (At a))
+cell_put (fixed w) lent v o a {i} e h = let f : amount w (slot_num v) ≡ i = cc e in rw (← f) (put_self (to_le w (slot_num v)) o (Ok a))
 cell_put worded lent v o a {i} e h =
     after_inv (show_string lent (slot_start v) (slot_len v)) _ e
     (λ bs s e1 e2.
@@ -202,11 +201,11 @@ cell_put worded lent v o a {i} e h =
     let g = shown_in lent (slot_start v) (slot_len v) k.lies ∙ ap (λ z. ok z []) (sym k.bytes) in
     let h' : a + length (to_le 2 (length bs) ++ bs) ≤ length o = rw (← f) at h in
     let hd : List ℕ = to_le 2 (slot_len v) in
-    let m : Place = past_put hd o (At a) in
-    rw (← f, l, g, passing bs [] m) (put_then (put_self hd o (At a)) (put_self bs (put_at hd o (At a)) m) refl (rw l at h')))
+    let m : Place = past_put hd o (Ok a) in
+    rw (← f, l, g, passing bs [] m) (put_then (put_self hd o (Ok a)) (put_self bs (put_at hd o (Ok a)) m) refl (rw l at h')))
 
 put_cells_lem : (fs : List Shape) (lent : List ℕ) (vs : List Slot) (o : List ℕ) (a : ℕ) {is : List Cell} {r : List ℕ} → show_cells fs lent vs ≡ ok is r
-    → a + length (cells_bytes is) ≤ length o → Put (cells_bytes is) o (At a) (put_cells fs lent vs o (At a)) (past_put_cells fs lent vs o (At a))
+    → a + length (cells_bytes is) ≤ length o → Put (cells_bytes is) o (Ok a) (put_cells fs lent vs o (Ok a)) (past_put_cells fs lent vs o (Ok a))
 unfolding show_cells cells_bytes put_cells past_put_cells
 put_cells_lem [] lent vs o a {is} e h =
     let f : [] ≡ is = cc e in rw (← f) (put_none o a (let g = rw (← f) at h in omega arith))
@@ -220,7 +219,7 @@ put_cells_lem (f ∷ fs) lent vs o a {is} e h =
     let x = cell_put f lent (first_slot vs) o a e1 (omega arith) in
     let n = put_next x (omega arith) in
     let m = put_length x in
-    let y = put_cells_lem fs lent (other_slots vs) (put_cell f lent (first_slot vs) o (At a)) (a + length (cell_bytes i)) e3 (omega arith) in
+    let y = put_cells_lem fs lent (other_slots vs) (put_cell f lent (first_slot vs) o (Ok a)) (a + length (cell_bytes i)) e3 (omega arith) in
     rw (← g) (put_then x (rw (← n) at y) refl h')))
 
 -- they are as long as they were said to be
@@ -249,7 +248,7 @@ cells_size_lem (f ∷ fs) lent vs {is} e =
     rw (← g, length-append (cell_bytes i) (cells_bytes js)) (omega arith)))
 
 box_put : (fs : List Shape) (lent : List ℕ) (v : Value) (o : List ℕ) (a : ℕ) {i : Item} {r : List ℕ} → show (boxed fs) lent v ≡ ok i r → a + length (item_bytes i) ≤ length o
-    → Put (item_bytes i) o (At a) (put_cells (with_sizes fs) lent (sized fs (slots_of v)) o (At a)) (past_put_cells (with_sizes fs) lent (sized fs (slots_of v)) o (At a))
+    → Put (item_bytes i) o (Ok a) (put_cells (with_sizes fs) lent (sized fs (slots_of v)) o (Ok a)) (past_put_cells (with_sizes fs) lent (sized fs (slots_of v)) o (Ok a))
 unfolding show item_bytes show_cells show_cell cells_bytes cell_bytes
 box_put fs lent v o a {i} e h =
     after_inv (show_cells fs lent (slots_of v)) _ e
@@ -263,7 +262,7 @@ box_put fs lent v o a {i} e h =
     rw (← f, ← k) (put_cells_lem (with_sizes fs) lent (sized fs (slots_of v)) o a e' (rw (← k) at h')))
 
 put_field_lem : (f : Field) (lent : List ℕ) (v : Value) (o : List ℕ) (a : ℕ) {i : Item} {r : List ℕ} → Bytes lent → show f lent v ≡ ok i r → a + length (item_bytes i) ≤ length o
-    → Put (item_bytes i) o (At a) (put_field f lent v o (At a)) (past_put_field f lent v o (At a))
+    → Put (item_bytes i) o (Ok a) (put_field f lent v o (Ok a)) (past_put_field f lent v o (Ok a))
 unfolding put_field past_put_field
 put_field_lem (num w) lent v o a {i} b e h = number_put w lent v o a e
 put_field_lem str lent v o a b e h = put_after_count str lent v o a (after_count str lent v tt b e) h
@@ -273,7 +272,7 @@ put_field_lem quids lent v o a b e h = put_after_count quids lent v o a (after_c
 put_field_lem (boxed fs) lent v o a b e h = box_put fs lent v o a e h
 
 pub put_fields_lem : (fs : Layout) (lent : List ℕ) (vs : List Value) (o : List ℕ) (a : ℕ) {is : List Item} {r : List ℕ} → Bytes lent → shows fs lent vs ≡ ok is r
-    → a + length (items_bytes is) ≤ length o → Put (items_bytes is) o (At a) (put_fields fs lent vs o (At a)) (past_put_fields fs lent vs o (At a))
+    → a + length (items_bytes is) ≤ length o → Put (items_bytes is) o (Ok a) (put_fields fs lent vs o (Ok a)) (past_put_fields fs lent vs o (Ok a))
 unfolding shows items_bytes put_fields past_put_fields
 put_fields_lem [] lent vs o a {is} b e h =
     let f : [] ≡ is = cc e in rw (← f) (put_none o a (let g = rw (← f) at h in omega arith))
@@ -287,5 +286,5 @@ put_fields_lem (f ∷ fs) lent vs o a {is} b e h =
     let x = put_field_lem f lent (first_of vs) o a b e1 (omega arith) in
     let n = put_next x (omega arith) in
     let m = put_length x in
-    let y = put_fields_lem fs lent (others_of vs) (put_field f lent (first_of vs) o (At a)) (a + length (item_bytes i)) b e3 (omega arith) in
+    let y = put_fields_lem fs lent (others_of vs) (put_field f lent (first_of vs) o (Ok a)) (a + length (item_bytes i)) b e3 (omega arith) in
     rw (← g) (put_then x (rw (← n) at y) refl h')))

@@ -1,9 +1,8 @@
 -- The elements of a walk (F4.18): the answer for one is a span of the caller's bytes, of a name without its count, of a qid whole.
-use Rattle.std.specs.Prelude.{ℕ, ◌+◌, ◌*◌, ◌≡◌, cond, List, [], length, take, get_or, ltb}
+use Rattle.numbers.specs.Place.{Place}
+use Rattle.std.specs.Prelude.{ℕ, ◌+◌, ◌*◌, ◌≡◌, cond, List, [], length, take, get_or, ltb, Ok}
 use Rattle.numbers.specs.Reading.{Result, ok, bad, after}
 use Rattle.numbers.specs.declared.Refusal.TheVariants as R
-use Rattle.numbers.specs.declared.Place.{Place}
-use Rattle.numbers.specs.declared.Place.TheVariants.{At, Refused}
 use Rattle.strings.specs.Spans.{check_at}
 use Rattle.fields.specs.Layouts.{Field, Item, number, string, bytes, strings, qids, box, many_bytes}
 use Rattle.fields.specs.Values.{Value, span, start_of, len_of, count_of, show_part, show}
@@ -33,4 +32,4 @@ view_element (E.Refused k at) = bad k at
 
 -- the place itself where an element may be looked for; or 17, 9, 15
 pub record ElementAsked (lent : List ℕ) (v : Value) (i : ℕ) (q : Place) : Type 0 where
-  pub is : q ≡ check_at (asked_for lent v i) (At 0)
+  pub is : q ≡ check_at (asked_for lent v i) (Ok 0)

@@ -1,11 +1,10 @@
 -- Writing fields at places: they are all checked and measured first, which touches no output; then their bytes are put. What the contracts cite.
-use Rattle.std.specs.Prelude.{ℕ, ◌+◌, min, ◌≡◌, cond, List, [], ◌∷◌, length, eqb, leb, ltb}
+use Rattle.numbers.specs.Place.{Place}
+use Rattle.std.specs.Prelude.{ℕ, ◌+◌, min, ◌≡◌, cond, List, [], ◌∷◌, length, eqb, leb, ltb, Ok, Err}
 use Rattle.numbers.specs.Numbers.{to_le}
 use Rattle.numbers.specs.Reading.{Result, ok, bad}
 use Rattle.numbers.specs.Places.{put_at, past_put}
 use Rattle.numbers.specs.declared.Refusal.TheVariants as R
-use Rattle.numbers.specs.declared.Place.{Place}
-use Rattle.numbers.specs.declared.Place.TheVariants.{At, Refused}
 use Rattle.strings.specs.Spans.{bytes_in, show_span, check_at}
 use Rattle.fields.specs.Layouts.{Shape, fixed, worded, Field, num, str, dat, strs, quids, boxed, Layout, Item, item_bytes, items_bytes}
 use Rattle.fields.specs.Values.{Slot, slot, slot_num, slot_start, slot_len, first_slot, other_slots, slots_of, Value, num_of, start_of, len_of, count_of, cut_off, show_part, show, first_of, others_of, shows}
@@ -17,8 +16,8 @@ abbrev pub limit : ℕ
 limit = 4294967296
 
 abbrev pub advance : ℕ → Place → Place
-advance n (At a) = At (min (a + n) limit)
-advance n (Refused k at) = Refused k at
+advance n (Ok a) = Ok (min (a + n) limit)
+advance n (Err f) = Err f
 
 -- how long an item is that a value shows
 abbrev pub shown_size : Result Item → ℕ
@@ -146,8 +145,8 @@ pub record CellsPut (fs : List Shape) (lent : List ℕ) (vs : List Slot) (o : Li
 
 -- whether a count of n may stand before a box: its place, or 18
 abbrev pub countable_at : ℕ → Place → Place
-countable_at n (At a) = cond (leb n 65535) (At a) (Refused R.StatMalformed 0)
-countable_at n (Refused k at) = Refused k at
+countable_at n (Ok a) = cond (leb n 65535) (Ok a) (Err (R.StatMalformed, 0))
+countable_at n (Err f) = Err f
 
 pub record Countable (n : ℕ) (p q : Place) : Type 0 where
   pub is : q ≡ countable_at n p
@@ -166,8 +165,8 @@ pub record PartCheck (lent : List ℕ) (n x y : ℕ) (p q : Place) : Type 0 wher
 
 -- where the scan of a part of n bytes has ended: at its end, or it is malformed
 abbrev pub filled_at : Place → ℕ → Place → Place
-filled_at (At e) n p = cond (eqb e n) p (Refused R.PartMalformed 0)
-filled_at (Refused k at) n p = Refused (cut_off k) at
+filled_at (Ok e) n p = cond (eqb e n) p (Err (R.PartMalformed, 0))
+filled_at (Err f) n p = Err (cut_off f.0, f.1)
 
 pub record Filled (e : Place) (n : ℕ) (p q : Place) : Type 0 where
   pub is : q ≡ filled_at e n p
@@ -175,15 +174,15 @@ pub record Filled (e : Place) (n : ℕ) (p q : Place) : Type 0 where
 -- ---- a whole layout written: its fields in order, then 10, then 11, and a refusal leaves the output as it was (F5.16)
 
 abbrev pub written_out : Result (List Item) → List ℕ → Place → List ℕ
-written_out m o (Refused k at) = o
-written_out (bad k at) o (At a) = o
-written_out (ok is r) o (At a) = cond (ltb (a + length (items_bytes is)) limit) (put_at (items_bytes is) o (At a)) o
+written_out m o (Err f) = o
+written_out (bad k at) o (Ok a) = o
+written_out (ok is r) o (Ok a) = cond (ltb (a + length (items_bytes is)) limit) (put_at (items_bytes is) o (Ok a)) o
 
 abbrev pub written_past : Result (List Item) → List ℕ → Place → Place
-written_past m o (Refused k at) = Refused k at
-written_past (bad k at) o (At a) = Refused k at
-written_past (ok is r) o (At a) =
-    cond (ltb (a + length (items_bytes is)) limit) (past_put (items_bytes is) o (At a)) (Refused R.FrameTooLong 0)
+written_past m o (Err f) = Err f
+written_past (bad k at) o (Ok a) = Err (k, at)
+written_past (ok is r) o (Ok a) =
+    cond (ltb (a + length (items_bytes is)) limit) (past_put (items_bytes is) o (Ok a)) (Err (R.FrameTooLong, 0))
 
 pub record Written (fs : Layout) (lent : List ℕ) (vs : List Value) (o : List ℕ) (p : Place) (o' : List ℕ) (q : Place) : Type 0 where
   pub bytes : o' ≡ written_out (shows fs lent vs) o p
@@ -191,16 +190,16 @@ pub record Written (fs : Layout) (lent : List ℕ) (vs : List Value) (o : List �
 
 -- the end that measuring found, in an output of n bytes
 abbrev pub settled_at : Place → ℕ → Place
-settled_at (At e) n = cond (ltb e limit) (cond (leb e n) (At e) (Refused R.NoRoom 0)) (Refused R.FrameTooLong 0)
-settled_at (Refused k at) n = Refused k at
+settled_at (Ok e) n = cond (ltb e limit) (cond (leb e n) (Ok e) (Err (R.NoRoom, 0))) (Err (R.FrameTooLong, 0))
+settled_at (Err f) n = Err f
 
 pub record Settled (e : Place) (n : ℕ) (q : Place) : Type 0 where
   pub is : q ≡ settled_at e n
 
 -- where putting begins: where measuring did, unless that was refused
 abbrev pub begun_at : Place → Place → Place
-begun_at p (At n) = p
-begun_at p (Refused k at) = Refused k at
+begun_at p (Ok n) = p
+begun_at p (Err f) = Err f
 
 pub record Begun (p e : Place) (n : ℕ) (q : Place) : Type 0 where
   pub is : q ≡ begun_at p (settled_at e n)

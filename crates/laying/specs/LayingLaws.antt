@@ -1,9 +1,8 @@
 -- Fields measured, and fields put, one after another; and that what is put is the definition's, over any layout.
-use Rattle.std.specs.Prelude.{ℕ, ◌+◌, ◌≤◌, ◌≡◌, List, [], ◌∷◌, ◌++◌, length, take, drop}
+use Rattle.numbers.specs.Place.{Place}
+use Rattle.std.specs.Prelude.{ℕ, ◌+◌, ◌≤◌, ◌≡◌, List, [], ◌∷◌, ◌++◌, length, take, drop, Ok}
 use Rattle.numbers.specs.Numbers.{to_le}
 use Rattle.numbers.specs.Reading.{ok}
-use Rattle.numbers.specs.declared.Place.{Place}
-use Rattle.numbers.specs.declared.Place.TheVariants.{At}
 use Rattle.strings.specs.Spans.{show_span}
 use Rattle.fields.specs.Layouts.{Field, num, str, dat, strs, quids, boxed, Layout, Item, item_bytes}
 use Rattle.fields.specs.Values.{Value, start_of, len_of, show_part, others_of, shows}
@@ -42,6 +41,6 @@ pub record AfterCount (f : Field) (lent : List ℕ) (v : Value) (i : Item) : Typ
 
 -- what is known of one that passed
 pub record PartPassed (lent : List ℕ) (n x y : ℕ) (p : Place) (a : ℕ) : Type 0 where
-  pub place : p ≡ At a
+  pub place : p ≡ Ok a
   pub lies : x + y ≤ length lent
   pub shows : show_part lent n x y ≡ ok (take y (drop x lent)) []

@@ -6,7 +6,7 @@ ghost use Rattle.fields.specs.Values.{part};
 ghost use Rattle.laying.specs.Elements.{ElementAsked, element_at, view_element};
 
 use fields::Part;
-use numbers::{Place, Refusal};
+use numbers::{Fault, Place, Refusal};
 use strings::Span;
 
 // Where an element stands among the lent bytes; or why it can't be given, and where.
@@ -20,14 +20,14 @@ pub enum Element {
 fn asked(lent: &[u8], v: Part, i: usize) -> Place
     ensures { ElementAsked lent.now (part v.count v.elements.start v.elements.len) i result }
 {
-    let q = crate::check_part(lent, v, Place::At(0));
-    let Place::At(_) = q else {
+    let q = crate::check_part(lent, v, Ok(0));
+    let Ok(_) = q else {
         return q;
     };
     if i < v.count as usize {
         return q;
     }
-    Place::Refused(Refusal::NoSuchElement, 0)
+    Err(Fault(Refusal::NoSuchElement, 0))
 }
 
 // Name `i` of a vector of strings, without its count: 17, then 9, then 15, then the whole part as the writer checks it.
@@ -37,7 +37,7 @@ pub fn name_at(lent: &[u8], v: Part, i: usize) -> Element
     let p = asked(lent, v, i);
     let q = crate::check_names(lent, v, p);
     match q {
-        Place::At(_) => {
+        Ok(_) => {
             let elements = v.elements;
             let start = elements.start;
             let stop = start + elements.len;
@@ -46,7 +46,7 @@ pub fn name_at(lent: &[u8], v: Part, i: usize) -> Element
             let found = name.value;
             Element::Found(found)
         }
-        Place::Refused(k, n) => Element::Refused(k, n),
+        Err(Fault(k, n)) => Element::Refused(k, n),
     }
 }
 
@@ -57,12 +57,12 @@ pub fn qid_at(lent: &[u8], v: Part, i: usize) -> Element
     let p = asked(lent, v, i);
     let q = crate::check_qids(lent, v, p);
     match q {
-        Place::At(_) => {
+        Ok(_) => {
             let elements = v.elements;
             let start = elements.start + 13 * i;
             let found = Span { start, len: 13 };
             Element::Found(found)
         }
-        Place::Refused(k, n) => Element::Refused(k, n),
+        Err(Fault(k, n)) => Element::Refused(k, n),
     }
 }

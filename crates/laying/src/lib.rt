@@ -11,24 +11,24 @@ ghost use Rattle.fields.specs.Values.{span, part, cut_off};
 ghost use Rattle.laying.specs.Laying.{Advanced, FieldMeasured, PartCheck, ShowCheck, Filled, Settled, Begun, Written};
 
 use fields::Part;
-use numbers::{Place, Refusal};
+use numbers::{Fault, Place, Refusal};
 use strings::Span;
 
 // The place `n` bytes on; past the largest frame every place is the limit, so that no sum wraps.
 pub fn advanced(p: Place, n: usize) -> Place
     ensures { Advanced n p result }
 {
-    let Place::At(at) = p else {
+    let Ok(at) = p else {
         return p;
     };
     if 4294967296 <= at {
-        return Place::At(4294967296);
+        return Ok(4294967296);
     }
     if 4294967296 - at <= n {
-        return Place::At(4294967296);
+        return Ok(4294967296);
     }
     let next = at + n;
-    Place::At(next)
+    Ok(next)
 }
 
 // A string at a place, checked: 9, 7, 5, 6; then the place after its count and its text.
@@ -52,13 +52,13 @@ fn filled(end: Place, stop: usize, p: Place) -> Place
     ensures { Filled end stop p result }
 {
     match end {
-        Place::At(n) => {
+        Ok(n) => {
             if n == stop {
                 return p;
             }
-            Place::Refused(Refusal::PartMalformed, 0)
+            Err(Fault(Refusal::PartMalformed, 0))
         }
-        Place::Refused(k, n) => Place::Refused(cut_off(k), n),
+        Err(Fault(k, n)) => Err(Fault(cut_off(k), n)),
     }
 }
 
@@ -86,7 +86,7 @@ pub fn check_names(lent: &[u8], v: Part, p: Place) -> Place
 {
     let elements = v.elements;
     let q = check_part(lent, v, p);
-    let Place::At(_) = q else {
+    let Ok(_) = q else {
         return q;
     };
     let start = elements.start;
@@ -101,13 +101,13 @@ pub fn check_qids(lent: &[u8], v: Part, p: Place) -> Place
 {
     let elements = v.elements;
     let q = check_part(lent, v, p);
-    let Place::At(_) = q else {
+    let Ok(_) = q else {
         return q;
     };
     if elements.len == 13 * (v.count as usize) {
         return q;
     }
-    Place::Refused(Refusal::PartMalformed, 0)
+    Err(Fault(Refusal::PartMalformed, 0))
 }
 
 // A vector of strings at a place, checked; then the place after its count and its elements.
@@ -132,14 +132,14 @@ pub fn measure_qids(lent: &[u8], v: Part, p: Place) -> Place
 pub fn settled(end: Place, len: usize) -> Place
     ensures { Settled end len result }
 {
-    let Place::At(n) = end else {
+    let Ok(n) = end else {
         return end;
     };
     if 4294967296 <= n {
-        return Place::Refused(Refusal::FrameTooLong, 0);
+        return Err(Fault(Refusal::FrameTooLong, 0));
     }
     if len < n {
-        return Place::Refused(Refusal::NoRoom, 0);
+        return Err(Fault(Refusal::NoRoom, 0));
     }
     end
 }
@@ -149,7 +149,7 @@ pub fn begun(p: Place, end: Place, len: usize) -> Place
     ensures { Begun p end len result }
 {
     let q = settled(end, len);
-    let Place::At(_) = q else {
+    let Ok(_) = q else {
         return q;
     };
     p

@@ -1,12 +1,11 @@
 -- What holds of the definitions in specs/BodyLaws.antt.
-use Rattle.std.specs.Prelude.{ℕ, ◌≤◌, ◌≡◌, refl, List, [], ◌∷◌, length, drop}
+use Rattle.numbers.specs.Place.{Place}
+use Rattle.std.specs.Prelude.{ℕ, ◌≤◌, ◌≡◌, refl, List, [], ◌∷◌, length, drop, Ok}
 use Rattle.std.proofs.Common.{sym, ap₂, ne_eqb}
 use Rattle.std.proofs.Math.Option.{Option, none, some}
 use Rattle.numbers.specs.Numbers.{Bytes}
 use Rattle.numbers.specs.Reading.{Result, ok, bad}
 use Rattle.numbers.specs.declared.Refusal.TheVariants as R
-use Rattle.numbers.specs.declared.Place.{Place}
-use Rattle.numbers.specs.declared.Place.TheVariants.{At}
 use Rattle.fields.specs.Layouts.{Layout, Item, read_fields}
 use Rattle.fields.specs.Values.{Value}
 use Rattle.fields.proofs.FieldLaws.{fields_accepted, fields_refused}
@@ -28,13 +27,13 @@ unknown_body rs ty s p h = rw (no_row rs (Unit {0}) ty h).0
 
 -- ---- at a place as in the definition
 
-pub body_is : (rs : List Row) (ty : ℕ) (s : List ℕ) (a : ℕ) → Bytes s → a ≤ length s → read_body rs ty s (At a) ≡ body_of (lookup rs ty) ty a (drop a s)
+pub body_is : (rs : List Row) (ty : ℕ) (s : List ℕ) (a : ℕ) → Bytes s → a ≤ length s → read_body rs ty s (Ok a) ≡ body_of (lookup rs ty) ty a (drop a s)
 body_is rs ty s a b h = go (lookup rs ty)
   where
-    read : (l : Layout) (m : Result (List Item)) → read_fields l a (drop a s) ≡ m → finish_at ty (values_at l s (At a)) (past_fields l s (At a)) ≡ items_at ty a m
+    read : (l : Layout) (m : Result (List Item)) → read_fields l a (drop a s) ≡ m → finish_at ty (values_at l s (Ok a)) (past_fields l s (Ok a)) ≡ items_at ty a m
     read l (ok is r) e = let k = fields_accepted l s a b h e in rw (k.values, k.next)
     read l (bad k at) e = rw (fields_refused l s a b h e)
 
-    go : (o : Option Layout) → body_at o ty s (At a) ≡ body_of o ty a (drop a s)
+    go : (o : Option Layout) → body_at o ty s (Ok a) ≡ body_of o ty a (drop a s)
     go none = refl
     go (some l) = read l (read_fields l a (drop a s)) refl

@@ -1,11 +1,10 @@
 -- A body read at a place, by the row that a table has for its type.
-use Rattle.std.specs.Prelude.{ℕ, ◌+◌, List, length}
+use Rattle.numbers.specs.Place.{Place}
+use Rattle.std.specs.Prelude.{ℕ, ◌+◌, List, length, Ok, Err}
 use Rattle.std.proofs.Math.Option.{Option, none, some}
 use Rattle.numbers.specs.Reading.{Result, ok, bad}
 use Rattle.numbers.specs.declared.Refusal.{Refusal}
 use Rattle.numbers.specs.declared.Refusal.TheVariants as R
-use Rattle.numbers.specs.declared.Place.{Place}
-use Rattle.numbers.specs.declared.Place.TheVariants.{At, Refused}
 use Rattle.fields.specs.Layouts.{Layout, Item, read_fields, items_bytes}
 use Rattle.fields.specs.Values.{Value, places}
 use Rattle.fields.specs.Fields.{values_at, past_fields}
@@ -17,8 +16,8 @@ pub data Answer : Type 0 where
   refused : Refusal → ℕ → Answer
 
 abbrev pub finish_at : ℕ → List Value → Place → Answer
-finish_at ty vs (At n) = accepted ty vs n
-finish_at ty vs (Refused k at) = refused k at
+finish_at ty vs (Ok n) = accepted ty vs n
+finish_at ty vs (Err f) = refused f.0 f.1
 
 -- the definition, of the bytes xs that begin at position a: 3 for an unknown type, else the fields in order (F4.2); the values are where the items stand (F4.16)
 abbrev pub items_at : ℕ → ℕ → Result (List Item) → Answer

@@ -8,7 +8,7 @@ ghost use Rattle.layouts.specs.Records.{dirent};
 
 use crate::qids;
 use crate::qids::Qid;
-use numbers::Place;
+use numbers::{Place, Read};
 use strings::Span;
 
 #[derive(Clone, Copy)]
@@ -19,13 +19,7 @@ pub struct Dirent {
     pub name: Span,
 }
 
-#[derive(Clone, Copy)]
-pub struct ReadDirent {
-    pub value: Dirent,
-    pub next: Place,
-}
-
-pub fn read_dirent(s: &[u8], p: Place) -> ReadDirent
+pub fn read_dirent(s: &[u8], p: Place) -> Read<Dirent>
     ensures { Fields layout_dirent s.now p (dirent result.value) result.next }
 {
     let r1 = qids::read_qid(s, p);
@@ -44,7 +38,7 @@ pub fn read_dirent(s: &[u8], p: Place) -> ReadDirent
         ty: r3.value,
         name,
     };
-    ReadDirent { value, next: p4 }
+    Read { value, next: p4 }
 }
 
 // A whole entry written at a place: 9, 7, 5, 6, then 10, then 11; a refusal leaves the output as it was.

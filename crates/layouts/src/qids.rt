@@ -6,7 +6,7 @@ ghost use Rattle.fields.specs.Fields.{Fields};
 ghost use Rattle.laying.specs.Laying.{Written};
 ghost use Rattle.layouts.specs.Records.{qid};
 
-use numbers::Place;
+use numbers::{Place, Read};
 
 // The layout is C's, so that Rust can lend a table of them.
 #[repr(C)]
@@ -17,13 +17,7 @@ pub struct Qid {
     pub path: u64,
 }
 
-#[derive(Clone, Copy)]
-pub struct ReadQid {
-    pub value: Qid,
-    pub next: Place,
-}
-
-pub fn read_qid(s: &[u8], p: Place) -> ReadQid
+pub fn read_qid(s: &[u8], p: Place) -> Read<Qid>
     ensures { Fields q s.now p (qid result.value) result.next }
 {
     let r1 = numbers::read_u8(s, p);
@@ -37,7 +31,7 @@ pub fn read_qid(s: &[u8], p: Place) -> ReadQid
         version: r2.value,
         path: r3.value,
     };
-    ReadQid { value, next: p3 }
+    Read { value, next: p3 }
 }
 
 // A qid written at a place, all 13 bytes or none: 10, then 11; a refusal leaves the output as it was.

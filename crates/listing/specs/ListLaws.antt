@@ -1,14 +1,13 @@
 -- The lines that are put one after another are those of the listing.
+use Rattle.numbers.specs.Place.{Place}
 use Prim.Native.Nat.{ℕ, suc, ◌+◌, ◌≤◌, ◌<◌}
 use native.Mathlib.Omega.{arith}
-use Rattle.std.specs.Prelude.{◌≡◌, List, length}
+use Rattle.std.specs.Prelude.{◌≡◌, List, length, Ok}
 use Rattle.std.proofs.Common.{sym, ◌∙◌, lt-ltb, le-ltb}
 use Rattle.std.proofs.Math.Path.{ap}
 use Rattle.numbers.specs.Refusals.{number_of}
 use Rattle.numbers.specs.Places.{Put}
 use Rattle.numbers.specs.declared.Refusal.{Refusal}
-use Rattle.numbers.specs.declared.Place.{Place}
-use Rattle.numbers.specs.declared.Place.TheVariants.{At}
 use Rattle.layouts.specs.Tables.{table_t, table_r}
 use Rattle.framing.specs.Stretch.{listing}
 use Rattle.framing.specs.ListingLaws.{goes_on}
@@ -55,8 +54,8 @@ module _ {s o : List ℕ} {p₀ : Place} where
 
 -- ---- the report
 
-pub too_long_lem : {s o o1 : List ℕ} {p : Place} → 65536 < length s → Put too_long o (At 0) o1 p → ReportPut s o o1 p
+pub too_long_lem : {s o o1 : List ℕ} {p : Place} → 65536 < length s → Put too_long o (Ok 0) o1 p → ReportPut s o o1 p
 too_long_lem {s} h a = record { is = rw (lt-ltb 65536 (length s) h) (all_put a all_none) }
 
-pub all_listed : {s o o1 o2 : List ℕ} {p q : Place} → length s ≤ 65536 → Put header o (At 0) o1 p → LinesPut s o1 p o2 q → ReportPut s o o2 q
+pub all_listed : {s o o1 o2 : List ℕ} {p q : Place} → length s ≤ 65536 → Put header o (Ok 0) o1 p → LinesPut s o1 p o2 q → ReportPut s o o2 q
 all_listed {s} h a l = record { is = rw (le-ltb 65536 (length s) h) (all_put a l.is) }

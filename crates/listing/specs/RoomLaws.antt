@@ -1,5 +1,6 @@
 -- The text of any input fits the room, over any two tables; so the lister's promise has no premise.
-use Rattle.std.specs.Prelude.{ℕ, zero, suc, ◌+◌, ◌*◌, ◌-◌, ◌/◌, ◌%◌, ◌^◌, ◌≤◌, ◌<◌, ◌≡◌, Bool, true, false, cond, List, [], ◌∷◌, ◌++◌, length, take, drop, eqb}
+use Rattle.numbers.specs.Place.{Place}
+use Rattle.std.specs.Prelude.{ℕ, zero, suc, ◌+◌, ◌*◌, ◌-◌, ◌/◌, ◌%◌, ◌^◌, ◌≤◌, ◌<◌, ◌≡◌, Bool, true, false, cond, List, [], ◌∷◌, ◌++◌, length, take, drop, eqb, Ok}
 use Rattle.std.proofs.Common.{arith, ap, ◌∙◌, length-append, length-take, length-drop, lit<, lt-ltb, le-ltb}
 use Rattle.std.proofs.Math.Nat.{pow-le-pow_right}
 use Rattle.std.proofs.Math.Path.{refl}
@@ -11,8 +12,6 @@ use Rattle.numbers.specs.Refusals.{number_of}
 use Rattle.numbers.specs.Places.{over}
 use Rattle.numbers.specs.declared.Refusal.{Refusal}
 use Rattle.numbers.specs.declared.Refusal.TheVariants as R
-use Rattle.numbers.specs.declared.Place.{Place}
-use Rattle.numbers.specs.declared.Place.TheVariants.{At}
 use Rattle.layouts.specs.Tables.{Row, table_t, table_r}
 use Rattle.layouts.specs.Bodies.{Answer, accepted, refused}
 use Rattle.framing.specs.Stretch.{tail_in, answer_of, front, stop, Listing, entry, ends, stops, list_from, listing}
@@ -202,11 +201,11 @@ module _ (ts rs : List Row) where
 
 -- ---- the promise
 
-pub report_fits : {s o o' : List ℕ} {q : Place} → Bytes s → room ≡ length o → ReportPut s o o' q → (o' ≡ over o 0 (joined (report table_t table_r s))) × (q ≡ At (length (joined (report table_t table_r s))))
+pub report_fits : {s o o' : List ℕ} {q : Place} → Bytes s → room ≡ length o → ReportPut s o o' q → (o' ≡ over o 0 (joined (report table_t table_r s))) × (q ≡ Ok (length (joined (report table_t table_r s))))
 report_fits {s} {o} b l r =
     let t = text_most table_t table_r s b in
     let w = all_fits (report table_t table_r s) o 0 (omega arith) in
-    (r.is.bytes ∙ w.bytes, r.is.next ∙ w.next ∙ ap At (omega arith))
+    (r.is.bytes ∙ w.bytes, r.is.next ∙ w.next ∙ ap Ok (omega arith))
 
 pub reported : {s o o' : List ℕ} {q : Place} {n : ℕ} → Bytes s → room ≡ length o → ReportPut s o o' q → n ≡ position_of q → Reported s o o' n
 reported b l r e = let f = report_fits b l r in record { bytes = f.0; count = e ∙ ap position_of f.1 }

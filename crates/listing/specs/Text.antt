@@ -1,10 +1,9 @@
 -- The lister's text (F8). A text is its pieces, put one after the other.
-use Rattle.std.specs.Prelude.{ℕ, zero, suc, ◌^◌, ◌≡◌, cond, List, [], ◌∷◌, ◌++◌, length, ltb, eqb}
+use Rattle.numbers.specs.Place.{Place}
+use Rattle.std.specs.Prelude.{ℕ, zero, suc, ◌^◌, ◌≡◌, cond, List, [], ◌∷◌, ◌++◌, length, ltb, eqb, Ok, Err}
 use Rattle.io.specs.Digits.{last_digits}
 use Rattle.numbers.specs.Refusals.{number_of}
 use Rattle.numbers.specs.Places.{over, put_at, past_put, Put}
-use Rattle.numbers.specs.declared.Place.{Place}
-use Rattle.numbers.specs.declared.Place.TheVariants.{At, Refused}
 use Rattle.layouts.specs.Tables.{Row, table_t, table_r}
 use Rattle.layouts.specs.Bodies.{Answer, accepted, refused}
 use Rattle.framing.specs.Stretch.{Listing, entry, ends, stops, listing}
@@ -125,12 +124,12 @@ pub record LinesPut (s o : List ℕ) (p : Place) (o' : List ℕ) (q : Place) : T
 
 -- all of it, at the front of an output
 pub record ReportPut (s o o' : List ℕ) (q : Place) : Type 0 where
-  pub is : PiecesPut (report table_t table_r s) o (At 0) o' q
+  pub is : PiecesPut (report table_t table_r s) o (Ok 0) o' q
 
 -- where a place is; 0 where it is refused
 abbrev pub position_of : Place → ℕ
-position_of (At n) = n
-position_of (Refused k at) = 0
+position_of (Ok n) = n
+position_of (Err f) = 0
 
 -- ---- what the lister promises
 

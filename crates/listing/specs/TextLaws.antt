@@ -1,5 +1,6 @@
 -- The laws of pieces: put one after the other they are the text, where there is room.
-use Rattle.std.specs.Prelude.{ℕ, zero, suc, ◌+◌, ◌-◌, ◌^◌, ◌≤◌, ◌<◌, ◌≡◌, refl, List, [], ◌∷◌, ◌++◌, length, take, drop}
+use Rattle.numbers.specs.Place.{Place}
+use Rattle.std.specs.Prelude.{ℕ, zero, suc, ◌+◌, ◌-◌, ◌^◌, ◌≤◌, ◌<◌, ◌≡◌, refl, List, [], ◌∷◌, ◌++◌, length, take, drop, Ok}
 use Rattle.std.proofs.Common.{arith, sym, ap, ◌∙◌, length-append, length-take-le, lt-ltb, le-ltb, eq-eqb, ne_eqb}
 use Rattle.std.proofs.Math.Nat.{pow-le-pow_right}
 use Rattle.std.proofs.Math.Seq.{take-length}
@@ -9,8 +10,6 @@ use Rattle.numbers.specs.Reading.{ok}
 use Rattle.numbers.proofs.ReadingLaws.{or_else}
 use Rattle.numbers.specs.Places.{over, put_at, past_put, Put}
 use Rattle.numbers.proofs.PlaceLaws.{put_then, length_over, length_put, one_answer}
-use Rattle.numbers.specs.declared.Place.{Place}
-use Rattle.numbers.specs.declared.Place.TheVariants.{At}
 use Rattle.strings.specs.Spans.{show_span, SpanPut}
 use Rattle.strings.proofs.SpanLaws.{shown_in, passing}
 use Rattle.layouts.specs.Tables.{table_t, table_r}
@@ -105,12 +104,12 @@ all_length {bs} {o} {p = p} a = ap length a.bytes ∙ length_all bs o p
 -- ---- where there is room, the pieces are the text
 
 pub record PiecesFit (bs : List (List ℕ)) (o : List ℕ) (a : ℕ) : Type 0 where
-  pub bytes : put_all bs o (At a) ≡ over o a (joined bs)
-  pub next : past_all bs o (At a) ≡ At (a + length (joined bs))
+  pub bytes : put_all bs o (Ok a) ≡ over o a (joined bs)
+  pub next : past_all bs o (Ok a) ≡ Ok (a + length (joined bs))
 
 pub all_fits : (bs : List (List ℕ)) (o : List ℕ) (a : ℕ) → a + length (joined bs) ≤ length o → PiecesFit bs o a
 unfolding put_all past_all joined
-all_fits [] o a h = let z : a + 0 ≡ a = omega arith in record { bytes = over_none o a (omega arith); next = ap At (sym z) }
+all_fits [] o a h = let z : a + 0 ≡ a = omega arith in record { bytes = over_none o a (omega arith); next = ap Ok (sym z) }
 all_fits (b ∷ bs) o a h =
     let l = length-append b (joined bs) in
     let m = length_over o a b (omega arith) in
@@ -118,7 +117,7 @@ all_fits (b ∷ bs) o a h =
     let t = put_then (put_over o a b (omega arith)) (put_over (over o a b) (a + length b) (joined bs) (omega arith)) refl h in
     record {
       bytes = rw (put_fits b o a (omega arith), past_fits b o a (omega arith)) (i.bytes ∙ t.bytes ∙ put_fits (b ++ joined bs) o a h);
-      next = rw (put_fits b o a (omega arith), past_fits b o a (omega arith)) (i.next ∙ ap At (omega arith));
+      next = rw (put_fits b o a (omega arith), past_fits b o a (omega arith)) (i.next ∙ ap Ok (omega arith));
     }
 
 -- ---- what the lister promises

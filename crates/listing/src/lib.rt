@@ -10,7 +10,7 @@ ghost use Rattle.numbers.specs.Refusals.{number_of};
 ghost use Rattle.stretch.specs.Views.{view_body};
 ghost use Rattle.listing.specs.Text.{answer_number, header, end_word, stop_word, too_long, DecimalPut, FieldPut, TailPut, FramePut, LinePut, LastPut, LinesPut, ReportPut, position_of, Reported};
 
-use numbers::{Place, Refusal};
+use numbers::{Fault, Place, Refusal};
 use replies::Rbody;
 use requests::Tbody;
 use stretch::{Body, Listed, Step};
@@ -158,9 +158,9 @@ fn put_report(out: &mut [u8], input: &[u8]) -> Place
     ensures { ReportPut input.now out.old out.new result }
 {
     if 65536 < input.len() {
-        return put_too_long(out, Place::At(0));
+        return put_too_long(out, Ok(0));
     }
-    let p = put_header(out, Place::At(0));
+    let p = put_header(out, Ok(0));
     put_lines(out, p, input)
 }
 
@@ -169,8 +169,8 @@ pub fn position(p: Place) -> usize
     ensures { result ≡ position_of p }
 {
     match p {
-        Place::At(n) => n,
-        Place::Refused(_, _) => 0,
+        Ok(n) => n,
+        Err(Fault(_, _)) => 0,
     }
 }
 

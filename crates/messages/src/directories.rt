@@ -9,7 +9,7 @@ ghost use Rattle.messages.specs.Records.{tsymlink, rsymlink, tmknod, rmknod, tre
 use layouts::ids::{Fid, Gid};
 use layouts::qids;
 use layouts::qids::Qid;
-use numbers::Place;
+use numbers::{Place, Read};
 use strings::Span;
 
 #[derive(Clone, Copy)]
@@ -20,13 +20,7 @@ pub struct Tsymlink {
     pub gid: Gid,
 }
 
-#[derive(Clone, Copy)]
-pub struct ReadTsymlink {
-    pub value: Tsymlink,
-    pub next: Place,
-}
-
-pub fn read_tsymlink(s: &[u8], p: Place) -> ReadTsymlink
+pub fn read_tsymlink(s: &[u8], p: Place) -> Read<Tsymlink>
     ensures { Fields layout_tsymlink s.now p (tsymlink result.value) result.next }
 {
     let r1 = numbers::read_u32(s, p);
@@ -47,7 +41,7 @@ pub fn read_tsymlink(s: &[u8], p: Place) -> ReadTsymlink
         symtgt,
         gid,
     };
-    ReadTsymlink { value, next: p4 }
+    Read { value, next: p4 }
 }
 
 pub fn write_tsymlink(out: &mut [u8], p: Place, lent: &[u8], m: Tsymlink) -> Place
@@ -75,20 +69,14 @@ pub struct Rsymlink {
     pub qid: Qid,
 }
 
-#[derive(Clone, Copy)]
-pub struct ReadRsymlink {
-    pub value: Rsymlink,
-    pub next: Place,
-}
-
-pub fn read_rsymlink(s: &[u8], p: Place) -> ReadRsymlink
+pub fn read_rsymlink(s: &[u8], p: Place) -> Read<Rsymlink>
     ensures { Fields layout_rsymlink s.now p (rsymlink result.value) result.next }
 {
     let r1 = qids::read_qid(s, p);
     let p1 = r1.next;
     let qid = r1.value;
     let value = Rsymlink { qid };
-    ReadRsymlink { value, next: p1 }
+    Read { value, next: p1 }
 }
 
 pub fn write_rsymlink(out: &mut [u8], p: Place, lent: &[u8], m: Rsymlink) -> Place
@@ -112,13 +100,7 @@ pub struct Tmknod {
     pub gid: Gid,
 }
 
-#[derive(Clone, Copy)]
-pub struct ReadTmknod {
-    pub value: Tmknod,
-    pub next: Place,
-}
-
-pub fn read_tmknod(s: &[u8], p: Place) -> ReadTmknod
+pub fn read_tmknod(s: &[u8], p: Place) -> Read<Tmknod>
     ensures { Fields layout_tmknod s.now p (tmknod result.value) result.next }
 {
     let r1 = numbers::read_u32(s, p);
@@ -144,7 +126,7 @@ pub fn read_tmknod(s: &[u8], p: Place) -> ReadTmknod
         minor: r5.value,
         gid,
     };
-    ReadTmknod { value, next: p6 }
+    Read { value, next: p6 }
 }
 
 pub fn write_tmknod(out: &mut [u8], p: Place, lent: &[u8], m: Tmknod) -> Place
@@ -171,20 +153,14 @@ pub struct Rmknod {
     pub qid: Qid,
 }
 
-#[derive(Clone, Copy)]
-pub struct ReadRmknod {
-    pub value: Rmknod,
-    pub next: Place,
-}
-
-pub fn read_rmknod(s: &[u8], p: Place) -> ReadRmknod
+pub fn read_rmknod(s: &[u8], p: Place) -> Read<Rmknod>
     ensures { Fields layout_rmknod s.now p (rmknod result.value) result.next }
 {
     let r1 = qids::read_qid(s, p);
     let p1 = r1.next;
     let qid = r1.value;
     let value = Rmknod { qid };
-    ReadRmknod { value, next: p1 }
+    Read { value, next: p1 }
 }
 
 pub fn write_rmknod(out: &mut [u8], p: Place, lent: &[u8], m: Rmknod) -> Place
@@ -205,13 +181,7 @@ pub struct Trename {
     pub name: Span,
 }
 
-#[derive(Clone, Copy)]
-pub struct ReadTrename {
-    pub value: Trename,
-    pub next: Place,
-}
-
-pub fn read_trename(s: &[u8], p: Place) -> ReadTrename
+pub fn read_trename(s: &[u8], p: Place) -> Read<Trename>
     ensures { Fields layout_trename s.now p (trename result.value) result.next }
 {
     let r1 = numbers::read_u32(s, p);
@@ -224,7 +194,7 @@ pub fn read_trename(s: &[u8], p: Place) -> ReadTrename
     let p3 = r3.next;
     let name = r3.value;
     let value = Trename { fid, dfid, name };
-    ReadTrename { value, next: p3 }
+    Read { value, next: p3 }
 }
 
 pub fn write_trename(out: &mut [u8], p: Place, lent: &[u8], m: Trename) -> Place
@@ -247,20 +217,14 @@ pub struct Treadlink {
     pub fid: Fid,
 }
 
-#[derive(Clone, Copy)]
-pub struct ReadTreadlink {
-    pub value: Treadlink,
-    pub next: Place,
-}
-
-pub fn read_treadlink(s: &[u8], p: Place) -> ReadTreadlink
+pub fn read_treadlink(s: &[u8], p: Place) -> Read<Treadlink>
     ensures { Fields layout_treadlink s.now p (treadlink result.value) result.next }
 {
     let r1 = numbers::read_u32(s, p);
     let p1 = r1.next;
     let fid = Fid(r1.value);
     let value = Treadlink { fid };
-    ReadTreadlink { value, next: p1 }
+    Read { value, next: p1 }
 }
 
 pub fn write_treadlink(out: &mut [u8], p: Place, lent: &[u8], m: Treadlink) -> Place
@@ -277,20 +241,14 @@ pub struct Rreadlink {
     pub target: Span,
 }
 
-#[derive(Clone, Copy)]
-pub struct ReadRreadlink {
-    pub value: Rreadlink,
-    pub next: Place,
-}
-
-pub fn read_rreadlink(s: &[u8], p: Place) -> ReadRreadlink
+pub fn read_rreadlink(s: &[u8], p: Place) -> Read<Rreadlink>
     ensures { Fields layout_rreadlink s.now p (rreadlink result.value) result.next }
 {
     let r1 = strings::read_str(s, p);
     let p1 = r1.next;
     let target = r1.value;
     let value = Rreadlink { target };
-    ReadRreadlink { value, next: p1 }
+    Read { value, next: p1 }
 }
 
 pub fn write_rreadlink(out: &mut [u8], p: Place, lent: &[u8], m: Rreadlink) -> Place
@@ -310,13 +268,7 @@ pub struct Treaddir {
     pub count: u32,
 }
 
-#[derive(Clone, Copy)]
-pub struct ReadTreaddir {
-    pub value: Treaddir,
-    pub next: Place,
-}
-
-pub fn read_treaddir(s: &[u8], p: Place) -> ReadTreaddir
+pub fn read_treaddir(s: &[u8], p: Place) -> Read<Treaddir>
     ensures { Fields layout_treaddir s.now p (treaddir result.value) result.next }
 {
     let r1 = numbers::read_u32(s, p);
@@ -331,7 +283,7 @@ pub fn read_treaddir(s: &[u8], p: Place) -> ReadTreaddir
         offset: r2.value,
         count: r3.value,
     };
-    ReadTreaddir { value, next: p3 }
+    Read { value, next: p3 }
 }
 
 pub fn write_treaddir(out: &mut [u8], p: Place, lent: &[u8], m: Treaddir) -> Place
@@ -350,20 +302,14 @@ pub struct Rreaddir {
     pub data: Span,
 }
 
-#[derive(Clone, Copy)]
-pub struct ReadRreaddir {
-    pub value: Rreaddir,
-    pub next: Place,
-}
-
-pub fn read_rreaddir(s: &[u8], p: Place) -> ReadRreaddir
+pub fn read_rreaddir(s: &[u8], p: Place) -> Read<Rreaddir>
     ensures { Fields layout_rreaddir s.now p (rreaddir result.value) result.next }
 {
     let r1 = fields::read_data(s, p);
     let p1 = r1.next;
     let data = r1.value;
     let value = Rreaddir { data };
-    ReadRreaddir { value, next: p1 }
+    Read { value, next: p1 }
 }
 
 pub fn write_rreaddir(out: &mut [u8], p: Place, lent: &[u8], m: Rreaddir) -> Place
@@ -383,13 +329,7 @@ pub struct Tlink {
     pub name: Span,
 }
 
-#[derive(Clone, Copy)]
-pub struct ReadTlink {
-    pub value: Tlink,
-    pub next: Place,
-}
-
-pub fn read_tlink(s: &[u8], p: Place) -> ReadTlink
+pub fn read_tlink(s: &[u8], p: Place) -> Read<Tlink>
     ensures { Fields layout_tlink s.now p (tlink result.value) result.next }
 {
     let r1 = numbers::read_u32(s, p);
@@ -402,7 +342,7 @@ pub fn read_tlink(s: &[u8], p: Place) -> ReadTlink
     let p3 = r3.next;
     let name = r3.value;
     let value = Tlink { dfid, fid, name };
-    ReadTlink { value, next: p3 }
+    Read { value, next: p3 }
 }
 
 pub fn write_tlink(out: &mut [u8], p: Place, lent: &[u8], m: Tlink) -> Place
@@ -428,13 +368,7 @@ pub struct Tmkdir {
     pub gid: Gid,
 }
 
-#[derive(Clone, Copy)]
-pub struct ReadTmkdir {
-    pub value: Tmkdir,
-    pub next: Place,
-}
-
-pub fn read_tmkdir(s: &[u8], p: Place) -> ReadTmkdir
+pub fn read_tmkdir(s: &[u8], p: Place) -> Read<Tmkdir>
     ensures { Fields layout_tmkdir s.now p (tmkdir result.value) result.next }
 {
     let r1 = numbers::read_u32(s, p);
@@ -454,7 +388,7 @@ pub fn read_tmkdir(s: &[u8], p: Place) -> ReadTmkdir
         mode: r3.value,
         gid,
     };
-    ReadTmkdir { value, next: p4 }
+    Read { value, next: p4 }
 }
 
 pub fn write_tmkdir(out: &mut [u8], p: Place, lent: &[u8], m: Tmkdir) -> Place
@@ -479,20 +413,14 @@ pub struct Rmkdir {
     pub qid: Qid,
 }
 
-#[derive(Clone, Copy)]
-pub struct ReadRmkdir {
-    pub value: Rmkdir,
-    pub next: Place,
-}
-
-pub fn read_rmkdir(s: &[u8], p: Place) -> ReadRmkdir
+pub fn read_rmkdir(s: &[u8], p: Place) -> Read<Rmkdir>
     ensures { Fields layout_rmkdir s.now p (rmkdir result.value) result.next }
 {
     let r1 = qids::read_qid(s, p);
     let p1 = r1.next;
     let qid = r1.value;
     let value = Rmkdir { qid };
-    ReadRmkdir { value, next: p1 }
+    Read { value, next: p1 }
 }
 
 pub fn write_rmkdir(out: &mut [u8], p: Place, lent: &[u8], m: Rmkdir) -> Place
@@ -514,13 +442,7 @@ pub struct Trenameat {
     pub newname: Span,
 }
 
-#[derive(Clone, Copy)]
-pub struct ReadTrenameat {
-    pub value: Trenameat,
-    pub next: Place,
-}
-
-pub fn read_trenameat(s: &[u8], p: Place) -> ReadTrenameat
+pub fn read_trenameat(s: &[u8], p: Place) -> Read<Trenameat>
     ensures { Fields layout_trenameat s.now p (trenameat result.value) result.next }
 {
     let r1 = numbers::read_u32(s, p);
@@ -541,7 +463,7 @@ pub fn read_trenameat(s: &[u8], p: Place) -> ReadTrenameat
         newdirfid,
         newname,
     };
-    ReadTrenameat { value, next: p4 }
+    Read { value, next: p4 }
 }
 
 pub fn write_trenameat(out: &mut [u8], p: Place, lent: &[u8], m: Trenameat) -> Place
@@ -571,13 +493,7 @@ pub struct Tunlinkat {
     pub flags: u32,
 }
 
-#[derive(Clone, Copy)]
-pub struct ReadTunlinkat {
-    pub value: Tunlinkat,
-    pub next: Place,
-}
-
-pub fn read_tunlinkat(s: &[u8], p: Place) -> ReadTunlinkat
+pub fn read_tunlinkat(s: &[u8], p: Place) -> Read<Tunlinkat>
     ensures { Fields layout_tunlinkat s.now p (tunlinkat result.value) result.next }
 {
     let r1 = numbers::read_u32(s, p);
@@ -593,7 +509,7 @@ pub fn read_tunlinkat(s: &[u8], p: Place) -> ReadTunlinkat
         name,
         flags: r3.value,
     };
-    ReadTunlinkat { value, next: p3 }
+    Read { value, next: p3 }
 }
 
 pub fn write_tunlinkat(out: &mut [u8], p: Place, lent: &[u8], m: Tunlinkat) -> Place

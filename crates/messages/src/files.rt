@@ -9,7 +9,7 @@ ghost use Rattle.messages.specs.Records.{tlopen, rlopen, tlcreate, rlcreate, tfs
 use layouts::ids::{Fid, Gid};
 use layouts::qids;
 use layouts::qids::Qid;
-use numbers::Place;
+use numbers::{Place, Read};
 use strings::Span;
 
 #[derive(Clone, Copy)]
@@ -18,13 +18,7 @@ pub struct Tlopen {
     pub flags: u32,
 }
 
-#[derive(Clone, Copy)]
-pub struct ReadTlopen {
-    pub value: Tlopen,
-    pub next: Place,
-}
-
-pub fn read_tlopen(s: &[u8], p: Place) -> ReadTlopen
+pub fn read_tlopen(s: &[u8], p: Place) -> Read<Tlopen>
     ensures { Fields layout_tlopen s.now p (tlopen result.value) result.next }
 {
     let r1 = numbers::read_u32(s, p);
@@ -36,7 +30,7 @@ pub fn read_tlopen(s: &[u8], p: Place) -> ReadTlopen
         fid,
         flags: r2.value,
     };
-    ReadTlopen { value, next: p2 }
+    Read { value, next: p2 }
 }
 
 pub fn write_tlopen(out: &mut [u8], p: Place, lent: &[u8], m: Tlopen) -> Place
@@ -55,13 +49,7 @@ pub struct Rlopen {
     pub iounit: u32,
 }
 
-#[derive(Clone, Copy)]
-pub struct ReadRlopen {
-    pub value: Rlopen,
-    pub next: Place,
-}
-
-pub fn read_rlopen(s: &[u8], p: Place) -> ReadRlopen
+pub fn read_rlopen(s: &[u8], p: Place) -> Read<Rlopen>
     ensures { Fields layout_rlopen s.now p (rlopen result.value) result.next }
 {
     let r1 = qids::read_qid(s, p);
@@ -73,7 +61,7 @@ pub fn read_rlopen(s: &[u8], p: Place) -> ReadRlopen
         qid,
         iounit: r2.value,
     };
-    ReadRlopen { value, next: p2 }
+    Read { value, next: p2 }
 }
 
 pub fn write_rlopen(out: &mut [u8], p: Place, lent: &[u8], m: Rlopen) -> Place
@@ -97,13 +85,7 @@ pub struct Tlcreate {
     pub gid: Gid,
 }
 
-#[derive(Clone, Copy)]
-pub struct ReadTlcreate {
-    pub value: Tlcreate,
-    pub next: Place,
-}
-
-pub fn read_tlcreate(s: &[u8], p: Place) -> ReadTlcreate
+pub fn read_tlcreate(s: &[u8], p: Place) -> Read<Tlcreate>
     ensures { Fields layout_tlcreate s.now p (tlcreate result.value) result.next }
 {
     let r1 = numbers::read_u32(s, p);
@@ -126,7 +108,7 @@ pub fn read_tlcreate(s: &[u8], p: Place) -> ReadTlcreate
         mode: r4.value,
         gid,
     };
-    ReadTlcreate { value, next: p5 }
+    Read { value, next: p5 }
 }
 
 pub fn write_tlcreate(out: &mut [u8], p: Place, lent: &[u8], m: Tlcreate) -> Place
@@ -153,13 +135,7 @@ pub struct Rlcreate {
     pub iounit: u32,
 }
 
-#[derive(Clone, Copy)]
-pub struct ReadRlcreate {
-    pub value: Rlcreate,
-    pub next: Place,
-}
-
-pub fn read_rlcreate(s: &[u8], p: Place) -> ReadRlcreate
+pub fn read_rlcreate(s: &[u8], p: Place) -> Read<Rlcreate>
     ensures { Fields layout_rlcreate s.now p (rlcreate result.value) result.next }
 {
     let r1 = qids::read_qid(s, p);
@@ -171,7 +147,7 @@ pub fn read_rlcreate(s: &[u8], p: Place) -> ReadRlcreate
         qid,
         iounit: r2.value,
     };
-    ReadRlcreate { value, next: p2 }
+    Read { value, next: p2 }
 }
 
 pub fn write_rlcreate(out: &mut [u8], p: Place, lent: &[u8], m: Rlcreate) -> Place
@@ -192,13 +168,7 @@ pub struct Tfsync {
     pub datasync: u32,
 }
 
-#[derive(Clone, Copy)]
-pub struct ReadTfsync {
-    pub value: Tfsync,
-    pub next: Place,
-}
-
-pub fn read_tfsync(s: &[u8], p: Place) -> ReadTfsync
+pub fn read_tfsync(s: &[u8], p: Place) -> Read<Tfsync>
     ensures { Fields layout_tfsync s.now p (tfsync result.value) result.next }
 {
     let r1 = numbers::read_u32(s, p);
@@ -210,7 +180,7 @@ pub fn read_tfsync(s: &[u8], p: Place) -> ReadTfsync
         fid,
         datasync: r2.value,
     };
-    ReadTfsync { value, next: p2 }
+    Read { value, next: p2 }
 }
 
 pub fn write_tfsync(out: &mut [u8], p: Place, lent: &[u8], m: Tfsync) -> Place

@@ -7,7 +7,7 @@ ghost use Rattle.layouts.specs.Tables.{layout_tauth, layout_tattach, layout_rler
 ghost use Rattle.messages.specs.Records.{tauth, tattach, rlerror};
 
 use layouts::ids::Fid;
-use numbers::Place;
+use numbers::{Place, Read};
 use strings::Span;
 
 #[derive(Clone, Copy)]
@@ -18,13 +18,7 @@ pub struct Tauth {
     pub n_uname: u32,
 }
 
-#[derive(Clone, Copy)]
-pub struct ReadTauth {
-    pub value: Tauth,
-    pub next: Place,
-}
-
-pub fn read_tauth(s: &[u8], p: Place) -> ReadTauth
+pub fn read_tauth(s: &[u8], p: Place) -> Read<Tauth>
     ensures { Fields layout_tauth s.now p (tauth result.value) result.next }
 {
     let r1 = numbers::read_u32(s, p);
@@ -44,7 +38,7 @@ pub fn read_tauth(s: &[u8], p: Place) -> ReadTauth
         aname,
         n_uname: r4.value,
     };
-    ReadTauth { value, next: p4 }
+    Read { value, next: p4 }
 }
 
 pub fn write_tauth(out: &mut [u8], p: Place, lent: &[u8], m: Tauth) -> Place
@@ -75,13 +69,7 @@ pub struct Tattach {
     pub n_uname: u32,
 }
 
-#[derive(Clone, Copy)]
-pub struct ReadTattach {
-    pub value: Tattach,
-    pub next: Place,
-}
-
-pub fn read_tattach(s: &[u8], p: Place) -> ReadTattach
+pub fn read_tattach(s: &[u8], p: Place) -> Read<Tattach>
     ensures { Fields layout_tattach s.now p (tattach result.value) result.next }
 {
     let r1 = numbers::read_u32(s, p);
@@ -105,7 +93,7 @@ pub fn read_tattach(s: &[u8], p: Place) -> ReadTattach
         aname,
         n_uname: r5.value,
     };
-    ReadTattach { value, next: p5 }
+    Read { value, next: p5 }
 }
 
 pub fn write_tattach(out: &mut [u8], p: Place, lent: &[u8], m: Tattach) -> Place
@@ -134,19 +122,13 @@ pub struct Rlerror {
     pub ecode: u32,
 }
 
-#[derive(Clone, Copy)]
-pub struct ReadRlerror {
-    pub value: Rlerror,
-    pub next: Place,
-}
-
-pub fn read_rlerror(s: &[u8], p: Place) -> ReadRlerror
+pub fn read_rlerror(s: &[u8], p: Place) -> Read<Rlerror>
     ensures { Fields layout_rlerror s.now p (rlerror result.value) result.next }
 {
     let r1 = numbers::read_u32(s, p);
     let p1 = r1.next;
     let value = Rlerror { ecode: r1.value };
-    ReadRlerror { value, next: p1 }
+    Read { value, next: p1 }
 }
 
 pub fn write_rlerror(out: &mut [u8], p: Place, lent: &[u8], m: Rlerror) -> Place

@@ -9,7 +9,7 @@ ghost use Rattle.metadata.specs.Records.{tstatfs, rstatfs, tgetattr, rgetattr, t
 use layouts::ids::{Fid, Gid};
 use layouts::qids;
 use layouts::qids::Qid;
-use numbers::Place;
+use numbers::{Place, Read};
 use strings::Span;
 
 #[derive(Clone, Copy)]
@@ -17,20 +17,14 @@ pub struct Tstatfs {
     pub fid: Fid,
 }
 
-#[derive(Clone, Copy)]
-pub struct ReadTstatfs {
-    pub value: Tstatfs,
-    pub next: Place,
-}
-
-pub fn read_tstatfs(s: &[u8], p: Place) -> ReadTstatfs
+pub fn read_tstatfs(s: &[u8], p: Place) -> Read<Tstatfs>
     ensures { Fields layout_tstatfs s.now p (tstatfs result.value) result.next }
 {
     let r1 = numbers::read_u32(s, p);
     let p1 = r1.next;
     let fid = Fid(r1.value);
     let value = Tstatfs { fid };
-    ReadTstatfs { value, next: p1 }
+    Read { value, next: p1 }
 }
 
 pub fn write_tstatfs(out: &mut [u8], p: Place, lent: &[u8], m: Tstatfs) -> Place
@@ -55,13 +49,7 @@ pub struct Rstatfs {
     pub namelen: u32,
 }
 
-#[derive(Clone, Copy)]
-pub struct ReadRstatfs {
-    pub value: Rstatfs,
-    pub next: Place,
-}
-
-pub fn read_rstatfs(s: &[u8], p: Place) -> ReadRstatfs
+pub fn read_rstatfs(s: &[u8], p: Place) -> Read<Rstatfs>
     ensures { Fields layout_rstatfs s.now p (rstatfs result.value) result.next }
 {
     let r1 = numbers::read_u32(s, p);
@@ -93,7 +81,7 @@ pub fn read_rstatfs(s: &[u8], p: Place) -> ReadRstatfs
         fsid: r8.value,
         namelen: r9.value,
     };
-    ReadRstatfs { value, next: p9 }
+    Read { value, next: p9 }
 }
 
 pub fn write_rstatfs(out: &mut [u8], p: Place, lent: &[u8], m: Rstatfs) -> Place
@@ -118,13 +106,7 @@ pub struct Tgetattr {
     pub request_mask: u64,
 }
 
-#[derive(Clone, Copy)]
-pub struct ReadTgetattr {
-    pub value: Tgetattr,
-    pub next: Place,
-}
-
-pub fn read_tgetattr(s: &[u8], p: Place) -> ReadTgetattr
+pub fn read_tgetattr(s: &[u8], p: Place) -> Read<Tgetattr>
     ensures { Fields layout_tgetattr s.now p (tgetattr result.value) result.next }
 {
     let r1 = numbers::read_u32(s, p);
@@ -136,7 +118,7 @@ pub fn read_tgetattr(s: &[u8], p: Place) -> ReadTgetattr
         fid,
         request_mask: r2.value,
     };
-    ReadTgetattr { value, next: p2 }
+    Read { value, next: p2 }
 }
 
 pub fn write_tgetattr(out: &mut [u8], p: Place, lent: &[u8], m: Tgetattr) -> Place
@@ -173,13 +155,7 @@ pub struct Rgetattr {
     pub data_version: u64,
 }
 
-#[derive(Clone, Copy)]
-pub struct ReadRgetattr {
-    pub value: Rgetattr,
-    pub next: Place,
-}
-
-pub fn read_rgetattr(s: &[u8], p: Place) -> ReadRgetattr
+pub fn read_rgetattr(s: &[u8], p: Place) -> Read<Rgetattr>
     ensures { Fields layout_rgetattr s.now p (rgetattr result.value) result.next }
 {
     let r1 = numbers::read_u64(s, p);
@@ -246,7 +222,7 @@ pub fn read_rgetattr(s: &[u8], p: Place) -> ReadRgetattr
         gen_: r19.value,
         data_version: r20.value,
     };
-    ReadRgetattr { value, next: p20 }
+    Read { value, next: p20 }
 }
 
 pub fn write_rgetattr(out: &mut [u8], p: Place, lent: &[u8], m: Rgetattr) -> Place
@@ -294,13 +270,7 @@ pub struct Tsetattr {
     pub mtime_nsec: u64,
 }
 
-#[derive(Clone, Copy)]
-pub struct ReadTsetattr {
-    pub value: Tsetattr,
-    pub next: Place,
-}
-
-pub fn read_tsetattr(s: &[u8], p: Place) -> ReadTsetattr
+pub fn read_tsetattr(s: &[u8], p: Place) -> Read<Tsetattr>
     ensures { Fields layout_tsetattr s.now p (tsetattr result.value) result.next }
 {
     let r1 = numbers::read_u32(s, p);
@@ -337,7 +307,7 @@ pub fn read_tsetattr(s: &[u8], p: Place) -> ReadTsetattr
         mtime_sec: r9.value,
         mtime_nsec: r10.value,
     };
-    ReadTsetattr { value, next: p10 }
+    Read { value, next: p10 }
 }
 
 pub fn write_tsetattr(out: &mut [u8], p: Place, lent: &[u8], m: Tsetattr) -> Place
@@ -366,13 +336,7 @@ pub struct Txattrwalk {
     pub name: Span,
 }
 
-#[derive(Clone, Copy)]
-pub struct ReadTxattrwalk {
-    pub value: Txattrwalk,
-    pub next: Place,
-}
-
-pub fn read_txattrwalk(s: &[u8], p: Place) -> ReadTxattrwalk
+pub fn read_txattrwalk(s: &[u8], p: Place) -> Read<Txattrwalk>
     ensures { Fields layout_txattrwalk s.now p (txattrwalk result.value) result.next }
 {
     let r1 = numbers::read_u32(s, p);
@@ -385,7 +349,7 @@ pub fn read_txattrwalk(s: &[u8], p: Place) -> ReadTxattrwalk
     let p3 = r3.next;
     let name = r3.value;
     let value = Txattrwalk { fid, newfid, name };
-    ReadTxattrwalk { value, next: p3 }
+    Read { value, next: p3 }
 }
 
 pub fn write_txattrwalk(out: &mut [u8], p: Place, lent: &[u8], m: Txattrwalk) -> Place
@@ -408,19 +372,13 @@ pub struct Rxattrwalk {
     pub size: u64,
 }
 
-#[derive(Clone, Copy)]
-pub struct ReadRxattrwalk {
-    pub value: Rxattrwalk,
-    pub next: Place,
-}
-
-pub fn read_rxattrwalk(s: &[u8], p: Place) -> ReadRxattrwalk
+pub fn read_rxattrwalk(s: &[u8], p: Place) -> Read<Rxattrwalk>
     ensures { Fields layout_rxattrwalk s.now p (rxattrwalk result.value) result.next }
 {
     let r1 = numbers::read_u64(s, p);
     let p1 = r1.next;
     let value = Rxattrwalk { size: r1.value };
-    ReadRxattrwalk { value, next: p1 }
+    Read { value, next: p1 }
 }
 
 pub fn write_rxattrwalk(out: &mut [u8], p: Place, lent: &[u8], m: Rxattrwalk) -> Place
@@ -439,13 +397,7 @@ pub struct Txattrcreate {
     pub flags: u32,
 }
 
-#[derive(Clone, Copy)]
-pub struct ReadTxattrcreate {
-    pub value: Txattrcreate,
-    pub next: Place,
-}
-
-pub fn read_txattrcreate(s: &[u8], p: Place) -> ReadTxattrcreate
+pub fn read_txattrcreate(s: &[u8], p: Place) -> Read<Txattrcreate>
     ensures { Fields layout_txattrcreate s.now p (txattrcreate result.value) result.next }
 {
     let r1 = numbers::read_u32(s, p);
@@ -464,7 +416,7 @@ pub fn read_txattrcreate(s: &[u8], p: Place) -> ReadTxattrcreate
         attr_size: r3.value,
         flags: r4.value,
     };
-    ReadTxattrcreate { value, next: p4 }
+    Read { value, next: p4 }
 }
 
 pub fn write_txattrcreate(out: &mut [u8], p: Place, lent: &[u8], m: Txattrcreate) -> Place

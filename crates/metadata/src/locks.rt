@@ -7,7 +7,7 @@ ghost use Rattle.layouts.specs.Tables.{layout_tlock, layout_rlock, layout_tgetlo
 ghost use Rattle.metadata.specs.Records.{tlock, rlock, tgetlock, rgetlock};
 
 use layouts::ids::Fid;
-use numbers::Place;
+use numbers::{Place, Read};
 use strings::Span;
 
 #[derive(Clone, Copy)]
@@ -21,13 +21,7 @@ pub struct Tlock {
     pub client_id: Span,
 }
 
-#[derive(Clone, Copy)]
-pub struct ReadTlock {
-    pub value: Tlock,
-    pub next: Place,
-}
-
-pub fn read_tlock(s: &[u8], p: Place) -> ReadTlock
+pub fn read_tlock(s: &[u8], p: Place) -> Read<Tlock>
     ensures { Fields layout_tlock s.now p (tlock result.value) result.next }
 {
     let r1 = numbers::read_u32(s, p);
@@ -55,7 +49,7 @@ pub fn read_tlock(s: &[u8], p: Place) -> ReadTlock
         proc_id: r6.value,
         client_id,
     };
-    ReadTlock { value, next: p7 }
+    Read { value, next: p7 }
 }
 
 pub fn write_tlock(out: &mut [u8], p: Place, lent: &[u8], m: Tlock) -> Place
@@ -81,19 +75,13 @@ pub struct Rlock {
     pub status: u8,
 }
 
-#[derive(Clone, Copy)]
-pub struct ReadRlock {
-    pub value: Rlock,
-    pub next: Place,
-}
-
-pub fn read_rlock(s: &[u8], p: Place) -> ReadRlock
+pub fn read_rlock(s: &[u8], p: Place) -> Read<Rlock>
     ensures { Fields layout_rlock s.now p (rlock result.value) result.next }
 {
     let r1 = numbers::read_u8(s, p);
     let p1 = r1.next;
     let value = Rlock { status: r1.value };
-    ReadRlock { value, next: p1 }
+    Read { value, next: p1 }
 }
 
 pub fn write_rlock(out: &mut [u8], p: Place, lent: &[u8], m: Rlock) -> Place
@@ -114,13 +102,7 @@ pub struct Tgetlock {
     pub client_id: Span,
 }
 
-#[derive(Clone, Copy)]
-pub struct ReadTgetlock {
-    pub value: Tgetlock,
-    pub next: Place,
-}
-
-pub fn read_tgetlock(s: &[u8], p: Place) -> ReadTgetlock
+pub fn read_tgetlock(s: &[u8], p: Place) -> Read<Tgetlock>
     ensures { Fields layout_tgetlock s.now p (tgetlock result.value) result.next }
 {
     let r1 = numbers::read_u32(s, p);
@@ -145,7 +127,7 @@ pub fn read_tgetlock(s: &[u8], p: Place) -> ReadTgetlock
         proc_id: r5.value,
         client_id,
     };
-    ReadTgetlock { value, next: p6 }
+    Read { value, next: p6 }
 }
 
 pub fn write_tgetlock(out: &mut [u8], p: Place, lent: &[u8], m: Tgetlock) -> Place
@@ -174,13 +156,7 @@ pub struct Rgetlock {
     pub client_id: Span,
 }
 
-#[derive(Clone, Copy)]
-pub struct ReadRgetlock {
-    pub value: Rgetlock,
-    pub next: Place,
-}
-
-pub fn read_rgetlock(s: &[u8], p: Place) -> ReadRgetlock
+pub fn read_rgetlock(s: &[u8], p: Place) -> Read<Rgetlock>
     ensures { Fields layout_rgetlock s.now p (rgetlock result.value) result.next }
 {
     let r1 = numbers::read_u8(s, p);
@@ -201,7 +177,7 @@ pub fn read_rgetlock(s: &[u8], p: Place) -> ReadRgetlock
         proc_id: r4.value,
         client_id,
     };
-    ReadRgetlock { value, next: p5 }
+    Read { value, next: p5 }
 }
 
 pub fn write_rgetlock(out: &mut [u8], p: Place, lent: &[u8], m: Rgetlock) -> Place

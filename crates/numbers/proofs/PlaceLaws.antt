@@ -1,5 +1,6 @@
 -- What holds of the definitions in specs/PlaceLaws.antt.
-use Rattle.std.specs.Prelude.{ℕ, ◌+◌, ◌-◌, ◌^◌, ◌≤◌, ◌<◌, ◌≡◌, refl, Bool, true, false, cond, List, ◌++◌, length, take, drop, leb}
+use Rattle.numbers.specs.Place.{Place}
+use Rattle.std.specs.Prelude.{ℕ, ◌+◌, ◌-◌, ◌^◌, ◌≤◌, ◌<◌, ◌≡◌, refl, Bool, true, false, cond, List, ◌++◌, length, take, drop, leb, Ok, Err}
 use Rattle.std.proofs.Common.{arith, sym, ap, ◌∙◌, subst, append_assoc, length-append, length-drop, take-append-drop, length-take-le, take_at, drop_at, drop-drop, lit<, le-leb, leb-true}
 use Rattle.std.proofs.Math.Nat.{one-le-pow}
 use Rattle.std.proofs.Math.Seq.{drop-append-add, drop-append_seam}
@@ -10,10 +11,9 @@ use Rattle.numbers.specs.Reading.{Result, ok, bad, after, raw, read_num}
 use Rattle.numbers.specs.ReadingLaws.{Reads, Took}
 use Rattle.numbers.proofs.ReadingLaws.{or_else, raw_short}
 use Rattle.numbers.specs.Places.{Tells, Within, read_at, rest_at, number_in, num_at, past_num, NumRead, over, put_at, past_put, Put}
+use Rattle.numbers.specs.declared.Fault.{Fault}
 use Rattle.numbers.specs.declared.Refusal.{Refusal}
 use Rattle.numbers.specs.declared.Refusal.TheVariants.{Short, NoRoom}
-use Rattle.numbers.specs.declared.Place.{Place}
-use Rattle.numbers.specs.declared.Place.TheVariants.{At, Refused}
 use Rattle.numbers.specs.PlaceLaws.{Held, Refuses}
 
 -- ---- within
@@ -54,7 +54,7 @@ put_one a b = (one_answer a.bytes b.bytes, one_answer a.next b.next)
 
 -- ---- the ways that a number's reading goes
 
-pub num_stays : {w : ℕ} {s : List ℕ} {p : Place} {k : Refusal} {j : ℕ} → p ≡ Refused k j → NumRead w s p 0 p
+pub num_stays : {w : ℕ} {s : List ℕ} {p : Place} {k : Refusal} {j : ℕ} → p ≡ Err (k, j) → NumRead w s p 0 p
 unfolding num_at past_num
 num_stays e = record { value = rw e; next = rw e }
 
@@ -66,25 +66,25 @@ pub held_num : (w a : ℕ) (s : List ℕ) → a + w ≤ length s → read_num w 
 unfolding read_num raw
 held_num w a s h = rw (le-leb w (length (drop a s)) (simp length-drop (omega arith)), drop-drop)
 
-pub num_short : {w a : ℕ} {s : List ℕ} {p : Place} {t : Bool} → 0 < w → p ≡ At a → Within a w (length s) t → t ≡ false → NumRead w s p 0 (Refused Short 0)
+pub num_short : {w a : ℕ} {s : List ℕ} {p : Place} {t : Bool} → 0 < w → p ≡ Ok a → Within a w (length s) t → t ≡ false → NumRead w s p 0 (Err (Short, 0))
 unfolding num_at past_num
 num_short {w} {a} {s} o e i h = let f = short_num w a s o (outside i h) in record { value = rw (e, f); next = rw (e, f) }
 
-pub num_held : {w a x : ℕ} {s : List ℕ} {p : Place} {t : Bool} → p ≡ At a → Within a w (length s) t → t ≡ true → x ≡ from_le (take w (drop a s))
-    → NumRead w s p x (At (a + w))
+pub num_held : {w a x : ℕ} {s : List ℕ} {p : Place} {t : Bool} → p ≡ Ok a → Within a w (length s) t → t ≡ true → x ≡ from_le (take w (drop a s))
+    → NumRead w s p x (Ok (a + w))
 unfolding num_at past_num
 num_held {w} {a} {x} {s} e i h v =
     let l = inside i h in
     let f = held_num w a s l in
-    record { value = rw (e, f) v; next = rw (e, f) (ap At (let d = length-drop (a + w) s in omega arith)) }
+    record { value = rw (e, f) v; next = rw (e, f) (ap Ok (let d = length-drop (a + w) s in omega arith)) }
 
-pub num_holds : {w x e : ℕ} {s : List ℕ} {p q : Place} → 0 < w → NumRead w s p x q → q ≡ At e → Held w s p x e
+pub num_holds : {w x e : ℕ} {s : List ℕ} {p q : Place} → 0 < w → NumRead w s p x q → q ≡ Ok e → Held w s p x e
 unfolding num_at past_num
 num_holds {w} {x} {e} {s} {p} o r h = go p refl r.value (sym r.next ∙ h)
   where
-    go : (p' : Place) → p ≡ p' → x ≡ number_in (read_at (read_num w) s p') → rest_at (length s) (read_at (read_num w) s p') ≡ At e → Held w s p x e
-    go (Refused k j) f v n = absurd (let z : ◌≡◌ {A = ℕ} 0 1 = cc n in omega arith)
-    go (At a) f v n =
+    go : (p' : Place) → p ≡ p' → x ≡ number_in (read_at (read_num w) s p') → rest_at (length s) (read_at (read_num w) s p') ≡ Ok e → Held w s p x e
+    go (Err e) f v n = absurd (let z : ◌≡◌ {A = ℕ} 0 1 = cc n in omega arith)
+    go (Ok a) f v n =
         or_else (a + w) (length s)
         (λ l.
         let g = held_num w a s l in
@@ -94,14 +94,19 @@ num_holds {w} {x} {e} {s} {p} o r h = go p refl r.value (sym r.next ∙ h)
         record { at = a; place = f; fits = l; ends = i; reads = rw (i, rw g at v) g })
         (λ l. absurd (let u = rw (short_num w a s o l) at n in let z : ◌≡◌ {A = ℕ} 0 1 = cc u in omega arith))
 
+-- two refused places that are one have one refusal and one number
+pub refused_one : {j k : Refusal} {m n : ℕ} → ◌≡◌ {A = Place} (Err (j, m)) (Err (k, n)) → (j ≡ k) × (m ≡ n)
+refused_one {j} {k} {m} {n} e =
+    let f : ◌≡◌ {A = Fault} (j, m) (k, n) = cc e in (ap (λ (f : Fault). f.0) f, ap (λ (f : Fault). f.1) f)
+
 -- a refused number is refused as the reader refuses it
-pub num_refused : {w x : ℕ} {s : List ℕ} {p q : Place} {k : Refusal} {j : ℕ} → NumRead w s p x q → q ≡ Refused k j → Refuses w s p k j
+pub num_refused : {w x : ℕ} {s : List ℕ} {p q : Place} {k : Refusal} {j : ℕ} → NumRead w s p x q → q ≡ Err (k, j) → Refuses w s p k j
 unfolding past_num
 num_refused {w} {x} {s} {p} {q} {k} {j} r h = record { reads = go (read_at (read_num w) s p) (sym r.next ∙ h) }
   where
-    go : (m : Result ℕ) → rest_at (length s) m ≡ Refused k j → m ≡ bad k j
+    go : (m : Result ℕ) → rest_at (length s) m ≡ Err (k, j) → m ≡ bad k j
     go (ok a r) e = absurd (let z : ◌≡◌ {A = ℕ} 0 1 = cc e in omega arith)
-    go (bad i n) e = let f : i ≡ k = cc e in let g : n ≡ j = cc e in rw (f, g) refl
+    go (bad i n) e = let f = refused_one e in rw (f.0, f.1) refl
 
 -- a number that is read fits its width
 fits_num : (w : ℕ) (xs : List ℕ) → Bytes xs → number_in (read_num w xs) < 256 ^ w
@@ -114,24 +119,24 @@ fits_num w xs h = go (leb w (length xs)) refl
 
 fits_at : (w : ℕ) (s : List ℕ) (p : Place) → Bytes s → num_at w s p < 256 ^ w
 unfolding num_at
-fits_at w s (At a) h = fits_num w (drop a s) (bytes_drop a s h)
-fits_at w s (Refused k j) h = one-le-pow w 256 (lit< tt)
+fits_at w s (Ok a) h = fits_num w (drop a s) (bytes_drop a s h)
+fits_at w s (Err f) h = one-le-pow w 256 (lit< tt)
 
 pub num_fits : {w x : ℕ} {s : List ℕ} {p q : Place} → Bytes s → NumRead w s p x q → x < 256 ^ w
 num_fits {w} {x} {s} {p} h a = rw a.value (fits_at w s p h)
 
 -- ---- the ways that a put goes
 
-pub put_stays : {bs o : List ℕ} {p : Place} {k : Refusal} {j : ℕ} → p ≡ Refused k j → Put bs o p o p
+pub put_stays : {bs o : List ℕ} {p : Place} {f : Fault} → p ≡ Err f → Put bs o p o (Err f)
 unfolding put_at past_put
 put_stays e = record { bytes = rw e; next = rw e }
 
-pub put_full : {bs o : List ℕ} {n a : ℕ} {p : Place} {t : Bool} → length bs ≡ n → p ≡ At a → Within a n (length o) t → t ≡ false → Put bs o p o (Refused NoRoom 0)
+pub put_full : {bs o : List ℕ} {n a : ℕ} {p : Place} {t : Bool} → length bs ≡ n → p ≡ Ok a → Within a n (length o) t → t ≡ false → Put bs o p o (Err (NoRoom, 0))
 unfolding put_at past_put
 put_full {bs} {o} {n} {a} l e i h = let f = lt-leb (a + length bs) (length o) (let k = outside i h in omega arith) in record { bytes = rw (e, f); next = rw (e, f) }
 
-pub put_done : {bs o o' : List ℕ} {n a : ℕ} {p : Place} {t : Bool} → length bs ≡ n → p ≡ At a → Within a n (length o) t → t ≡ true → o' ≡ over o a bs
-    → Put bs o p o' (At (a + n))
+pub put_done : {bs o o' : List ℕ} {n a : ℕ} {p : Place} {t : Bool} → length bs ≡ n → p ≡ Ok a → Within a n (length o) t → t ≡ true → o' ≡ over o a bs
+    → Put bs o p o' (Ok (a + n))
 unfolding put_at past_put
 put_done {bs} {o} {o'} {n} {a} l e i h g = let f = le-leb (a + length bs) (length o) (let k = inside i h in omega arith) in record { bytes = rw (e, f) g; next = rw (e, f, l) }
 
@@ -147,8 +152,8 @@ put_same false o a bs e = refl
 
 pub length_put : (bs o : List ℕ) (p : Place) → length (put_at bs o p) ≡ length o
 unfolding put_at
-length_put bs o (At a) = put_same (leb (a + length bs) (length o)) o a bs refl
-length_put bs o (Refused k j) = refl
+length_put bs o (Ok a) = put_same (leb (a + length bs) (length o)) o a bs refl
+length_put bs o (Err f) = refl
 
 pub put_length : {bs o o' : List ℕ} {p q : Place} → Put bs o p o' q → length o' ≡ length o
 put_length {bs} {o} {o'} {p} a = ap length a.bytes ∙ length_put bs o p
@@ -166,20 +171,20 @@ over_then o a bs cs h =
     ap (λ (x : List ℕ). x ++ cs ++ drop (a + length bs + length cs) (over o a bs)) (take_at (take a o ++ bs) (drop (a + length bs) o) (a + length bs) t)
     ∙ ap (λ (y : List ℕ). take a o ++ bs ++ cs ++ y) d ∙ ap (λ (x : List ℕ). x ++ drop (a + length (bs ++ cs)) o) (append_assoc (take a o) bs cs)
 
-pub put_then : {bs cs o o1 o2 : List ℕ} {a : ℕ} {p q r : Place} → Put bs o p o1 q → Put cs o1 q o2 r → p ≡ At a → a + length (bs ++ cs) ≤ length o
+pub put_then : {bs cs o o1 o2 : List ℕ} {a : ℕ} {p q r : Place} → Put bs o p o1 q → Put cs o1 q o2 r → p ≡ Ok a → a + length (bs ++ cs) ≤ length o
     → Put (bs ++ cs) o p o2 r
 unfolding put_at past_put
 put_then {bs} {cs} {o} {o1} {o2} {a} {p} {q} {r} f g e h =
     let l = length-append bs cs in
     let u = le-leb (a + length bs) (length o) (omega arith) in
     let x : o1 ≡ over o a bs = rw (e, u) at f.bytes in
-    let y : q ≡ At (a + length bs) = rw (e, u) at f.next in
+    let y : q ≡ Ok (a + length bs) = rw (e, u) at f.next in
     let m : length o1 ≡ length o = ap length x ∙ length_over o a bs (omega arith) in
     let v = le-leb (a + length bs + length cs) (length o1) (omega arith) in
     let w = le-leb (a + length (bs ++ cs)) (length o) h in
     record {
       bytes = (rw (y, v) at g.bytes) ∙ ap (λ (l : List ℕ). over l (a + length bs) cs) x ∙ over_then o a bs cs h ∙ rw (e, w);
-      next = (rw (y, v) at g.next) ∙ rw (e, w) (ap At (omega arith));
+      next = (rw (y, v) at g.next) ∙ rw (e, w) (ap Ok (omega arith));
     }
 
 -- ---- put, then read; read, then put

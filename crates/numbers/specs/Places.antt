@@ -1,9 +1,8 @@
 -- At a place: what is read from there on of a slice, and what is put there of an output. What the contracts cite.
-use Rattle.std.specs.Prelude.{ℕ, ◌+◌, ◌-◌, ◌≤◌, ◌<◌, ◌≡◌, Bool, true, false, cond, List, ◌++◌, length, take, drop, leb}
+use Rattle.numbers.specs.Place.{Place}
+use Rattle.std.specs.Prelude.{ℕ, ◌+◌, ◌-◌, ◌≤◌, ◌<◌, ◌≡◌, Bool, true, false, cond, List, ◌++◌, length, take, drop, leb, Ok, Err}
 use Rattle.numbers.specs.Reading.{Result, ok, bad, read_num}
 use Rattle.numbers.specs.declared.Refusal.TheVariants as R
-use Rattle.numbers.specs.declared.Place.{Place}
-use Rattle.numbers.specs.declared.Place.TheVariants.{At, Refused}
 
 -- a test's answer: the first fact where it is true, the second where it is false
 abbrev pub Tells : Bool → Type 0 → Type 0 → Type 0
@@ -18,18 +17,18 @@ pub record Within (at n len : ℕ) (r : Bool) : Type 0 where
 
 -- a reader at a place of s: it takes the bytes from there on. A refused place stays refused
 abbrev pub read_at : {A : Type 0} → (List ℕ → Result A) → List ℕ → Place → Result A
-read_at d s (At a) = d (drop a s)
-read_at d s (Refused k n) = bad k n
+read_at d s (Ok a) = d (drop a s)
+read_at d s (Err f) = bad f.0 f.1
 
 -- one that is told the position too, from which it counts
 abbrev pub read_from : {A : Type 0} → (ℕ → List ℕ → Result A) → List ℕ → Place → Result A
-read_from d s (At a) = d a (drop a s)
-read_from d s (Refused k n) = bad k n
+read_from d s (Ok a) = d a (drop a s)
+read_from d s (Err f) = bad f.0 f.1
 
 -- the place where the rest of n bytes begins
 abbrev pub rest_at : {A : Type 0} → ℕ → Result A → Place
-rest_at l (ok a r) = At (l - length r)
-rest_at l (bad k n) = Refused k n
+rest_at l (ok a r) = Ok (l - length r)
+rest_at l (bad k n) = Err (k, n)
 
 -- the number, 0 where there is none
 abbrev pub number_in : Result ℕ → ℕ
@@ -55,13 +54,13 @@ over o a bs = take a o ++ bs ++ drop (a + length bs) o
 
 -- the output afterwards: with bs over it if there is room for all of them; else as it was
 unfoldable pub put_at : List ℕ → List ℕ → Place → List ℕ
-put_at bs o (At a) = cond (leb (a + length bs) (length o)) (over o a bs) o
-put_at bs o (Refused k n) = o
+put_at bs o (Ok a) = cond (leb (a + length bs) (length o)) (over o a bs) o
+put_at bs o (Err f) = o
 
 -- the place after them; 11 where there is no room. A refused place stays refused
 unfoldable pub past_put : List ℕ → List ℕ → Place → Place
-past_put bs o (At a) = cond (leb (a + length bs) (length o)) (At (a + length bs)) (Refused R.NoRoom 0)
-past_put bs o (Refused k n) = Refused k n
+past_put bs o (Ok a) = cond (leb (a + length bs) (length o)) (Ok (a + length bs)) (Err (R.NoRoom, 0))
+past_put bs o (Err f) = Err f
 
 -- what putting bs at p of the output o leaves and answers
 pub record Put (bs o : List ℕ) (p : Place) (o' : List ℕ) (q : Place) : Type 0 where

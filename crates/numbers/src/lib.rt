@@ -7,143 +7,78 @@ ghost use Rattle.numbers.specs.Refusals.{number_of};
 ghost use Rattle.numbers.specs.Numbers.{from_le, to_le};
 ghost use Rattle.numbers.specs.Places.{Within, NumRead, Put, over};
 
-// Why a reading or a writing is refused (F9), in the order of the numbers that `number_of` gives.
-#[derive(Clone, Copy)]
+// Why a reading or a writing is refused, by its number (F9).
+#[derive(Clone, Copy, Debug, PartialEq, Eq)]
 pub enum Refusal {
-    Short,
-    SizeBelowFour,
-    UnknownType,
-    DataTooLong,
-    NotUtf8,
-    ZeroByte,
-    StringTooLong,
-    TableTooLong,
-    SpanOutside,
-    FrameTooLong,
-    NoRoom,
-    StretchCut,
-    StretchSize,
-    PartMalformed,
-    NoSuchElement,
-    HoldsRefusal,
-    TooManyElements,
-    StatMalformed,
-    Trailer,
-    TagOpen,
-    NoRequest,
-    FidInUse,
-    FidUnknown,
-    TableFull,
-    Capture,
-    MsizeTooSmall,
-    EndTooFar,
+    Short = 1,
+    SizeBelowFour = 2,
+    UnknownType = 3,
+    DataTooLong = 4,
+    NotUtf8 = 5,
+    ZeroByte = 6,
+    StringTooLong = 7,
+    TableTooLong = 8,
+    SpanOutside = 9,
+    FrameTooLong = 10,
+    NoRoom = 11,
+    StretchCut = 12,
+    StretchSize = 13,
+    PartMalformed = 14,
+    NoSuchElement = 15,
+    HoldsRefusal = 16,
+    TooManyElements = 17,
+    StatMalformed = 18,
+    Trailer = 19,
+    TagOpen = 20,
+    NoRequest = 21,
+    FidInUse = 22,
+    FidUnknown = 23,
+    TableFull = 24,
+    Capture = 25,
+    MsizeTooSmall = 26,
+    EndTooFar = 27,
 }
 
 // The refusal's number (F9).
 pub fn number(k: Refusal) -> u8
     ensures { result ≡ number_of k }
 {
-    match k {
-        Refusal::Short => 1,
-        Refusal::SizeBelowFour => 2,
-        Refusal::UnknownType => 3,
-        Refusal::DataTooLong => 4,
-        Refusal::NotUtf8 => 5,
-        Refusal::ZeroByte => 6,
-        Refusal::StringTooLong => 7,
-        Refusal::TableTooLong => 8,
-        Refusal::SpanOutside => 9,
-        Refusal::FrameTooLong => 10,
-        Refusal::NoRoom => 11,
-        Refusal::StretchCut => 12,
-        Refusal::StretchSize => 13,
-        Refusal::PartMalformed => 14,
-        Refusal::NoSuchElement => 15,
-        Refusal::HoldsRefusal => 16,
-        Refusal::TooManyElements => 17,
-        Refusal::StatMalformed => 18,
-        Refusal::Trailer => 19,
-        Refusal::TagOpen => 20,
-        Refusal::NoRequest => 21,
-        Refusal::FidInUse => 22,
-        Refusal::FidUnknown => 23,
-        Refusal::TableFull => 24,
-        Refusal::Capture => 25,
-        Refusal::MsizeTooSmall => 26,
-        Refusal::EndTooFar => 27,
-    }
+    k as u8
 }
 
-// Where a reading or a writing stands: at a position, or refused. It goes through the fields by value, so that a record's
-// reader is one straight line: whatever is asked at a refused place answers the same refusal. The number beside that says where a text
-// breaks (F2.7); with any other refusal it is 0.
-#[derive(Clone, Copy)]
-pub enum Place {
-    At(usize),
-    Refused(Refusal, usize),
-}
+// Why a reading or a writing is refused, and where a text breaks (F2.7); with any other refusal of a place it is 0.
+#[derive(Clone, Copy, Debug, PartialEq, Eq)]
+pub struct Fault(pub Refusal, pub usize);
+
+// Where a reading or a writing stands: at a position, or refused. It goes through the fields by value, so that a record's reader is one
+// straight line: whatever is asked at a refused place answers the same refusal.
+pub type Place = Result<usize, Fault>;
 
 pub fn min(a: usize, b: usize) -> usize
     ensures { result ≡ lesser a b }
 {
-    if b < a {
-        return b;
-    }
-    a
+    a.min(b)
 }
 
 // The difference, 0 where there is none.
 pub fn saturating_sub(a: usize, b: usize) -> usize
     ensures { result ≡ a - b }
 {
-    if a < b {
-        return 0;
-    }
-    a - b
+    a.saturating_sub(b)
 }
 
 // Whether `n` bytes at `at` lie within `len` bytes. The sum is never formed, so nothing wraps.
 pub fn within(at: usize, n: usize, len: usize) -> bool
     ensures { Within at n len result }
 {
-    if len < n {
-        return false;
-    }
-    if len - n < at {
-        return false;
-    }
-    true
+    n <= len && at <= len - n
 }
 
-// A number that was read, 0 if it was refused, and the place after it.
+// What was read at a place, all 0 if it was refused, and the place after it.
 #[derive(Clone, Copy)]
-pub struct Read8 {
-    pub value: u8,
+pub struct Read<T> {
+    pub value: T,
     pub next: Place,
-}
-
-#[derive(Clone, Copy)]
-pub struct Read16 {
-    pub value: u16,
-    pub next: Place,
-}
-
-#[derive(Clone, Copy)]
-pub struct Read32 {
-    pub value: u32,
-    pub next: Place,
-}
-
-#[derive(Clone, Copy)]
-pub struct Read64 {
-    pub value: u64,
-    pub next: Place,
-}
-
-fn wide(x: u8) -> u64
-    ensures { result ≡ x }
-{
-    x as u64
 }
 
 // The number that the `width` bytes at `at` hold: the one loop after every width.
@@ -151,64 +86,63 @@ fn le_at(s: &[u8], at: usize, width: usize) -> u64
     requires { (width ≤ 8) × (at + width ≤ length s.now) }
     ensures { result ≡ from_le (take width (drop at s.now)) }
 {
-    let mut v: u64 = 0;
-    let mut k = width;
-    while 0 < k {
-        k = k - 1;
-        v = v * 256 + wide(s[at + k]);
+    let mut v = 0;
+    for &b in s[at..at + width].iter().rev() {
+        v = v * 256 + u64::from(b);
     }
     v
 }
 
-fn read_num(s: &[u8], p: Place, width: usize) -> Read64
+fn read_num(s: &[u8], p: Place, width: usize) -> Read<u64>
     requires { (0 < width) × (width ≤ 8) }
     ensures { NumRead width s.now p result.value result.next × (result.value < 256 ^ width) }
 {
-    let Place::At(at) = p else {
-        return Read64 { value: 0, next: p };
+    let Ok(at) = p else {
+        return Read { value: 0, next: p };
     };
-    if within(at, width, s.len()) {
-        let value = le_at(s, at, width);
-        let end = at + width;
-        return Read64 {
-            value,
-            next: Place::At(end),
+    if !within(at, width, s.len()) {
+        return Read {
+            value: 0,
+            next: Err(Fault(Refusal::Short, 0)),
         };
     }
-    Read64 {
-        value: 0,
-        next: Place::Refused(Refusal::Short, 0),
+    Read {
+        value: le_at(s, at, width),
+        next: Ok(at + width),
     }
 }
 
-pub fn read_u8(s: &[u8], p: Place) -> Read8
+pub fn read_u8(s: &[u8], p: Place) -> Read<u8>
     ensures { NumRead 1 s.now p result.value result.next }
 {
     let r = read_num(s, p, 1);
-    let q = r.next;
-    let value = r.value as u8;
-    Read8 { value, next: q }
+    Read {
+        value: r.value as u8,
+        next: r.next,
+    }
 }
 
-pub fn read_u16(s: &[u8], p: Place) -> Read16
+pub fn read_u16(s: &[u8], p: Place) -> Read<u16>
     ensures { NumRead 2 s.now p result.value result.next }
 {
     let r = read_num(s, p, 2);
-    let q = r.next;
-    let value = r.value as u16;
-    Read16 { value, next: q }
+    Read {
+        value: r.value as u16,
+        next: r.next,
+    }
 }
 
-pub fn read_u32(s: &[u8], p: Place) -> Read32
+pub fn read_u32(s: &[u8], p: Place) -> Read<u32>
     ensures { NumRead 4 s.now p result.value result.next }
 {
     let r = read_num(s, p, 4);
-    let q = r.next;
-    let value = r.value as u32;
-    Read32 { value, next: q }
+    Read {
+        value: r.value as u32,
+        next: r.next,
+    }
 }
 
-pub fn read_u64(s: &[u8], p: Place) -> Read64
+pub fn read_u64(s: &[u8], p: Place) -> Read<u64>
     ensures { NumRead 8 s.now p result.value result.next }
 {
     read_num(s, p, 8)
@@ -220,11 +154,9 @@ fn put_le(out: &mut [u8], at: usize, x: u64, width: usize)
     ensures { out.new ≡ over out.old at (to_le width x) }
 {
     let mut v = x;
-    let mut i = 0;
-    while i < width {
-        out[at + i] = (v % 256) as u8;
-        v = v / 256;
-        i += 1;
+    for b in &mut out[at..at + width] {
+        *b = (v % 256) as u8;
+        v /= 256;
     }
 }
 
@@ -232,15 +164,12 @@ fn put_le(out: &mut [u8], at: usize, x: u64, width: usize)
 pub fn put_num(out: &mut [u8], p: Place, x: u64, width: usize) -> Place
     ensures { Put (to_le width x) out.old p out.new result }
 {
-    let Place::At(at) = p else {
-        return p;
-    };
-    if within(at, width, out.len()) {
-        put_le(out, at, x, width);
-        let end = at + width;
-        return Place::At(end);
+    let at = p?;
+    if !within(at, width, out.len()) {
+        return Err(Fault(Refusal::NoRoom, 0));
     }
-    Place::Refused(Refusal::NoRoom, 0)
+    put_le(out, at, x, width);
+    Ok(at + width)
 }
 
 pub fn put_u8(out: &mut [u8], p: Place, x: u8) -> Place

@@ -1,7 +1,8 @@
 -- Every name of a place lies within the stretch that it was read from.
+use Rattle.numbers.specs.Place.{Place}
 use Prim.Native.Nat.{ℕ, zero, suc, ◌+◌, ◌-◌, ◌≤◌}
 use native.Mathlib.Omega.{arith}
-use Rattle.std.specs.Prelude.{◌≡◌, Bool, cond, List, length, get_or, drop}
+use Rattle.std.specs.Prelude.{◌≡◌, Bool, cond, List, length, get_or, drop, Ok, Err}
 use Rattle.std.proofs.Math.Path.{refl}
 use Rattle.std.proofs.Common.{sym, ap, ◌∙◌, length-append, length-drop}
 use Rattle.std.proofs.Math.Bool.{true, false}
@@ -14,8 +15,6 @@ use Rattle.numbers.specs.Reading.{Result, ok, bad}
 use Rattle.numbers.proofs.ReadingLaws.{or_else}
 use Rattle.numbers.specs.Places.{rest_at}
 use Rattle.numbers.specs.declared.Refusal.TheVariants as R
-use Rattle.numbers.specs.declared.Place.{Place}
-use Rattle.numbers.specs.declared.Place.TheVariants as P
 use Rattle.strings.specs.Strings.{read_string, string_bytes}
 use Rattle.strings.specs.Spans.{bytes_in, start_in, str_start, str_len, past_str}
 use Rattle.strings.proofs.StringLaws.{took_string}
@@ -33,12 +32,12 @@ unfolding string_bytes
 counted bs = length-append (to_le 2 (length bs)) bs ∙ ap (λ (n : ℕ). n + length bs) (length_to_le 2 (length bs))
 
 -- a string that was read lies within
-pub string_inside : (s : List ℕ) → Bytes s → (q : Place) {e : ℕ} → past_str s q ≡ P.At e → str_start s q + str_len s q ≤ length s
+pub string_inside : (s : List ℕ) → Bytes s → (q : Place) {e : ℕ} → past_str s q ≡ Ok e → str_start s q + str_len s q ≤ length s
 unfolding past_str str_start str_len
-string_inside s b (P.Refused k n) {e} h = absurd (let z : ◌≡◌ {A = ℕ} 0 1 = cc in omega arith)
-string_inside s b (P.At a) {e} h = go (read_string a (drop a s)) refl h
+string_inside s b (Err f) {e} h = absurd (let z : ◌≡◌ {A = ℕ} 0 1 = cc in omega arith)
+string_inside s b (Ok a) {e} h = go (read_string a (drop a s)) refl h
   where
-    go : (m : Result (List ℕ)) → read_string a (drop a s) ≡ m → rest_at (length s) m ≡ P.At e → start_in 2 (P.At a) m + length (bytes_in m) ≤ length s
+    go : (m : Result (List ℕ)) → read_string a (drop a s) ≡ m → rest_at (length s) m ≡ Ok e → start_in 2 (Ok a) m + length (bytes_in m) ≤ length s
     go (bad k j) f g = absurd (let z : ◌≡◌ {A = ℕ} 0 1 = cc in omega arith)
     go (ok bs r) f g =
         let t = took_string a (drop a s) (bytes_drop a s b) f in
@@ -75,8 +74,8 @@ module _ (s : List ℕ) where
       where
         go : (t : Spot) → r.at ≡ t → (u : Place) → past_str s q ≡ u → Named s (stepped s (str_start s q) (str_len s q) u r t).places
         go (Refused k) e u f = n
-        go (At from) e (P.Refused k j) f = n
-        go (At from) e (P.At j) f = step_named g.sound n from (str_start s q) (str_len s q) (string_inside s b q f)
+        go (At from) e (Err w) f = n
+        go (At from) e (Ok j) f = step_named g.sound n from (str_start s q) (str_len s q) (string_inside s b q f)
 
     pub walked_named : (m : ℕ) (q : Place) {p : Places} {r : Reached} → Grown p r → Named s r.places → Named s (walked s m q r).places
     unfolding walked

@@ -1,7 +1,8 @@
 -- The path of a place (F15.4): of a root, of a child; bytes put after the stretch alter none.
+use Rattle.numbers.specs.Place.{Place}
 use Prim.Native.Nat.{ℕ, zero, suc, ◌+◌, ◌-◌, ◌<◌, ◌≤◌}
 use Rattle.std.proofs.Common.{not-suc-le-zero, lt-suc_self, add-zero, zero-add, arith, sym, ap, ◌∙◌, length-append, take-append-drop}
-use Rattle.std.specs.Prelude.{◌≡◌, Bool, length, take, drop, leb}
+use Rattle.std.specs.Prelude.{◌≡◌, Bool, length, take, drop, leb, Ok, Err}
 use Rattle.std.proofs.Math.Path.{refl}
 use Rattle.std.proofs.Math.Bool.{true, false}
 use mathlib.Core.List.{List, [], ◌∷◌, ◌++◌, append-nil}
@@ -14,8 +15,6 @@ use Rattle.numbers.proofs.ReadingLaws.{or_else}
 use Rattle.numbers.specs.Places.{over, put_at, past_put, Put}
 use Rattle.numbers.proofs.PlaceLaws.{over_then, length_over}
 use Rattle.numbers.specs.declared.Refusal.TheVariants as R
-use Rattle.numbers.specs.declared.Place.{Place}
-use Rattle.numbers.specs.declared.Place.TheVariants.{At, Refused}
 use Rattle.strings.specs.Spans.{bytes_in, show_span, check_at, SpanPut}
 use Rattle.places.specs.Places.{name_in, path_within, path_in}
 
@@ -97,22 +96,22 @@ module _ (s os xs ys : List ℕ) where
 over_none : (o : List ℕ) (a : ℕ) → over o a [] ≡ o
 over_none o a = ap (λ (k : ℕ). take a o ++ [] ++ drop k o) (add-zero a) ∙ ap (λ (r : List ℕ). r ++ drop a o) (append-nil (take a o)) ∙ take-append-drop a o
 
-span_put : {s o o' : List ℕ} {x y a : ℕ} {p q : Place} → SpanPut s x y o p o' q → p ≡ At a → a + length (name_in s x y) ≤ length o → o' ≡ over o a (name_in s x y)
+span_put : {s o o' : List ℕ} {x y a : ℕ} {p q : Place} → SpanPut s x y o p o' q → p ≡ Ok a → a + length (name_in s x y) ≤ length o → o' ≡ over o a (name_in s x y)
 unfolding put_at
 span_put {s} {o} {o'} {x} {y} {a} w e h = w.put.bytes ∙ rw e (go (show_span s x y) h)
   where
-    go : (m : Result (List ℕ)) → a + length (bytes_in m) ≤ length o → put_at (bytes_in m) o (check_at m (At a)) ≡ over o a (bytes_in m)
+    go : (m : Result (List ℕ)) → a + length (bytes_in m) ≤ length o → put_at (bytes_in m) o (check_at m (Ok a)) ≡ over o a (bytes_in m)
     go (ok bs r) g = rw (le-leb (a + length bs) (length o) g)
     go (bad k j) g = sym (over_none o a)
 
 -- a '/' and then the name
-pub name_put : {s o o1 o2 : List ℕ} {x y n : ℕ} {p q : Place} → Put (to_le 1 47) o (At n) o1 p → SpanPut s x y o1 p o2 q → n + suc (length (name_in s x y)) ≤ length o
+pub name_put : {s o o1 o2 : List ℕ} {x y n : ℕ} {p q : Place} → Put (to_le 1 47) o (Ok n) o1 p → SpanPut s x y o1 p o2 q → n + suc (length (name_in s x y)) ≤ length o
     → o2 ≡ over o n (47 ∷ name_in s x y)
 unfolding to_le put_at past_put
 name_put {s} {o} {o1} {o2} {x} {y} {n} {p} v w h =
     let k = le-leb (n + 1) (length o) (omega arith) in
     let e : o1 ≡ over o n (47 ∷ []) = rw k at v.bytes in
-    let f : p ≡ At (n + 1) = rw k at v.next in
+    let f : p ≡ Ok (n + 1) = rw k at v.next in
     let g : length o1 ≡ length o = ap length e ∙ length_over o n (47 ∷ []) (omega arith) in
     span_put w f (omega arith) ∙ ap (λ (l : List ℕ). over l (n + 1) (name_in s x y)) e ∙ over_then o n (47 ∷ []) (name_in s x y) h
 
@@ -122,10 +121,10 @@ from_front : (n l : ℕ) {b : Bool} → b ≡ leb n l → leb (0 + n) l ≡ b
 from_front n l e = ap (λ (m : ℕ). leb m l) (zero-add n) ∙ sym e
 
 module _ {bs o : List ℕ} {b : Bool} (e : b ≡ leb (length bs) (length o)) where
-  pub path_put : {o' : List ℕ} {n : ℕ} → b ≡ true → n ≡ length bs → o' ≡ over o 0 bs → Put bs o (At 0) o' (At n)
+  pub path_put : {o' : List ℕ} {n : ℕ} → b ≡ true → n ≡ length bs → o' ≡ over o 0 bs → Put bs o (Ok 0) o' (Ok n)
   unfolding put_at past_put
   path_put h f g = record { bytes = rw (from_front (length bs) (length o) e, h) g; next = rw (from_front (length bs) (length o) e, h, f, zero-add) }
 
-  pub path_no_room : b ≡ false → Put bs o (At 0) o (Refused R.NoRoom 0)
+  pub path_no_room : b ≡ false → Put bs o (Ok 0) o (Err (R.NoRoom, 0))
   unfolding put_at past_put
   path_no_room h = record { bytes = rw (from_front (length bs) (length o) e, h); next = rw (from_front (length bs) (length o) e, h) }

@@ -1,14 +1,13 @@
 -- Of new places, steps and walks, for each way through the code.
+use Rattle.numbers.specs.Place.{Place}
 use Prim.Native.Nat.{ℕ, suc, ◌+◌, ◌-◌, ◌<◌, ◌≤◌}
 use native.Mathlib.Omega.{arith}
 use Rattle.std.proofs.Math.Nat.{sub-zero}
-use Rattle.std.specs.Prelude.{◌≡◌, Bool, true, false, List, length, get_or, set, eqb}
+use Rattle.std.specs.Prelude.{◌≡◌, Bool, true, false, List, length, get_or, set, eqb, Ok, Err}
 use Rattle.std.proofs.Common.{ap}
 use borrow.Author.Tests.{lt-ltb, le-ltb, eq-eqb, ne_eqb}
 use Rattle.numbers.specs.declared.Refusal.{Refusal}
 use Rattle.numbers.specs.declared.Refusal.TheVariants as R
-use Rattle.numbers.specs.declared.Place.{Place}
-use Rattle.numbers.specs.declared.Place.TheVariants as P
 use Rattle.strings.specs.Spans.{StrRead}
 use Rattle.places.specs.declared.Places.{Places}
 use Rattle.places.specs.declared.Spot.TheVariants.{At, Refused}
@@ -59,11 +58,11 @@ module _ (s : List ℕ) (x y : ℕ) (q : Place) (r : Reached) where
   onward_refused h = rw h
 
   module _ {from : ℕ} (h : r.at ≡ At from) where
-    pub onward_step : {n : ℕ} {t : Reached} → q ≡ P.At n → t ≡ step s r.places from x y → t ≡ onward s x y q r
+    pub onward_step : {n : ℕ} {t : Reached} → q ≡ Ok n → t ≡ step s r.places from x y → t ≡ onward s x y q r
     unfolding onward
     onward_step g e = rw (h, g) e
 
-    pub onward_bad : {k : Refusal} {n : ℕ} → q ≡ P.Refused k n → ◌≡◌ {A = Reached} (record { places = r.places; at = Refused k }) (onward s x y q r)
+    pub onward_bad : {k : Refusal} {n : ℕ} → q ≡ Err (k, n) → ◌≡◌ {A = Reached} (record { places = r.places; at = Refused k }) (onward s x y q r)
     unfolding onward
     onward_bad g = rw (h, g)
 

@@ -1,8 +1,7 @@
 -- What holds of the definitions in specs/Reads.antt.
-use Rattle.std.specs.Prelude.{ℕ, zero, suc, ◌≡◌, refl, Bool, true, false, cond, List, get_or, ltb}
+use Rattle.numbers.specs.Place.{Place}
+use Rattle.std.specs.Prelude.{ℕ, zero, suc, ◌≡◌, refl, Bool, true, false, cond, List, get_or, ltb, Ok, Err}
 use Rattle.numbers.specs.declared.Refusal.TheVariants as R
-use Rattle.numbers.specs.declared.Place.{Place}
-use Rattle.numbers.specs.declared.Place.TheVariants as P
 use Rattle.strings.specs.Spans.{str_start, str_len, past_str}
 use Rattle.places.specs.declared.Places.{Places}
 use Rattle.places.specs.declared.Spot.{Spot}
@@ -33,8 +32,8 @@ onward_only_full s x y q r i f = go r.at refl q i
   where
     go : (t : Spot) → r.at ≡ t → (q : Place) → IsAt q → OnlyFull (stepped s x y q r t).at
     go (Refused k) e q i = f
-    go (At from) e (P.At n) i = step_only_full s r.places from x y
-    go (At from) e (P.Refused k n) i = absurd i
+    go (At from) e (Ok n) i = step_only_full s r.places from x y
+    go (At from) e (Err f) i = absurd i
 
 pub walked_only_full : (s : List ℕ) (n : ℕ) (q : Place) (r : Reached) → NamesRead s n q → OnlyFull r.at → OnlyFull (walked s n q r).at
 unfolding walked NamesRead

@@ -1,11 +1,10 @@
 -- What holds of the definitions in specs/Sound.antt.
-use Rattle.std.specs.Prelude.{ℕ, zero, suc, ◌<◌, ◌≤◌, ◌≡◌, refl, Bool, true, false, cond, List, get_or, ltb}
+use Rattle.numbers.specs.Place.{Place}
+use Rattle.std.specs.Prelude.{ℕ, zero, suc, ◌<◌, ◌≤◌, ◌≡◌, refl, Bool, true, false, cond, List, get_or, ltb, Ok, Err}
 use Rattle.std.proofs.Common.{arith, not-suc-le-zero, ◌∙◌, length-set, get_or-set_same, get_or-set_other, ltb-true}
 use Rattle.std.proofs.lemmas.List.{length-replicate}
 use Rattle.numbers.proofs.ReadingLaws.{or_else}
 use Rattle.numbers.specs.declared.Refusal.TheVariants as R
-use Rattle.numbers.specs.declared.Place.{Place}
-use Rattle.numbers.specs.declared.Place.TheVariants as P
 use Rattle.strings.specs.Spans.{str_start, str_len, past_str}
 use Rattle.places.specs.declared.Places.{Places}
 use Rattle.places.specs.declared.Spot.{Spot}
@@ -84,8 +83,8 @@ onward_grown {p} {r} g s x y q = go r.at refl q
   where
     go : (t : Spot) → r.at ≡ t → (q : Place) → Grown p (stepped s x y q r t)
     go (Refused k) e q = g
-    go (At from) e (P.Refused k n) = record { sound = g.sound; inside = tt; kept = g.kept }
-    go (At from) e (P.At n) =
+    go (At from) e (Err f) = record { sound = g.sound; inside = tt; kept = g.kept }
+    go (At from) e (Ok n) =
         let i : Inside r.places (At from) = rw e at g.inside in
         let w = step_grown g.sound s from x y i in
         record { sound = w.sound; inside = w.inside; kept = kept_then g.kept w.kept }

@@ -1,8 +1,7 @@
 -- The places of a session: each is a root, or was reached from an older place by a name (F15.3, F15.4).
-use Rattle.std.specs.Prelude.{ℕ, zero, suc, ◌+◌, Bool, false, cond, List, [], ◌∷◌, ◌++◌, length, get_or, set, replicate, ltb, eqb}
+use Rattle.numbers.specs.Place.{Place}
+use Rattle.std.specs.Prelude.{ℕ, zero, suc, ◌+◌, Bool, false, cond, List, [], ◌∷◌, ◌++◌, length, get_or, set, replicate, ltb, eqb, Ok, Err}
 use Rattle.numbers.specs.declared.Refusal.TheVariants as R
-use Rattle.numbers.specs.declared.Place.{Place}
-use Rattle.numbers.specs.declared.Place.TheVariants as P
 use Rattle.strings.specs.Spans.{bytes_in, show_span, str_start, str_len, past_str}
 use Rattle.places.specs.declared.Places.{Places}
 use Rattle.places.specs.declared.Spot.{Spot}
@@ -45,8 +44,8 @@ step s p from x y = cond (is_up (name_in s x y)) (record { places = p; at = At (
 
 -- one step more, by the string that was read; a refused walk stays refused
 abbrev pub named : List ℕ → Places → ℕ → ℕ → ℕ → Place → Reached
-named s p from x y (P.At q) = step s p from x y
-named s p from x y (P.Refused k q) = record { places = p; at = Refused k }
+named s p from x y (Ok q) = step s p from x y
+named s p from x y (Err f) = record { places = p; at = Refused f.0 }
 
 abbrev pub stepped : List ℕ → ℕ → ℕ → Place → Reached → Spot → Reached
 stepped s x y q r (At from) = named s r.places from x y q

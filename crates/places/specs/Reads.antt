@@ -1,15 +1,14 @@
 -- A walk whose names can be read is refused for want of a place alone.
-use Rattle.std.specs.Prelude.{ℕ, zero, suc, ◌≡◌, List}
+use Rattle.numbers.specs.Place.{Place}
+use Rattle.std.specs.Prelude.{ℕ, zero, suc, ◌≡◌, List, Ok, Err}
 use Rattle.numbers.specs.declared.Refusal.TheVariants as R
-use Rattle.numbers.specs.declared.Place.{Place}
-use Rattle.numbers.specs.declared.Place.TheVariants as P
 use Rattle.strings.specs.Spans.{past_str}
 use Rattle.places.specs.declared.Spot.{Spot}
 use Rattle.places.specs.declared.Spot.TheVariants.{At, Refused}
 
 abbrev pub IsAt : Place → Type 0
-IsAt (P.At e) = Unit {0}
-IsAt (P.Refused k n) = ⊥
+IsAt (Ok e) = Unit {0}
+IsAt (Err f) = ⊥
 
 -- so many strings are read, one after the other
 unfoldable pub NamesRead : List ℕ → ℕ → Place → Type 0

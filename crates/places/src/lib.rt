@@ -7,8 +7,8 @@ ghost use Rattle.std.specs.Prelude.{◌≡◌, suc, ◌+◌, ◌≤◌, ◌<◌,
 ghost use Rattle.numbers.specs.Places.{over, Put};
 ghost use Rattle.places.specs.Places.{unused, rowed, root, child, is_up, step, onward, walked, name_in, path_in, path};
 
-use numbers::{Place, Refusal};
-use strings::{ReadSpan, Span};
+use numbers::{Read, Place, Refusal};
+use strings::{Span};
 
 // The rows of the places; the first `used` of them are places. A root's older place is itself.
 #[repr(C)]
@@ -126,7 +126,7 @@ pub fn step(p: Places, from: u8, stretch: &[u8], name: Span) -> Reached
 }
 
 // One step more by a name that was read; a walk that is refused stays so.
-fn onward(r: Reached, stretch: &[u8], name: ReadSpan) -> Reached
+fn onward(r: Reached, stretch: &[u8], name: Read<Span>) -> Reached
     ensures { result ≡ onward stretch.now name.value.start name.value.len name.next r }
 {
     let at = r.at;
@@ -136,11 +136,11 @@ fn onward(r: Reached, stretch: &[u8], name: ReadSpan) -> Reached
     let p = r.places;
     let next = name.next;
     match next {
-        Place::At(_) => {
+        Ok(_) => {
             let v = name.value;
             step(p, from, stretch, v)
         }
-        Place::Refused(k, _) => {
+        Err(Fault(k, _)) => {
             let at = Spot::Refused(k);
             Reached { places: p, at }
         }
@@ -149,14 +149,14 @@ fn onward(r: Reached, stretch: &[u8], name: ReadSpan) -> Reached
 
 // The steps of a walk by so many names, which stand at a place of the stretch one after the other.
 pub fn walk(p: Places, from: u8, stretch: &[u8], names: usize, count: u16) -> Reached
-    ensures { result ≡ walked stretch.now count (Place.At names) (record { places = p; at = Spot.At from }) }
+    ensures { result ≡ walked stretch.now count (Ok names) (record { places = p; at = Spot.At from }) }
 {
     let start = Spot::At(from);
     let mut r = Reached {
         places: p,
         at: start,
     };
-    let mut place = Place::At(names);
+    let mut place = Ok(names);
     let mut i: u16 = 0;
     while i < count {
         let name = strings::read_str(stretch, place);
@@ -173,7 +173,7 @@ fn put_name(out: &mut [u8], n: usize, stretch: &[u8], name: Span) -> usize
     requires { n + suc (length (name_in stretch.now name.start name.len)) ≤ length out.old }
     ensures { (result ≡ n + suc (length (name_in stretch.now name.start name.len))) × (out.new ≡ over out.old n (47 ∷ name_in stretch.now name.start name.len)) }
 {
-    let slash = numbers::put_u8(out, Place::At(n), b'/');
+    let slash = numbers::put_u8(out, Ok(n), b'/');
     strings::put_bytes(out, slash, stretch, name);
     let text = strings::shown(stretch, name);
     n + 1 + text.len()
@@ -234,11 +234,11 @@ fn fits<'a>(
 
 // The path of a place at the front of an output, and its length; or 11.
 pub fn write_path(out: &mut [u8], p: Places, place: u8, stretch: &[u8]) -> Place
-    ensures { Put (path stretch.now p place) out.old (Place.At 0) out.new result }
+    ensures { Put (path stretch.now p place) out.old (Ok 0) out.new result }
 {
     if fits(&p.older, &p.starts, &p.lens, place, stretch, out.len()) {
         let n = put_path(out, &p.older, &p.starts, &p.lens, place, stretch);
-        return Place::At(n);
+        return Ok(n);
     }
-    Place::Refused(Refusal::NoRoom, 0)
+    Err(Fault(Refusal::NoRoom, 0))
 }

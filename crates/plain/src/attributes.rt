@@ -7,7 +7,7 @@ ghost use Rattle.layouts.specs.Plain.{layout_tstat, layout_rstat, layout_twstat}
 ghost use Rattle.plain.specs.Records.{tstat, rstat, twstat};
 
 use layouts::ids::Fid;
-use numbers::Place;
+use numbers::{Place, Read};
 use stats::Stat;
 
 #[derive(Clone, Copy)]
@@ -15,20 +15,14 @@ pub struct Tstat {
     pub fid: Fid,
 }
 
-#[derive(Clone, Copy)]
-pub struct ReadTstat {
-    pub value: Tstat,
-    pub next: Place,
-}
-
-pub fn read_tstat(s: &[u8], p: Place) -> ReadTstat
+pub fn read_tstat(s: &[u8], p: Place) -> Read<Tstat>
     ensures { Fields layout_tstat s.now p (tstat result.value) result.next }
 {
     let r1 = numbers::read_u32(s, p);
     let p1 = r1.next;
     let fid = Fid(r1.value);
     let value = Tstat { fid };
-    ReadTstat { value, next: p1 }
+    Read { value, next: p1 }
 }
 
 pub fn write_tstat(out: &mut [u8], p: Place, lent: &[u8], m: Tstat) -> Place
@@ -45,20 +39,14 @@ pub struct Rstat {
     pub stat: Stat,
 }
 
-#[derive(Clone, Copy)]
-pub struct ReadRstat {
-    pub value: Rstat,
-    pub next: Place,
-}
-
-pub fn read_rstat(s: &[u8], p: Place) -> ReadRstat
+pub fn read_rstat(s: &[u8], p: Place) -> Read<Rstat>
     ensures { Fields layout_rstat s.now p (rstat result.value) result.next }
 {
     let r1 = stats::read_stat(s, p);
     let p1 = r1.next;
     let stat = r1.value;
     let value = Rstat { stat };
-    ReadRstat { value, next: p1 }
+    Read { value, next: p1 }
 }
 
 pub fn write_rstat(out: &mut [u8], p: Place, lent: &[u8], m: Rstat) -> Place
@@ -76,13 +64,7 @@ pub struct Twstat {
     pub stat: Stat,
 }
 
-#[derive(Clone, Copy)]
-pub struct ReadTwstat {
-    pub value: Twstat,
-    pub next: Place,
-}
-
-pub fn read_twstat(s: &[u8], p: Place) -> ReadTwstat
+pub fn read_twstat(s: &[u8], p: Place) -> Read<Twstat>
     ensures { Fields layout_twstat s.now p (twstat result.value) result.next }
 {
     let r1 = numbers::read_u32(s, p);
@@ -92,7 +74,7 @@ pub fn read_twstat(s: &[u8], p: Place) -> ReadTwstat
     let p2 = r2.next;
     let stat = r2.value;
     let value = Twstat { fid, stat };
-    ReadTwstat { value, next: p2 }
+    Read { value, next: p2 }
 }
 
 pub fn write_twstat(out: &mut [u8], p: Place, lent: &[u8], m: Twstat) -> Place

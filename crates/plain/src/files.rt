@@ -9,7 +9,7 @@ ghost use Rattle.plain.specs.Records.{topen, ropen, tcreate, rcreate};
 use layouts::ids::Fid;
 use layouts::qids;
 use layouts::qids::Qid;
-use numbers::Place;
+use numbers::{Place, Read};
 use strings::Span;
 
 #[derive(Clone, Copy)]
@@ -18,13 +18,7 @@ pub struct Topen {
     pub mode: u8,
 }
 
-#[derive(Clone, Copy)]
-pub struct ReadTopen {
-    pub value: Topen,
-    pub next: Place,
-}
-
-pub fn read_topen(s: &[u8], p: Place) -> ReadTopen
+pub fn read_topen(s: &[u8], p: Place) -> Read<Topen>
     ensures { Fields layout_topen s.now p (topen result.value) result.next }
 {
     let r1 = numbers::read_u32(s, p);
@@ -36,7 +30,7 @@ pub fn read_topen(s: &[u8], p: Place) -> ReadTopen
         fid,
         mode: r2.value,
     };
-    ReadTopen { value, next: p2 }
+    Read { value, next: p2 }
 }
 
 pub fn write_topen(out: &mut [u8], p: Place, lent: &[u8], m: Topen) -> Place
@@ -55,13 +49,7 @@ pub struct Ropen {
     pub iounit: u32,
 }
 
-#[derive(Clone, Copy)]
-pub struct ReadRopen {
-    pub value: Ropen,
-    pub next: Place,
-}
-
-pub fn read_ropen(s: &[u8], p: Place) -> ReadRopen
+pub fn read_ropen(s: &[u8], p: Place) -> Read<Ropen>
     ensures { Fields layout_ropen s.now p (ropen result.value) result.next }
 {
     let r1 = qids::read_qid(s, p);
@@ -73,7 +61,7 @@ pub fn read_ropen(s: &[u8], p: Place) -> ReadRopen
         qid,
         iounit: r2.value,
     };
-    ReadRopen { value, next: p2 }
+    Read { value, next: p2 }
 }
 
 pub fn write_ropen(out: &mut [u8], p: Place, lent: &[u8], m: Ropen) -> Place
@@ -96,13 +84,7 @@ pub struct Tcreate {
     pub mode: u8,
 }
 
-#[derive(Clone, Copy)]
-pub struct ReadTcreate {
-    pub value: Tcreate,
-    pub next: Place,
-}
-
-pub fn read_tcreate(s: &[u8], p: Place) -> ReadTcreate
+pub fn read_tcreate(s: &[u8], p: Place) -> Read<Tcreate>
     ensures { Fields layout_tcreate s.now p (tcreate result.value) result.next }
 {
     let r1 = numbers::read_u32(s, p);
@@ -121,7 +103,7 @@ pub fn read_tcreate(s: &[u8], p: Place) -> ReadTcreate
         perm: r3.value,
         mode: r4.value,
     };
-    ReadTcreate { value, next: p4 }
+    Read { value, next: p4 }
 }
 
 pub fn write_tcreate(out: &mut [u8], p: Place, lent: &[u8], m: Tcreate) -> Place
@@ -146,13 +128,7 @@ pub struct Rcreate {
     pub iounit: u32,
 }
 
-#[derive(Clone, Copy)]
-pub struct ReadRcreate {
-    pub value: Rcreate,
-    pub next: Place,
-}
-
-pub fn read_rcreate(s: &[u8], p: Place) -> ReadRcreate
+pub fn read_rcreate(s: &[u8], p: Place) -> Read<Rcreate>
     ensures { Fields layout_rcreate s.now p (rcreate result.value) result.next }
 {
     let r1 = qids::read_qid(s, p);
@@ -164,7 +140,7 @@ pub fn read_rcreate(s: &[u8], p: Place) -> ReadRcreate
         qid,
         iounit: r2.value,
     };
-    ReadRcreate { value, next: p2 }
+    Read { value, next: p2 }
 }
 
 pub fn write_rcreate(out: &mut [u8], p: Place, lent: &[u8], m: Rcreate) -> Place

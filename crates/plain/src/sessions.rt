@@ -7,7 +7,7 @@ ghost use Rattle.layouts.specs.Plain.{layout_tauth, layout_tattach, layout_rerro
 ghost use Rattle.plain.specs.Records.{tauth, tattach, rerror};
 
 use layouts::ids::Fid;
-use numbers::Place;
+use numbers::{Place, Read};
 use strings::Span;
 
 #[derive(Clone, Copy)]
@@ -17,13 +17,7 @@ pub struct Tauth {
     pub aname: Span,
 }
 
-#[derive(Clone, Copy)]
-pub struct ReadTauth {
-    pub value: Tauth,
-    pub next: Place,
-}
-
-pub fn read_tauth(s: &[u8], p: Place) -> ReadTauth
+pub fn read_tauth(s: &[u8], p: Place) -> Read<Tauth>
     ensures { Fields layout_tauth s.now p (tauth result.value) result.next }
 {
     let r1 = numbers::read_u32(s, p);
@@ -36,7 +30,7 @@ pub fn read_tauth(s: &[u8], p: Place) -> ReadTauth
     let p3 = r3.next;
     let aname = r3.value;
     let value = Tauth { afid, uname, aname };
-    ReadTauth { value, next: p3 }
+    Read { value, next: p3 }
 }
 
 pub fn write_tauth(out: &mut [u8], p: Place, lent: &[u8], m: Tauth) -> Place
@@ -64,13 +58,7 @@ pub struct Tattach {
     pub aname: Span,
 }
 
-#[derive(Clone, Copy)]
-pub struct ReadTattach {
-    pub value: Tattach,
-    pub next: Place,
-}
-
-pub fn read_tattach(s: &[u8], p: Place) -> ReadTattach
+pub fn read_tattach(s: &[u8], p: Place) -> Read<Tattach>
     ensures { Fields layout_tattach s.now p (tattach result.value) result.next }
 {
     let r1 = numbers::read_u32(s, p);
@@ -91,7 +79,7 @@ pub fn read_tattach(s: &[u8], p: Place) -> ReadTattach
         uname,
         aname,
     };
-    ReadTattach { value, next: p4 }
+    Read { value, next: p4 }
 }
 
 pub fn write_tattach(out: &mut [u8], p: Place, lent: &[u8], m: Tattach) -> Place
@@ -118,20 +106,14 @@ pub struct Rerror {
     pub ename: Span,
 }
 
-#[derive(Clone, Copy)]
-pub struct ReadRerror {
-    pub value: Rerror,
-    pub next: Place,
-}
-
-pub fn read_rerror(s: &[u8], p: Place) -> ReadRerror
+pub fn read_rerror(s: &[u8], p: Place) -> Read<Rerror>
     ensures { Fields layout_rerror s.now p (rerror result.value) result.next }
 {
     let r1 = strings::read_str(s, p);
     let p1 = r1.next;
     let ename = r1.value;
     let value = Rerror { ename };
-    ReadRerror { value, next: p1 }
+    Read { value, next: p1 }
 }
 
 pub fn write_rerror(out: &mut [u8], p: Place, lent: &[u8], m: Rerror) -> Place

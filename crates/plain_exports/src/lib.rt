@@ -13,7 +13,7 @@ ghost use Rattle.exports.specs.Frames.{FrameRead, BodyRead, FlatWrote};
 use exports::Outcome;
 use framing::Head;
 use layouts::ids::Tag;
-use numbers::{Place, Refusal};
+use numbers::{Fault, Place, Refusal};
 use pairs::Mark;
 use plain_flat::{WIDTH_R, WIDTH_T};
 
@@ -27,12 +27,12 @@ pub fn sheafsledge_plain_read_tframe(bytes: &[u8], values: &mut [u64; WIDTH_T]) 
             let next = plain_flat_requests::read_flat(
                 &bytes[..n],
                 ty,
-                Place::At(framing::BODY),
+                Ok(framing::BODY),
                 values,
             );
             exports::outcome_of(ty, tag, true, next)
         }
-        Head::Refused(k) => exports::ended(Place::Refused(k, 0)),
+        Head::Refused(k) => exports::ended(Err(Fault(k, 0))),
     }
 }
 
@@ -46,15 +46,15 @@ pub fn sheafsledge_plain_read_rframe(bytes: &[u8], values: &mut [u64; WIDTH_R]) 
             let next = plain_flat_replies::read_flat(
                 &bytes[..n],
                 ty,
-                Place::At(framing::BODY),
+                Ok(framing::BODY),
                 values,
             );
-            let Place::At(_) = next else {
+            let Ok(_) = next else {
                 return exports::ended(next);
             };
             exports::outcome_of(ty, tag, true, next)
         }
-        Head::Refused(k) => exports::ended(Place::Refused(k, 0)),
+        Head::Refused(k) => exports::ended(Err(Fault(k, 0))),
     }
 }
 
@@ -70,9 +70,9 @@ pub fn sheafsledge_plain_write_tframe(
     ensures { FlatWrote table_t refusal ty tag.0 values.now lent.now out.old out.new result }
 {
     if refusal != 0 {
-        return exports::ended(Place::Refused(Refusal::HoldsRefusal, 0));
+        return exports::ended(Err(Fault(Refusal::HoldsRefusal, 0)));
     }
-    let end = plain_flat_requests::write_flat(out, Place::At(framing::BODY), lent, ty, values);
+    let end = plain_flat_requests::write_flat(out, Ok(framing::BODY), lent, ty, values);
     exports::ended(framing::put_header(out, end, ty, tag.0))
 }
 
@@ -88,9 +88,9 @@ pub fn sheafsledge_plain_write_rframe(
     ensures { FlatWrote table_r refusal ty tag.0 values.now lent.now out.old out.new result }
 {
     if refusal != 0 {
-        return exports::ended(Place::Refused(Refusal::HoldsRefusal, 0));
+        return exports::ended(Err(Fault(Refusal::HoldsRefusal, 0)));
     }
-    let end = plain_flat_replies::write_flat(out, Place::At(framing::BODY), lent, ty, values);
+    let end = plain_flat_replies::write_flat(out, Ok(framing::BODY), lent, ty, values);
     exports::ended(framing::put_header(out, end, ty, tag.0))
 }
 

@@ -14,7 +14,7 @@ pub(crate) fn read_rread(s: &[u8], p: Place, values: &mut [u64; WIDTH_R]) -> Pla
 {
     let r = common::files::read_rread(s, p);
     let next = r.next;
-    let Place::At(_) = next else {
+    let Ok(_) = next else {
         return next;
     };
     let m = r.value;
@@ -26,7 +26,7 @@ pub(crate) fn read_rwrite(s: &[u8], p: Place, values: &mut [u64; WIDTH_R]) -> Pl
     ensures { FlatRead (some layout_rwrite) s.now p values.old values.new result }
 {
     let next = flat::skip(s, p, 4);
-    let Place::At(_) = next else {
+    let Ok(_) = next else {
         return next;
     };
     let r = common::files::read_rwrite(s, p);
@@ -39,7 +39,7 @@ pub(crate) fn read_ropen(s: &[u8], p: Place, values: &mut [u64; WIDTH_R]) -> Pla
     ensures { FlatRead (some layout_ropen) s.now p values.old values.new result }
 {
     let next = flat::skip(s, p, 17);
-    let Place::At(_) = next else {
+    let Ok(_) = next else {
         return next;
     };
     let r = plain::files::read_ropen(s, p);
@@ -52,7 +52,7 @@ pub(crate) fn read_rcreate(s: &[u8], p: Place, values: &mut [u64; WIDTH_R]) -> P
     ensures { FlatRead (some layout_rcreate) s.now p values.old values.new result }
 {
     let next = flat::skip(s, p, 17);
-    let Place::At(_) = next else {
+    let Ok(_) = next else {
         return next;
     };
     let r = plain::files::read_rcreate(s, p);

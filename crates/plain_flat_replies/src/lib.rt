@@ -12,7 +12,7 @@ ghost use Rattle.layouts.specs.Tables.{lookup};
 ghost use Rattle.layouts.specs.Plain.{table_r};
 ghost use Rattle.flat.specs.Flat.{FlatRead, FlatWritten};
 
-use numbers::{Place, Refusal};
+use numbers::{Fault, Place, Refusal};
 use plain_flat::WIDTH_R;
 
 // A body read flat at a place: its values go to the front of what the caller lends for them, and the place after its fields is answered;
@@ -36,7 +36,7 @@ pub fn read_flat(s: &[u8], ty: u8, p: Place, values: &mut [u64; WIDTH_R]) -> Pla
         123 => p,
         125 => attributes::read_rstat(s, p, values),
         127 => p,
-        _ => Place::Refused(Refusal::UnknownType, 0),
+        _ => Err(Fault(Refusal::UnknownType, 0)),
     }
 }
 
@@ -61,6 +61,6 @@ pub fn write_flat(out: &mut [u8], p: Place, lent: &[u8], ty: u8, values: &[u64; 
         123 => laying::begun(p, p, out.len()),
         125 => plain::attributes::write_rstat(out, p, lent, plain_flat::attributes::rstat_of(v)),
         127 => laying::begun(p, p, out.len()),
-        _ => Place::Refused(Refusal::UnknownType, 0),
+        _ => Err(Fault(Refusal::UnknownType, 0)),
     }
 }

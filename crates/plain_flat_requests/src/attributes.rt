@@ -12,7 +12,7 @@ pub(crate) fn read_tstat(s: &[u8], p: Place, values: &mut [u64; WIDTH_T]) -> Pla
     ensures { FlatRead (some layout_tstat) s.now p values.old values.new result }
 {
     let next = flat::skip(s, p, 4);
-    let Place::At(_) = next else {
+    let Ok(_) = next else {
         return next;
     };
     let r = plain::attributes::read_tstat(s, p);
@@ -26,7 +26,7 @@ pub(crate) fn read_twstat(s: &[u8], p: Place, values: &mut [u64; WIDTH_T]) -> Pl
 {
     let r = plain::attributes::read_twstat(s, p);
     let next = r.next;
-    let Place::At(_) = next else {
+    let Ok(_) = next else {
         return next;
     };
     let m = r.value;

@@ -13,7 +13,7 @@ pub(crate) fn read_tread(s: &[u8], p: Place, values: &mut [u64; WIDTH_T]) -> Pla
     ensures { FlatRead (some layout_tread) s.now p values.old values.new result }
 {
     let next = flat::skip(s, p, 16);
-    let Place::At(_) = next else {
+    let Ok(_) = next else {
         return next;
     };
     let r = common::files::read_tread(s, p);
@@ -27,7 +27,7 @@ pub(crate) fn read_twrite(s: &[u8], p: Place, values: &mut [u64; WIDTH_T]) -> Pl
 {
     let r = common::files::read_twrite(s, p);
     let next = r.next;
-    let Place::At(_) = next else {
+    let Ok(_) = next else {
         return next;
     };
     let m = r.value;
@@ -39,7 +39,7 @@ pub(crate) fn read_tremove(s: &[u8], p: Place, values: &mut [u64; WIDTH_T]) -> P
     ensures { FlatRead (some layout_tremove) s.now p values.old values.new result }
 {
     let next = flat::skip(s, p, 4);
-    let Place::At(_) = next else {
+    let Ok(_) = next else {
         return next;
     };
     let r = common::files::read_tremove(s, p);
@@ -52,7 +52,7 @@ pub(crate) fn read_topen(s: &[u8], p: Place, values: &mut [u64; WIDTH_T]) -> Pla
     ensures { FlatRead (some layout_topen) s.now p values.old values.new result }
 {
     let next = flat::skip(s, p, 5);
-    let Place::At(_) = next else {
+    let Ok(_) = next else {
         return next;
     };
     let r = plain::files::read_topen(s, p);
@@ -66,7 +66,7 @@ pub(crate) fn read_tcreate(s: &[u8], p: Place, values: &mut [u64; WIDTH_T]) -> P
 {
     let r = plain::files::read_tcreate(s, p);
     let next = r.next;
-    let Place::At(_) = next else {
+    let Ok(_) = next else {
         return next;
     };
     let m = r.value;

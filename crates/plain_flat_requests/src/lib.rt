@@ -12,7 +12,7 @@ ghost use Rattle.layouts.specs.Tables.{lookup};
 ghost use Rattle.layouts.specs.Plain.{table_t};
 ghost use Rattle.flat.specs.Flat.{FlatRead, FlatWritten};
 
-use numbers::{Place, Refusal};
+use numbers::{Fault, Place, Refusal};
 use plain_flat::WIDTH_T;
 
 // A body read flat at a place: its values go to the front of what the caller lends for them, and the place after its fields is answered;
@@ -35,7 +35,7 @@ pub fn read_flat(s: &[u8], ty: u8, p: Place, values: &mut [u64; WIDTH_T]) -> Pla
         122 => files::read_tremove(s, p, values),
         124 => attributes::read_tstat(s, p, values),
         126 => attributes::read_twstat(s, p, values),
-        _ => Place::Refused(Refusal::UnknownType, 0),
+        _ => Err(Fault(Refusal::UnknownType, 0)),
     }
 }
 
@@ -59,6 +59,6 @@ pub fn write_flat(out: &mut [u8], p: Place, lent: &[u8], ty: u8, values: &[u64; 
         122 => common::files::write_tremove(out, p, lent, plain_flat::files::tremove_of(v)),
         124 => plain::attributes::write_tstat(out, p, lent, plain_flat::attributes::tstat_of(v)),
         126 => plain::attributes::write_twstat(out, p, lent, plain_flat::attributes::twstat_of(v)),
-        _ => Place::Refused(Refusal::UnknownType, 0),
+        _ => Err(Fault(Refusal::UnknownType, 0)),
     }
 }

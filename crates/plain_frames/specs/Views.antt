@@ -1,10 +1,9 @@
 -- Written by tools/messages from crates/frames/specs/Views.antt.
 -- What the answers of the frame readers say.
-use Rattle.std.specs.Prelude.{ℕ, ◌≡◌, List}
+use Rattle.numbers.specs.Place.{Place}
+use Rattle.std.specs.Prelude.{ℕ, ◌≡◌, List, Err}
 use Rattle.layouts.specs.Bodies.{accepted}
 use Rattle.numbers.specs.declared.Refusal.TheVariants as C
-use Rattle.numbers.specs.declared.Place.{Place}
-use Rattle.numbers.specs.declared.Place.TheVariants as P
 use Rattle.plain_requests.specs.Views.{type_t, layout_t, values_t, view_t}
 use Rattle.plain_requests.specs.declared.Tbody.{Tbody}
 use Rattle.plain_requests.specs.declared.Tbody.TheVariants as M
@@ -28,7 +27,7 @@ view_rframe (R.Refused k at) = headless k at
 -- a request's body written: 16 where it holds a refusal, and the output is as it was
 unfoldable pub TbodyWritten : List ℕ → ℕ → Tbody → List ℕ → List ℕ → Place → Type 0
 TbodyWritten lent tag (M.Message m n) o o' q = FrameWritten (layout_t m) (type_t m) tag lent (values_t m) o o' q
-TbodyWritten lent tag (M.Refused k at) o o' q = (o' ≡ o) × (q ≡ P.Refused C.HoldsRefusal 0)
+TbodyWritten lent tag (M.Refused k at) o o' q = (o' ≡ o) × (q ≡ Err (C.HoldsRefusal, 0))
 
 pub record TframeWritten (lent : List ℕ) (f : Tframe) (o o' : List ℕ) (q : Place) : Type 0 where
   pub is : TbodyWritten lent f.tag.0 f.msg o o' q

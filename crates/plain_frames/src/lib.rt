@@ -15,7 +15,7 @@ ghost use Rattle.plain_frames.specs.Views.{view_tframe, view_rframe, TframeWritt
 
 use framing::Head;
 use layouts::ids::Tag;
-use numbers::{Place, Refusal};
+use numbers::{Fault, Place, Refusal};
 use plain_replies::{Rbody, Rmessage};
 use plain_requests::Tbody;
 
@@ -138,11 +138,11 @@ pub fn write_tframe(out: &mut [u8], lent: &[u8], f: Tframe) -> Place
     let msg = f.msg;
     match msg {
         Tbody::Message(m, _) => {
-            let end = plain_requests::write_tmessage(out, Place::At(framing::BODY), lent, m);
+            let end = plain_requests::write_tmessage(out, Ok(framing::BODY), lent, m);
             let ty = plain_requests::type_of(m);
             framing::put_header(out, end, ty, tag.0)
         }
-        Tbody::Refused(_, _) => Place::Refused(Refusal::HoldsRefusal, 0),
+        Tbody::Refused(_, _) => Err(Fault(Refusal::HoldsRefusal, 0)),
     }
 }
 
@@ -152,7 +152,7 @@ pub fn write_rframe(out: &mut [u8], lent: &[u8], f: Rframe) -> Place
 {
     let tag = f.tag;
     let msg = f.msg;
-    let end = plain_replies::write_rmessage(out, Place::At(framing::BODY), lent, msg);
+    let end = plain_replies::write_rmessage(out, Ok(framing::BODY), lent, msg);
     let ty = plain_replies::type_of(msg);
     framing::put_header(out, end, ty, tag.0)
 }

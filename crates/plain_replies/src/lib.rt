@@ -12,7 +12,7 @@ ghost use Rattle.plain_replies.specs.Views.{type_r, layout_r, values_r, view_r};
 use common::files::{Rread, Rwrite};
 use common::sessions::{Rattach, Rauth, Rversion};
 use common::walking::Rwalk;
-use numbers::{Place, Refusal};
+use numbers::{Fault, Place, Refusal};
 use plain::attributes::Rstat;
 use plain::files::{Rcreate, Ropen};
 use plain::sessions::Rerror;
@@ -46,8 +46,8 @@ fn finish(m: Rmessage, end: Place) -> Rbody
     ensures { view_r result ≡ finish_at (type_r m) (values_r m) end }
 {
     match end {
-        Place::At(n) => Rbody::Message(m, n),
-        Place::Refused(k, n) => Rbody::Refused(k, n),
+        Ok(n) => Rbody::Message(m, n),
+        Err(Fault(k, n)) => Rbody::Refused(k, n),
     }
 }
 

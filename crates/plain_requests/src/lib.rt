@@ -12,7 +12,7 @@ ghost use Rattle.plain_requests.specs.Views.{type_t, layout_t, values_t, view_t}
 use common::files::{Tread, Tremove, Twrite};
 use common::sessions::{Tclunk, Tflush, Tversion};
 use common::walking::Twalk;
-use numbers::{Place, Refusal};
+use numbers::{Fault, Place, Refusal};
 use plain::attributes::{Tstat, Twstat};
 use plain::files::{Tcreate, Topen};
 use plain::sessions::{Tattach, Tauth};
@@ -45,8 +45,8 @@ fn finish(m: Tmessage, end: Place) -> Tbody
     ensures { view_t result ≡ finish_at (type_t m) (values_t m) end }
 {
     match end {
-        Place::At(n) => Tbody::Message(m, n),
-        Place::Refused(k, n) => Tbody::Refused(k, n),
+        Ok(n) => Tbody::Message(m, n),
+        Err(Fault(k, n)) => Tbody::Refused(k, n),
     }
 }
 

@@ -1,6 +1,7 @@
 -- Written by tools/messages from crates/stretch/specs/Functions.antt.
 -- Demand 3 of the functions: whatever answers the promises of `frame_at`, `read_tframe`, `read_rframe`, `write_tframe` and `write_rframe` allow, they have these properties.
-use Rattle.std.specs.Prelude.{ℕ, ◌+◌, ◌-◌, ◌%◌, ◌^◌, ◌≤◌, ◌<◌, ◌≡◌, List, ◌++◌, length, take}
+use Rattle.numbers.specs.Place.{Place}
+use Rattle.std.specs.Prelude.{ℕ, ◌+◌, ◌-◌, ◌%◌, ◌^◌, ◌≤◌, ◌<◌, ◌≡◌, List, ◌++◌, length, take, Ok}
 use Rattle.std.proofs.Common.{arith, sym, ◌∙◌, eq-eqb, ne_eqb}
 use Rattle.std.proofs.Math.Path.{refl, ap}
 use Rattle.std.proofs.Math.Option.{some}
@@ -9,8 +10,6 @@ use Rattle.numbers.specs.Numbers.{Bytes}
 use Rattle.numbers.specs.Places.{over}
 use Rattle.numbers.specs.declared.Refusal.{Refusal}
 use Rattle.numbers.specs.declared.Refusal.TheVariants as R
-use Rattle.numbers.specs.declared.Place.{Place}
-use Rattle.numbers.specs.declared.Place.TheVariants.{At}
 use Rattle.fields.specs.Values.{Value}
 use Rattle.layouts.specs.Tables.{lookup}
 use Rattle.layouts.specs.Plain.{table_t, table_r}
@@ -149,11 +148,11 @@ module _ (s : List ℕ) (f : Tframe) (m : Tmessage) {used : ℕ} (b : Bytes s) (
   stripped_request = stripped requests s (T.Frame f) m f.at f.tag.0 used b request c
 
   -- and writing it, given room, gives those bytes
-  pub stripped_request_written : {o o' : List ℕ} {q : Place} → used ≤ length o → TframeWritten s f o o' q → (o' ≡ over o 0 (resized used s)) × (q ≡ At used)
+  pub stripped_request_written : {o o' : List ℕ} {q : Place} → used ≤ length o → TframeWritten s f o o' q → (o' ≡ over o 0 (resized used s)) × (q ≡ Ok used)
   stripped_request_written h w = written requests s (T.Frame f) m f.at f.tag.0 used b request c h (sent f m k w)
 
   -- also when the stripped bytes are lent in place of the frame
-  pub stripped_request_written_again : {o o' : List ℕ} {q : Place} → used ≤ length o → TframeWritten (resized used s) f o o' q → (o' ≡ over o 0 (resized used s)) × (q ≡ At used)
+  pub stripped_request_written_again : {o o' : List ℕ} {q : Place} → used ≤ length o → TframeWritten (resized used s) f o o' q → (o' ≡ over o 0 (resized used s)) × (q ≡ Ok used)
   stripped_request_written_again h w = written_again requests s (T.Frame f) m f.at f.tag.0 used b request c h (sent f m k w)
 
   -- 4. cut
@@ -173,12 +172,12 @@ module _ (s : List ℕ) (f : Rframe) {used : ℕ} (b : Bytes s) (c : view_rframe
 
   -- and writing it, given room, gives those bytes
   pub stripped_reply_written : {o o' : List ℕ} {q : Place} → used ≤ length o → FrameWritten (layout_r f.msg) (type_r f.msg) f.tag.0 s (values_r f.msg) o o' q
-      → (o' ≡ over o 0 (resized used s)) × (q ≡ At used)
+      → (o' ≡ over o 0 (resized used s)) × (q ≡ Ok used)
   stripped_reply_written = written replies s (Q.Frame f used) f.msg f.at f.tag.0 used b reply c
 
   -- also when the stripped bytes are lent in place of the frame
   pub stripped_reply_written_again : {o o' : List ℕ} {q : Place} → used ≤ length o → FrameWritten (layout_r f.msg) (type_r f.msg) f.tag.0 (resized used s) (values_r f.msg) o o' q
-      → (o' ≡ over o 0 (resized used s)) × (q ≡ At used)
+      → (o' ≡ over o 0 (resized used s)) × (q ≡ Ok used)
   stripped_reply_written_again = written_again replies s (Q.Frame f used) f.msg f.at f.tag.0 used b reply c
 
   -- 4. cut
@@ -193,12 +192,12 @@ held_request f m k g = let h = rw k at g.1.1.0 in (g.1.0.0.fits, h.1.0)
 
 -- a frame that a program holds is well typed (`WT`), and that says all but that its data is within the reading limit
 module _ {lent o o' : List ℕ} {n : ℕ} (b : Bytes lent) where
-  pub request_back : (f : Tframe) (m : Tmessage) {u : ℕ} → f.msg ≡ M.Message m u → WT (loweredTframe f) → Limited (layout_t m) (values_t m) → TframeWritten lent f o o' (At n)
+  pub request_back : (f : Tframe) (m : Tmessage) {u : ℕ} → f.msg ≡ M.Message m u → WT (loweredTframe f) → Limited (layout_t m) (values_t m) → TframeWritten lent f o o' (Ok n)
       → Back table_t (layout_t m) (type_t m) f.tag.0 lent (values_t m) o' n
   request_back f m k g h w = let p = held_request f m k g in back requests m b p.0 (request_fits m p.1 h) (sent f m k w)
 
   pub reply_back : (f : Rframe) → WT (loweredRframe f) → Limited (layout_r f.msg) (values_r f.msg)
-      → FrameWritten (layout_r f.msg) (type_r f.msg) f.tag.0 lent (values_r f.msg) o o' (At n)
+      → FrameWritten (layout_r f.msg) (type_r f.msg) f.tag.0 lent (values_r f.msg) o o' (Ok n)
       → Back table_r (layout_r f.msg) (type_r f.msg) f.tag.0 lent (values_r f.msg) o' n
   reply_back f g h w = back replies f.msg b g.1.0.0.fits (reply_fits f.msg g.1.1.0 h) w
 
@@ -215,7 +214,7 @@ local_reply = local_read replies
 
 module _ (s : List ℕ) {p used : ℕ} (l : Listed) (b : Bytes s) (a : Asked s p (S.Frame l)) {o o' : List ℕ} {q : Place} (h : used ≤ length o) where
   pub listed_request_written : (m : Tmessage) → l.body ≡ B.Request (M.Message m used) → TframeWritten s (record { at = l.at; tag = l.tag; msg = M.Message m used }) o o' q
-      → (o' ≡ over o 0 (resized used (between p l.next s))) × (q ≡ At used)
+      → (o' ≡ over o 0 (resized used (between p l.next s))) × (q ≡ Ok used)
   unfolding view_step view_body view_t
   listed_request_written m e w =
       let k : lookup (table_for table_t table_r l.ty) (type_t m) ≡ some (layout_t m) = rw (eq-eqb (l.ty % 2) 0 (rw e at a.way)) (row_of_request m) in
@@ -223,7 +222,7 @@ module _ (s : List ℕ) {p used : ℕ} (l : Listed) (b : Bytes s) (a : Asked s p
       let r = listed_written table_t table_r s p b (sym (rw e at a.is)) k o h in (f.bytes ∙ r.0, f.next ∙ r.1)
 
   pub listed_reply_written : (m : Rmessage) → l.body ≡ B.Reply (N.Message m used) → FrameWritten (layout_r m) (type_r m) l.tag.0 s (values_r m) o o' q
-      → (o' ≡ over o 0 (resized used (between p l.next s))) × (q ≡ At used)
+      → (o' ≡ over o 0 (resized used (between p l.next s))) × (q ≡ Ok used)
   unfolding view_step view_body view_r
   listed_reply_written m e w =
       let k : lookup (table_for table_t table_r l.ty) (type_r m) ≡ some (layout_r m) = rw (ne_eqb (l.ty % 2) 0 (rw e at a.way)) (row_of_reply m) in

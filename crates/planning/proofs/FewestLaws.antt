@@ -1,5 +1,6 @@
 -- What the promise of `plan` comes to (F12.5): its plan is accepted, no accepted plan has fewer pieces, and 24 is answered exactly where each is longer than the table.
-use Rattle.std.specs.Prelude.{ℕ, ◌+◌, ◌≤◌, ◌<◌, Bool, List, ◌++◌, length, take, drop}
+use Rattle.numbers.specs.Place.{Place}
+use Rattle.std.specs.Prelude.{ℕ, ◌+◌, ◌≤◌, ◌<◌, Bool, List, ◌++◌, length, take, drop, Ok, Err}
 use native.Mathlib.Omega.{arith}
 use Rattle.std.proofs.Math.Path.{◌≡◌, refl}
 use Rattle.std.proofs.Common.{sym, ◌∙◌, take_at, drop_at}
@@ -9,8 +10,6 @@ use borrow.Author.Tests.{ltb-true, ltb-false}
 use Rattle.numbers.proofs.PlaceLaws.{one_answer}
 use Rattle.numbers.specs.declared.Refusal.{Refusal}
 use Rattle.numbers.specs.declared.Refusal.TheVariants as R
-use Rattle.numbers.specs.declared.Place.{Place}
-use Rattle.numbers.specs.declared.Place.TheVariants.{At, Refused}
 use Rattle.planning.specs.Plans.{greatest, agreed, accepted, most_data, fewest, cut, room_for, planned, table_of, Planned}
 use Rattle.planning.proofs.PlanLaws.{most_some, fewest_least, fewest_none, runs_within, cut_runs, length_cut, neither, Good, good, accepted_refused, accepted_runs, planned_full, planned_fits}
 
@@ -21,8 +20,8 @@ module _ (first len msize : ℕ) (ps : List (List ℕ)) (e : accepted ps first l
   accepted_good = go (agreed first len msize) refl
     where
       go : (q : Place) → agreed first len msize ≡ q → Good first len msize
-      go (At n) a = good first len msize (sym a)
-      go (Refused k n) a = let f = accepted_refused first len msize ps (sym a) in absurd (let z : ◌≡◌ {A = ℕ} 0 1 = cc in omega arith)
+      go (Ok n) a = good first len msize (sym a)
+      go (Err e) a = let f = accepted_refused first len msize ps (sym a) in absurd (let z : ◌≡◌ {A = ℕ} 0 1 = cc in omega arith)
 
   pub every_accepted : fewest (most_data msize) len ≤ length ps
   every_accepted =
@@ -51,27 +50,27 @@ module _ (room first len msize : ℕ) where
   abbrev least : ℕ
   least = fewest (most_data msize) len
 
-  fits_is : {n : ℕ} → At n ≡ planned room first len msize → Fits room first len msize n
+  fits_is : {n : ℕ} → Ok n ≡ planned room first len msize → Fits room first len msize n
   unfolding planned
   fits_is {n} e = go (agreed first len msize) refl e
     where
-      rest : (j : ℕ) → agreed first len msize ≡ At j → (b : Bool) → ltb room least ≡ b → At n ≡ cond b (Refused R.TableFull 0) (At least) → Fits room first len msize n
+      rest : (j : ℕ) → agreed first len msize ≡ Ok j → (b : Bool) → ltb room least ≡ b → Ok n ≡ cond b (Err (R.TableFull, 0)) (Ok least) → Fits room first len msize n
       rest j a true u f = absurd (let z : ◌≡◌ {A = ℕ} 0 1 = cc in omega arith)
       rest j a false u f = let c : n ≡ least = cc in record { is_good = good first len msize (sym a); is_fewest = c; is_in = let k = ltb-false room least u in omega arith }
 
-      go : (q : Place) → agreed first len msize ≡ q → At n ≡ room_for q room least → Fits room first len msize n
-      go (At j) a f = rest j a (ltb room least) refl f
-      go (Refused k j) a f = absurd (let z : ◌≡◌ {A = ℕ} 0 1 = cc in omega arith)
+      go : (q : Place) → agreed first len msize ≡ q → Ok n ≡ room_for q room least → Fits room first len msize n
+      go (Ok j) a f = rest j a (ltb room least) refl f
+      go (Err e) a f = absurd (let z : ◌≡◌ {A = ℕ} 0 1 = cc in omega arith)
 
-  full_is : {n : ℕ} → Refused R.TableFull n ≡ planned room first len msize → room < least
+  full_is : {n : ℕ} → Err (R.TableFull, n) ≡ planned room first len msize → room < least
   unfolding planned agreed
   full_is {n} e = go (ltb msize 24) (ltb greatest (first + len)) e
     where
-      rest : (c : Bool) → ltb room least ≡ c → Refused R.TableFull n ≡ cond c (Refused R.TableFull 0) (At least) → room < least
+      rest : (c : Bool) → ltb room least ≡ c → Err (R.TableFull, n) ≡ cond c (Err (R.TableFull, 0)) (Ok least) → room < least
       rest true u f = ltb-true room least u
       rest false u f = absurd (let z : ◌≡◌ {A = ℕ} 0 1 = cc in omega arith)
 
-      go : (a b : Bool) → Refused R.TableFull n ≡ room_for (cond a (Refused R.MsizeTooSmall 0) (cond b (Refused R.EndTooFar 0) (At 0))) room least → room < least
+      go : (a b : Bool) → Err (R.TableFull, n) ≡ room_for (cond a (Err (R.MsizeTooSmall, 0)) (cond b (Err (R.EndTooFar, 0)) (Ok 0))) room least → room < least
       go true b f = absurd (let z : ◌≡◌ {A = ℕ} 0 1 = cc in omega arith)
       go false true f = absurd (let z : ◌≡◌ {A = ℕ} 0 1 = cc in omega arith)
       go false false f = rest (ltb room least) refl f
@@ -83,11 +82,11 @@ module _ {t : List (List ℕ)} {first len msize : ℕ} {t' : List (List ℕ)} {r
   planned_one o = (one_answer p.table o.table, one_answer p.answer o.answer)
 
   -- refused, the table is as it was
-  pub untouched : {k : Refusal} {n : ℕ} → r ≡ Refused k n → t' ≡ t
+  pub untouched : {k : Refusal} {n : ℕ} → r ≡ Err (k, n) → t' ≡ t
   unfolding table_of
   untouched e = p.table ∙ rw (← p.answer, e)
 
-  module _ {n : ℕ} (e : r ≡ At n) where
+  module _ {n : ℕ} (e : r ≡ Ok n) where
     as_planned : Fits (length t) first len msize n
     as_planned = fits_is (length t) first len msize (sym e ∙ p.answer)
 
@@ -111,12 +110,12 @@ module _ {t : List (List ℕ)} {first len msize : ℕ} {t' : List (List ℕ)} {r
     plan_fewest ps a = let f = as_planned.is_fewest in let l = every_accepted first len msize ps a in omega arith
 
   -- 24: every accepted plan is longer than the table
-  pub full : {n : ℕ} → r ≡ Refused R.TableFull n → (ps : List (List ℕ)) → accepted ps first len msize ≡ true → length t < length ps
+  pub full : {n : ℕ} → r ≡ Err (R.TableFull, n) → (ps : List (List ℕ)) → accepted ps first len msize ≡ true → length t < length ps
   full e ps a = let f = full_is (length t) first len msize (sym e ∙ p.answer) in let l = every_accepted first len msize ps a in omega arith
 
   module _ (h : 24 ≤ msize) (l : first + len ≤ greatest) where
     -- and where every one is longer, it is 24: else the plan that is made would be one that fits
-    pub full_only : ((ps : List (List ℕ)) → accepted ps first len msize ≡ true → length t < length ps) → r ≡ Refused R.TableFull 0
+    pub full_only : ((ps : List (List ℕ)) → accepted ps first len msize ≡ true → length t < length ps) → r ≡ Err (R.TableFull, 0)
     full_only f =
         let c = cut_accepted first len msize record { msize_is = h; end_is = l } in
         let e = neither first len msize h l in
@@ -124,7 +123,7 @@ module _ {t : List (List ℕ)} {first len msize : ℕ} {t' : List (List ℕ)} {r
         (planned_one (planned_full first len msize t e refl refl (let k = f _ c in omega arith))).1
 
     -- nothing to write is the empty plan
-    pub nothing : len ≡ 0 → (r ≡ At 0) × (t' ≡ t)
+    pub nothing : len ≡ 0 → (r ≡ Ok 0) × (t' ≡ t)
     unfolding cut
     nothing z =
         let e = neither first len msize h l in

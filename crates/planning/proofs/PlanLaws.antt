@@ -1,10 +1,11 @@
 -- What holds of the definitions in specs/PlanLaws.antt.
+use Rattle.numbers.specs.Place.{Place}
 use Prim.Native.Nat.{ℕ, suc, zero, ◌+◌, ◌-◌, ◌*◌, ◌/◌, min, ◌≤◌, ◌<◌}
 use Rattle.std.proofs.Math.Nat.{suc-mul, div-eq_of_lt, add-div_right, lt-div-mul-add}
 use Rattle.std.proofs.Common.{zero-mul, div-lt_iff_lt-mul, ap, ◌∙◌}
 use native.Mathlib.Omega.{arith}
 use Rattle.std.proofs.Math.Path.{◌≡◌, refl, sym}
-use Rattle.std.specs.Prelude.{Bool, drop, leb, eqb}
+use Rattle.std.specs.Prelude.{Bool, drop, leb, eqb, Ok, Err}
 use Rattle.std.proofs.Math.Bool.{true, false, cond}
 use mathlib.Core.List.{List, [], ◌∷◌, ◌++◌}
 use Rattle.std.proofs.Math.ListN.{length}
@@ -12,8 +13,6 @@ use Rattle.std.proofs.Math.Dec.{ltb}
 use borrow.Author.Tests.{eq-eqb, le-leb, leb-true, ltb-true, ltb-false, lt-ltb, le-ltb, eqb-true}
 use Rattle.numbers.specs.declared.Refusal.{Refusal}
 use Rattle.numbers.specs.declared.Refusal.TheVariants as R
-use Rattle.numbers.specs.declared.Place.{Place}
-use Rattle.numbers.specs.declared.Place.TheVariants.{At, Refused}
 use Rattle.planning.specs.Plans.{offset, size, fits, runs_on, greatest, agreed, accepted, most_data, fewest, cut, planned, table_of, Planned}
 use Rattle.planning.specs.PlanLaws.{Least}
 
@@ -130,15 +129,15 @@ module _ (msize : ℕ) where
 -- ---- 26, then 27, and then neither
 
 module _ (first len msize : ℕ) where
-  pub small : msize < 24 → Refused R.MsizeTooSmall 0 ≡ agreed first len msize
+  pub small : msize < 24 → Err (R.MsizeTooSmall, 0) ≡ agreed first len msize
   unfolding agreed
   small h = rw (lt-ltb msize 24 h)
 
-  pub far : 24 ≤ msize → greatest < first + len → Refused R.EndTooFar 0 ≡ agreed first len msize
+  pub far : 24 ≤ msize → greatest < first + len → Err (R.EndTooFar, 0) ≡ agreed first len msize
   unfolding agreed
   far h l = rw (le-ltb msize 24 h, lt-ltb greatest (first + len) l)
 
-  pub neither : 24 ≤ msize → first + len ≤ greatest → At 0 ≡ agreed first len msize
+  pub neither : 24 ≤ msize → first + len ≤ greatest → Ok 0 ≡ agreed first len msize
   unfolding agreed
   neither h l = rw (le-ltb msize 24 h, le-ltb greatest (first + len) l)
 
@@ -147,35 +146,35 @@ module _ (first len msize : ℕ) where
     pub msize_is : 24 ≤ msize
     pub end_is : first + len ≤ greatest
 
-  pub good : {n : ℕ} → At n ≡ agreed first len msize → Good
+  pub good : {n : ℕ} → Ok n ≡ agreed first len msize → Good
   unfolding agreed
   good {n} e = go (ltb msize 24) (ltb greatest (first + len)) refl refl e
     where
-      go : (s t : Bool) → ltb msize 24 ≡ s → ltb greatest (first + len) ≡ t → At n ≡ cond s (Refused R.MsizeTooSmall 0) (cond t (Refused R.EndTooFar 0) (At 0)) → Good
+      go : (s t : Bool) → ltb msize 24 ≡ s → ltb greatest (first + len) ≡ t → Ok n ≡ cond s (Err (R.MsizeTooSmall, 0)) (cond t (Err (R.EndTooFar, 0)) (Ok 0)) → Good
       go true t a b f = absurd (let z : ◌≡◌ {A = ℕ} 0 1 = cc in omega arith)
       go false true a b f = absurd (let z : ◌≡◌ {A = ℕ} 0 1 = cc in omega arith)
       go false false a b f = record { msize_is = ltb-false msize 24 a; end_is = ltb-false greatest (first + len) b }
 
   -- ---- what the functions answer on each way
 
-  pub accepted_refused : {k : Refusal} {n : ℕ} (ps : List (List ℕ)) → Refused k n ≡ agreed first len msize → false ≡ accepted ps first len msize
+  pub accepted_refused : {k : Refusal} {n : ℕ} (ps : List (List ℕ)) → Err (k, n) ≡ agreed first len msize → false ≡ accepted ps first len msize
   unfolding accepted
   accepted_refused ps e = rw (← e)
 
-  pub accepted_runs : {n : ℕ} (ps : List (List ℕ)) → At n ≡ agreed first len msize → runs_on msize first (first + len) ps ≡ accepted ps first len msize
+  pub accepted_runs : {n : ℕ} (ps : List (List ℕ)) → Ok n ≡ agreed first len msize → runs_on msize first (first + len) ps ≡ accepted ps first len msize
   unfolding accepted
   accepted_runs ps e = rw (← e)
 
   module _ (t : List (List ℕ)) where
-    pub planned_refused : {p : Place} {k : Refusal} {n : ℕ} → p ≡ agreed first len msize → p ≡ Refused k n → Planned t first len msize t p
+    pub planned_refused : {p : Place} {k : Refusal} {n : ℕ} → p ≡ agreed first len msize → p ≡ Err (k, n) → Planned t first len msize t p
     unfolding planned table_of
     planned_refused e f = let g = sym f ∙ e in record { table = rw (← g); answer = rw (← g) f }
 
-    module _ {m most n : ℕ} (e : At m ≡ agreed first len msize) (d : most ≡ most_data msize) (f : n ≡ fewest most len) where
-      pub planned_full : length t < n → Planned t first len msize t (Refused R.TableFull 0)
+    module _ {m most n : ℕ} (e : Ok m ≡ agreed first len msize) (d : most ≡ most_data msize) (f : n ≡ fewest most len) where
+      pub planned_full : length t < n → Planned t first len msize t (Err (R.TableFull, 0))
       unfolding planned table_of
       planned_full l = let g = lt-ltb (length t) n l in record { table = rw (← e, ← d, ← f, g); answer = rw (← e, ← d, ← f, g) }
 
-      pub planned_fits : {t' : List (List ℕ)} → n ≤ length t → t' ≡ cut most n first len ++ drop n t → Planned t first len msize t' (At n)
+      pub planned_fits : {t' : List (List ℕ)} → n ≤ length t → t' ≡ cut most n first len ++ drop n t → Planned t first len msize t' (Ok n)
       unfolding planned table_of
       planned_fits l j = let g = le-ltb (length t) n l in record { table = rw (← e, ← d, ← f, g) j; answer = rw (← e, ← d, ← f, g) }

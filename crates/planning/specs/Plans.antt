@@ -1,8 +1,7 @@
 -- A large write cut into pieces, each the data of a Twrite (F12). A row of a table is a piece.
-use Rattle.std.specs.Prelude.{ℕ, suc, zero, ◌+◌, ◌-◌, ◌/◌, min, ◌≡◌, Bool, false, cond, List, [], ◌∷◌, ◌++◌, length, drop, get_or, leb, ltb, eqb}
+use Rattle.numbers.specs.Place.{Place}
+use Rattle.std.specs.Prelude.{ℕ, suc, zero, ◌+◌, ◌-◌, ◌/◌, min, ◌≡◌, Bool, false, cond, List, [], ◌∷◌, ◌++◌, length, drop, get_or, leb, ltb, eqb, Ok, Err}
 use Rattle.numbers.specs.declared.Refusal.TheVariants as R
-use Rattle.numbers.specs.declared.Place.{Place}
-use Rattle.numbers.specs.declared.Place.TheVariants.{At, Refused}
 
 -- a piece: its offset and its length
 abbrev pub offset : List ℕ → ℕ
@@ -28,12 +27,12 @@ greatest = 18446744073709551615
 
 -- msize is at least 24, else 26; the end is at most the greatest u64, else 27
 unfoldable pub agreed : ℕ → ℕ → ℕ → Place
-agreed first len msize = cond (ltb msize 24) (Refused R.MsizeTooSmall 0) (cond (ltb greatest (first + len)) (Refused R.EndTooFar 0) (At 0))
+agreed first len msize = cond (ltb msize 24) (Err (R.MsizeTooSmall, 0)) (cond (ltb greatest (first + len)) (Err (R.EndTooFar, 0)) (Ok 0))
 
 -- no where 26 or 27 holds
 abbrev unless_refused : Place → Bool → Bool
-unless_refused (At n) b = b
-unless_refused (Refused k n) b = false
+unless_refused (Ok n) b = b
+unless_refused (Err f) b = false
 
 -- whether pieces are a plan of a write of so many bytes from an offset on
 unfoldable pub accepted : List (List ℕ) → ℕ → ℕ → ℕ → Bool
@@ -56,16 +55,16 @@ cut most (suc n) at left = (at ∷ min left most ∷ []) ∷ cut most n (at + mi
 
 -- how many: 26, 27, then 24 where the table has fewer rows
 abbrev pub room_for : Place → ℕ → ℕ → Place
-room_for (At m) room n = cond (ltb room n) (Refused R.TableFull 0) (At n)
-room_for (Refused k m) room n = Refused k m
+room_for (Ok m) room n = cond (ltb room n) (Err (R.TableFull, 0)) (Ok n)
+room_for (Err f) room n = Err f
 
 unfoldable pub planned : ℕ → ℕ → ℕ → ℕ → Place
 planned room first len msize = room_for (agreed first len msize) room (fewest (most_data msize) len)
 
 -- the pieces over the table's first rows; refused, the table is as it was
 abbrev pub laid : Place → List (List ℕ) → ℕ → ℕ → ℕ → List (List ℕ)
-laid (At n) t most first len = cut most n first len ++ drop n t
-laid (Refused k m) t most first len = t
+laid (Ok n) t most first len = cut most n first len ++ drop n t
+laid (Err f) t most first len = t
 
 unfoldable pub table_of : List (List ℕ) → ℕ → ℕ → ℕ → List (List ℕ)
 table_of t first len msize = laid (planned (length t) first len msize) t (most_data msize) first len

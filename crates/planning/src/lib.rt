@@ -7,7 +7,7 @@ ghost use Rattle.std.specs.Prelude.{◌≡◌, ◌+◌, ◌<◌, ◌≤◌, min 
 ghost use Rattle.planning.specs.Plans.{most_data, greatest, agreed, accepted, fewest, cut, Planned};
 ghost use Rattle.planning.specs.PlanLaws.{Follows};
 
-use numbers::{Place, Refusal};
+use numbers::{Fault, Place, Refusal};
 
 // What a Twrite has before its data: size, type, tag, fid, offset and count (F3.2).
 const HEAD: u32 = 23;
@@ -40,12 +40,12 @@ fn agree(first: u64, len: u64, msize: u32) -> Place
     ensures { result ≡ agreed first len msize }
 {
     if msize <= HEAD {
-        return Place::Refused(Refusal::MsizeTooSmall, 0);
+        return Err(Fault(Refusal::MsizeTooSmall, 0));
     }
     if LAST - first < len {
-        return Place::Refused(Refusal::EndTooFar, 0);
+        return Err(Fault(Refusal::EndTooFar, 0));
     }
-    Place::At(0)
+    Ok(0)
 }
 
 // How many pieces there are at the least: as many as are full, and one for what is left over.
@@ -81,17 +81,17 @@ pub fn plan(table: &mut [[u64; 2]], first: u64, len: u64, msize: u32) -> Place
     ensures { Planned table.old first len msize table.new result }
 {
     let p = agree(first, len, msize);
-    let Place::At(_) = p else {
+    let Ok(_) = p else {
         return p;
     };
     let most = most_data(msize);
     let n = fewest(len, most);
     if (table.len() as u64) < n {
-        return Place::Refused(Refusal::TableFull, 0);
+        return Err(Fault(Refusal::TableFull, 0));
     }
     let count = n as usize;
     put_pieces(table, count, first, len, most);
-    Place::At(count)
+    Ok(count)
 }
 
 // Whether a piece comes next where so much is left.
@@ -117,7 +117,7 @@ fn follows(offset: u64, size: u64, at: u64, left: u64, most: u64) -> bool
 pub fn accepts(pieces: &[[u64; 2]], first: u64, len: u64, msize: u32) -> bool
     ensures { result ≡ accepted pieces.now first len msize }
 {
-    let Place::At(_) = agree(first, len, msize) else {
+    let Ok(_) = agree(first, len, msize) else {
         return false;
     };
     let most = most_data(msize);

@@ -1,8 +1,8 @@
 -- A plan as Rust has it: the table that was lent, and its outcome, how many pieces or the refusal.
+use Rattle.numbers.specs.Place.{Place}
 use Rattle.std.specs.Prelude.{ℕ, ◌≡◌, List, length}
 use Rattle.std.proofs.Common.{ap, ◌∙◌}
 use Rattle.numbers.proofs.PlaceLaws.{one_answer}
-use Rattle.numbers.specs.declared.Place.{Place}
 use Rattle.planning.specs.Plans.{planned, table_of, Planned}
 use Rattle.exports.specs.Answers.{ended}
 use Rattle.exports.specs.declared.Outcome.{Outcome}

@@ -1,10 +1,9 @@
 -- One answer for each line and each place.
-use Rattle.std.specs.Prelude.{◌≡◌, ℕ, Bool, true, false, List}
+use Rattle.numbers.specs.Place.{Place}
+use Rattle.std.specs.Prelude.{◌≡◌, ℕ, Bool, true, false, List, Ok, Err}
 use Rattle.std.proofs.Common.{sym, ap₂, ◌∙◌}
 use Rattle.numbers.proofs.PlaceLaws.{one_answer}
 use Rattle.numbers.proofs.Refusals.{number_one}
-use Rattle.numbers.specs.declared.Place.{Place}
-use Rattle.numbers.specs.declared.Place.TheVariants.{At, Refused}
 use Rattle.questions.specs.declared.Question.{Question}
 use Rattle.questions.specs.Parts.{Places, Placed}
 use Rattle.questions.specs.Questions.{Taken}
@@ -16,9 +15,9 @@ taken_one a b = (one_answer a.answer b.answer, one_answer a.bytes.out b.bytes.ou
 -- a number, marked or not, is one place
 places_one : (n : ℕ) (m : Bool) (p q : Place) → Places n m p → Places n m q → p ≡ q
 places_one n false p q a b = one_answer a b
-places_one n true (Refused j x) (Refused k y) (a, c) (b, d) = ap₂ Refused (number_one (one_answer a.is b.is)) (c ∙ sym d)
-places_one n true (Refused j x) (At y) a b = absurd b
-places_one n true (At x) q a b = absurd a
+places_one n true (Err f) (Err e) (a, c) (b, d) = ap₂ Err (number_one (one_answer a.is b.is), c ∙ sym d)
+places_one n true (Err f) (Ok y) a b = absurd b
+places_one n true (Ok x) q a b = absurd a
 
 pub placed_one : {n : ℕ} {m : Bool} {p q : Place} → Placed n m p → Placed n m q → p ≡ q
 placed_one {n} {m} {p} {q} a b = places_one n m p q a.is b.is

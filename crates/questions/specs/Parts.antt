@@ -1,9 +1,8 @@
 -- What the small functions answer: parts of bytes, a line that was read, and places.
-use Rattle.std.specs.Prelude.{◌≡◌, ℕ, ◌-◌, ◌≤◌, min, max, Bool, true, false, cond, List, [], length, take, drop, replicate, ◌≢◌, nat_le}
+use Rattle.numbers.specs.Place.{Place}
+use Rattle.std.specs.Prelude.{◌≡◌, ℕ, ◌-◌, ◌≤◌, min, max, Bool, true, false, cond, List, [], length, take, drop, replicate, ◌≢◌, nat_le, Ok, Err}
 use Rattle.numbers.specs.Refusals.{number_of}
 use Rattle.numbers.specs.declared.Refusal.{Refusal}
-use Rattle.numbers.specs.declared.Place.{Place}
-use Rattle.numbers.specs.declared.Place.TheVariants.{At, Refused}
 
 -- a room of so many bytes that nothing has been put into
 unfoldable pub unused : ℕ → List ℕ
@@ -27,9 +26,9 @@ pub record Numbered (n : ℕ) (k : Refusal) : Type 0 where
 
 -- a position; refused by the number, where it is marked
 abbrev pub Places : ℕ → Bool → Place → Type 0
-Places n false p = p ≡ At n
-Places n true (Refused k at) = Numbered n k × (at ≡ 0)
-Places n true (At a) = ⊥
+Places n false p = p ≡ Ok n
+Places n true (Err f) = Numbered n f.0 × (f.1 ≡ 0)
+Places n true (Ok a) = ⊥
 
 pub record Placed (n : ℕ) (marked : Bool) (p : Place) : Type 0 where
   pub is : Places n marked p

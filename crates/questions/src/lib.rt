@@ -11,7 +11,7 @@ ghost use Rattle.std.specs.Prelude.{◌≡◌, ◌+◌, ◌-◌, ◌*◌, ◌<�
 ghost use Rattle.questions.specs.Parts.{Room, part_of, LineHeld, Numbered, Placed};
 ghost use Rattle.questions.specs.Questions.{is_digit, is_figure, run, ends, next_at, tens, figures_in, value, spelt, grown, sound_at, Laid, Taken};
 
-use numbers::{Place, Refusal};
+use numbers::{Fault, Place, Refusal};
 
 // As much room as any line, its bytes or an output want, all ee. The promise has its length too, which lending the array asks.
 pub fn room() -> [u8; 170000]
@@ -308,9 +308,9 @@ pub fn place(n: u64, marked: bool) -> Place
     ensures { Placed n marked result }
 {
     if marked {
-        return Place::Refused(refusal(n), 0);
+        return Err(Fault(refusal(n), 0));
     }
-    Place::At(n as usize)
+    Ok(n as usize)
 }
 
 pub fn word(text: &[u8]) {
@@ -358,8 +358,8 @@ pub fn at(refusal: u8, n: usize) {
 
 pub fn placed(p: Place) {
     match p {
-        Place::At(n) => at(0, n),
-        Place::Refused(k, _) => at(numbers::number(k), 0),
+        Ok(n) => at(0, n),
+        Err(Fault(k, _)) => at(numbers::number(k), 0),
     }
 }
 
@@ -422,11 +422,11 @@ pub fn again(out: &[u8], p: Place) {
     let kept = [0xeeu8; 1024];
     let mut end = 0;
     match p {
-        Place::At(n) => {
+        Ok(n) => {
             end = n;
             print(part(out, 0, n));
         }
-        Place::Refused(k, _) => figure(numbers::number(k) as u64),
+        Err(Fault(k, _)) => figure(numbers::number(k) as u64),
     }
     if !check::same(part(out, end, 1024), part(&kept, end, 1024)) {
         word(b" and more");

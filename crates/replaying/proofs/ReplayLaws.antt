@@ -1,7 +1,8 @@
 -- What holds of the definitions in specs/ReplayLaws.antt.
+use Rattle.numbers.specs.Place.{Place}
 use Prim.Native.Nat.{ℕ, suc, ◌+◌, ◌-◌, ◌≤◌, ◌<◌}
 use native.Mathlib.Omega.{arith}
-use Rattle.std.specs.Prelude.{◌≡◌, refl, Bool, true, false, cond, List, ◌∷◌, length, take, drop}
+use Rattle.std.specs.Prelude.{◌≡◌, refl, Bool, true, false, cond, List, ◌∷◌, length, take, drop, Ok}
 use Rattle.std.proofs.Common.{sym, ◌∙◌, length-append, length-take-le, lt-ltb, le-ltb}
 use Rattle.std.proofs.Math.Path.{ap}
 use Rattle.io.specs.Counts.{IsPrefixLen}
@@ -13,8 +14,6 @@ use Rattle.numbers.specs.Places.{Put}
 use Rattle.numbers.proofs.PlaceLaws.{one_answer}
 use Rattle.numbers.specs.declared.Refusal.{Refusal}
 use Rattle.numbers.specs.declared.Refusal.TheVariants as R
-use Rattle.numbers.specs.declared.Place.{Place}
-use Rattle.numbers.specs.declared.Place.TheVariants.{At}
 use Rattle.layouts.specs.Tables.{table_t, table_r}
 use Rattle.layouts.specs.Bodies.{Answer, accepted, refused}
 use Rattle.framing.specs.Stretch.{Listing, entry, ends, stops, listing}
@@ -82,14 +81,14 @@ module _ {bs o : List ℕ} {p₀ : Place} where
 -- ---- the text
 
 module _ {file o : List ℕ} where
-  pub text_long : {o1 : List ℕ} {p : Place} → 65536 < length file → Put too_long o (At 0) o1 p → ReplayPut file o o1 p
+  pub text_long : {o1 : List ℕ} {p : Place} → 65536 < length file → Put too_long o (Ok 0) o1 p → ReplayPut file o o1 p
   text_long h a = record { is = rw (lt-ltb 65536 (length file) h) (all_put a all_none) }
 
   module _ (h : length file ≤ 65536) {b : Bool} (e : b ≡ sealed file) where
-    pub text_followed : {o1 o2 : List ℕ} {p q : Place} {n : ℕ} → b ≡ true → n ≡ length file - 12 → Put header o (At 0) o1 p → LinesPut (take n file) o1 p o2 q → ReplayPut file o o2 q
+    pub text_followed : {o1 o2 : List ℕ} {p q : Place} {n : ℕ} → b ≡ true → n ≡ length file - 12 → Put header o (Ok 0) o1 p → LinesPut (take n file) o1 p o2 q → ReplayPut file o o2 q
     text_followed t f a l = record { is = rw (le-ltb 65536 (length file) h, ← e, t) (all_put a (rw f at l.is)) }
 
-    pub text_unsealed : {o1 : List ℕ} {p : Place} → b ≡ false → LastPut stop_word 0 (number_of R.Trailer) o (At 0) o1 p → ReplayPut file o o1 p
+    pub text_unsealed : {o1 : List ℕ} {p : Place} → b ≡ false → LastPut stop_word 0 (number_of R.Trailer) o (Ok 0) o1 p → ReplayPut file o o1 p
     text_unsealed t l = record { is = rw (le-ltb 65536 (length file) h, ← e, t) l.is }
 
 -- ---- it fits the room

@@ -1,7 +1,7 @@
 -- The lines that are put one after another are those of the fold; the text fits the room.
+use Rattle.numbers.specs.Place.{Place}
 use Prim.Native.Nat.{ℕ}
 use Rattle.std.specs.Prelude.{List}
-use Rattle.numbers.specs.declared.Place.{Place}
 use Rattle.layouts.specs.Tables.{table_t, table_r}
 use Rattle.framing.proofs.ListingLaws.{listed}
 use Rattle.listing.specs.Text.{PiecesPut, lines_from}

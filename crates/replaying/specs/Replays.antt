@@ -1,10 +1,9 @@
 -- A recording followed (F15.8, F15.11): the fold of the session over the listing of its stretch, and the text.
-use Rattle.std.specs.Prelude.{ℕ, ◌≡◌, cond, List, [], ◌∷◌, length, ltb}
+use Rattle.numbers.specs.Place.{Place}
+use Rattle.std.specs.Prelude.{ℕ, ◌≡◌, cond, List, [], ◌∷◌, length, ltb, Ok}
 use Rattle.numbers.specs.Refusals.{number_of}
 use Rattle.numbers.specs.Places.{over}
 use Rattle.numbers.specs.declared.Refusal.TheVariants as R
-use Rattle.numbers.specs.declared.Place.{Place}
-use Rattle.numbers.specs.declared.Place.TheVariants.{At}
 use Rattle.layouts.specs.Tables.{table_t, table_r}
 use Rattle.layouts.specs.Bodies.{Answer, refused}
 use Rattle.framing.specs.Stretch.{Listing, entry, ends, stops, listing}
@@ -47,7 +46,7 @@ pub record LinesPut (bs o : List ℕ) (p : Place) (o' : List ℕ) (q : Place) : 
   pub is : PiecesPut (lines_from 0 (replay bs)) o p o' q
 
 pub record ReplayPut (file o o' : List ℕ) (q : Place) : Type 0 where
-  pub is : PiecesPut (text file) o (At 0) o' q
+  pub is : PiecesPut (text file) o (Ok 0) o' q
 
 -- the text at the front of the room, the rest of the room as it was; the text's length
 pub record Replayed (file o o' : List ℕ) (n : ℕ) : Type 0 where

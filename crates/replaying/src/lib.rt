@@ -54,14 +54,14 @@ fn put_replay(out: &mut [u8], file: &[u8]) -> Place
     ensures { ReplayPut file.now out.old out.new result }
 {
     if 65536 < file.len() {
-        return listing::put_too_long(out, Place::At(0));
+        return listing::put_too_long(out, Ok(0));
     }
     if sealing::sealed(file) {
         let end = numbers::saturating_sub(file.len(), sealing::TRAILER);
-        let p = listing::put_header(out, Place::At(0));
+        let p = listing::put_header(out, Ok(0));
         return put_lines(out, p, &file[..end]);
     }
-    listing::put_stop(out, Place::At(0), 0, Refusal::Trailer)
+    listing::put_stop(out, Ok(0), 0, Refusal::Trailer)
 }
 
 // What the program writes of a file, at the front of the room: how many bytes that is. A replay is no longer than the listing of its stretch may be.

@@ -17,7 +17,7 @@ use messages::files::{Rlcreate, Rlopen};
 use messages::sessions::Rlerror;
 use metadata::attributes::{Rgetattr, Rstatfs, Rxattrwalk};
 use metadata::locks::{Rgetlock, Rlock};
-use numbers::{Place, Refusal};
+use numbers::{Fault, Place, Refusal};
 
 #[derive(Clone, Copy)]
 pub enum Rmessage {
@@ -63,8 +63,8 @@ fn finish(m: Rmessage, end: Place) -> Rbody
     ensures { view_r result ≡ finish_at (type_r m) (values_r m) end }
 {
     match end {
-        Place::At(n) => Rbody::Message(m, n),
-        Place::Refused(k, n) => Rbody::Refused(k, n),
+        Ok(n) => Rbody::Message(m, n),
+        Err(Fault(k, n)) => Rbody::Refused(k, n),
     }
 }
 

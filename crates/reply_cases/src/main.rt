@@ -7,7 +7,7 @@
 mod listed;
 
 use frames::ReadRframe;
-use numbers::Place;
+use numbers::{Fault, Place};
 use replies::Rbody;
 
 // A body read at a place and written again there.
@@ -18,7 +18,7 @@ fn body(out: &mut [u8], ty: u8, p: Place, s: &[u8]) -> Place {
             questions::at(0, end);
             replies::write_rmessage(out, p, s, m)
         }
-        Rbody::Refused(k, n) => Place::Refused(k, n),
+        Rbody::Refused(k, n) => Err(Fault(k, n)),
     }
 }
 
@@ -33,7 +33,7 @@ fn reply(s: &[u8], ty: u8, out: &mut [u8]) -> Place {
         }
         ReadRframe::Refused(k, _) => {
             questions::head(numbers::number(k), 0, 0, false, 0);
-            Place::At(0)
+            Ok(0)
         }
     }
 }

@@ -11,7 +11,7 @@ use exports::Outcome;
 use flat::WIDTH_R;
 use framing::Head;
 use layouts::ids::Tag;
-use numbers::{Place, Refusal};
+use numbers::{Fault, Place, Refusal};
 
 // What `frames::read_rframe` answers, as `request_exports` has it for requests; but a reply whose body is refused is refused whole, and has no
 // tag.
@@ -21,13 +21,13 @@ pub fn sheafsledge_read_rframe(bytes: &[u8], values: &mut [u64; WIDTH_R]) -> Out
     let head = framing::read_header(bytes);
     match head {
         Head::Held(n, ty, tag) => {
-            let next = flat_replies::read_flat(&bytes[..n], ty, Place::At(framing::BODY), values);
-            let Place::At(_) = next else {
+            let next = flat_replies::read_flat(&bytes[..n], ty, Ok(framing::BODY), values);
+            let Ok(_) = next else {
                 return exports::ended(next);
             };
             exports::outcome_of(ty, tag, true, next)
         }
-        Head::Refused(k) => exports::ended(Place::Refused(k, 0)),
+        Head::Refused(k) => exports::ended(Err(Fault(k, 0))),
     }
 }
 
@@ -43,8 +43,8 @@ pub fn sheafsledge_write_rframe(
     ensures { FlatWrote table_r refusal ty tag.0 values.now lent.now out.old out.new result }
 {
     if refusal != 0 {
-        return exports::ended(Place::Refused(Refusal::HoldsRefusal, 0));
+        return exports::ended(Err(Fault(Refusal::HoldsRefusal, 0)));
     }
-    let end = flat_replies::write_flat(out, Place::At(framing::BODY), lent, ty, values);
+    let end = flat_replies::write_flat(out, Ok(framing::BODY), lent, ty, values);
     exports::ended(framing::put_header(out, end, ty, tag.0))
 }

@@ -1,8 +1,7 @@
 -- A request whose two strings are lent apart, as Rust has it (F5.20).
-use Rattle.std.specs.Prelude.{ℕ, ◌≡◌, refl, List, ◌++◌}
+use Rattle.numbers.specs.Place.{Place}
+use Rattle.std.specs.Prelude.{ℕ, ◌≡◌, refl, List, ◌++◌, Ok}
 use Rattle.std.proofs.Math.Option.{some}
-use Rattle.numbers.specs.declared.Place.{Place}
-use Rattle.numbers.specs.declared.Place.TheVariants.{At}
 use Rattle.fields.specs.Layouts.{Layout}
 use Rattle.layouts.specs.Tables.{Row, table_t, lookup}
 use Rattle.framing.specs.Writing.{HeadPut}
@@ -17,7 +16,7 @@ use Rattle.exports.specs.declared.Outcome.{Outcome}
 pub record TwoWrote (ty tag : ℕ) (ns first second o o' : List ℕ) (r : Outcome) : Type 0 where
   pub is : FlatWrote table_two 0 ty tag (together (lookup table_two ty) first second ns) (first ++ second) o o' r
 
-pub two_wrote : {ty tag : ℕ} {ns first second o o1 o2 : List ℕ} {e q : Place} {r : Outcome} → ApartWritten (lookup table_two ty) first second ns o (At 7) o1 e → HeadPut ty tag e o1 o2 q
+pub two_wrote : {ty tag : ℕ} {ns first second o o1 o2 : List ℕ} {e q : Place} {r : Outcome} → ApartWritten (lookup table_two ty) first second ns o (Ok 7) o1 e → HeadPut ty tag e o1 o2 q
     → r ≡ ended q → TwoWrote ty tag ns first second o o2 r
 two_wrote b h x = record { is = frame_wrote refl b.is h x }
 

@@ -12,7 +12,7 @@ use exports::Outcome;
 use flat::WIDTH_T;
 use framing::Head;
 use layouts::ids::Tag;
-use numbers::{Place, Refusal};
+use numbers::{Fault, Place, Refusal};
 
 // What `frames::read_tframe` answers. A record goes flat in the arm that reads it, and through no enum; where the frame is refused, the
 // values are as they were. If its body is, it still has its tag.
@@ -22,10 +22,10 @@ pub fn sheafsledge_read_tframe(bytes: &[u8], values: &mut [u64; WIDTH_T]) -> Out
     let head = framing::read_header(bytes);
     match head {
         Head::Held(n, ty, tag) => {
-            let next = flat_requests::read_flat(&bytes[..n], ty, Place::At(framing::BODY), values);
+            let next = flat_requests::read_flat(&bytes[..n], ty, Ok(framing::BODY), values);
             exports::outcome_of(ty, tag, true, next)
         }
-        Head::Refused(k) => exports::ended(Place::Refused(k, 0)),
+        Head::Refused(k) => exports::ended(Err(Fault(k, 0))),
     }
 }
 
@@ -42,9 +42,9 @@ pub fn sheafsledge_write_tframe(
     ensures { FlatWrote table_t refusal ty tag.0 values.now lent.now out.old out.new result }
 {
     if refusal != 0 {
-        return exports::ended(Place::Refused(Refusal::HoldsRefusal, 0));
+        return exports::ended(Err(Fault(Refusal::HoldsRefusal, 0)));
     }
-    let end = flat_requests::write_flat(out, Place::At(framing::BODY), lent, ty, values);
+    let end = flat_requests::write_flat(out, Ok(framing::BODY), lent, ty, values);
     exports::ended(framing::put_header(out, end, ty, tag.0))
 }
 
@@ -61,6 +61,6 @@ pub fn sheafsledge_write_two(
 ) -> Outcome
     ensures { TwoWrote ty tag.0 values.now first.now second.now out.old out.new result }
 {
-    let end = apart::write_flat(out, Place::At(framing::BODY), first, second, ty, values);
+    let end = apart::write_flat(out, Ok(framing::BODY), first, second, ty, values);
     exports::ended(framing::put_header(out, end, ty, tag.0))
 }

@@ -19,7 +19,7 @@ use messages::files::{Tfsync, Tlcreate, Tlopen};
 use messages::sessions::{Tattach, Tauth};
 use metadata::attributes::{Tgetattr, Tsetattr, Tstatfs, Txattrcreate, Txattrwalk};
 use metadata::locks::{Tgetlock, Tlock};
-use numbers::{Place, Refusal};
+use numbers::{Fault, Place, Refusal};
 
 #[derive(Clone, Copy)]
 pub enum Tmessage {
@@ -64,8 +64,8 @@ fn finish(m: Tmessage, end: Place) -> Tbody
     ensures { view_t result ≡ finish_at (type_t m) (values_t m) end }
 {
     match end {
-        Place::At(n) => Tbody::Message(m, n),
-        Place::Refused(k, n) => Tbody::Refused(k, n),
+        Ok(n) => Tbody::Message(m, n),
+        Err(Fault(k, n)) => Tbody::Refused(k, n),
     }
 }
 

@@ -1,5 +1,6 @@
 -- Counting the frames of a stretch, position by position; a sealed file reads to its end, and a stretch with its own trailer is sealed.
-use Rattle.std.specs.Prelude.{ℕ, zero, suc, pred, ◌+◌, ◌-◌, ◌^◌, ◌≤◌, ◌<◌, ◌≡◌, Bool, true, false, cond, List, [], ◌∷◌, ◌++◌, drop, ltb, eqb}
+use Rattle.numbers.specs.Place.{Place}
+use Rattle.std.specs.Prelude.{ℕ, zero, suc, pred, ◌+◌, ◌-◌, ◌^◌, ◌≤◌, ◌<◌, ◌≡◌, Bool, true, false, cond, List, [], ◌∷◌, ◌++◌, drop, ltb, eqb, Ok, Err}
 use native.Mathlib.Omega.{arith}
 use Rattle.std.proofs.Math.Path.{refl, sym, ap}
 use Rattle.std.proofs.Common.{◌∙◌, append_assoc, append-nil, length-append, length-take-le}
@@ -14,8 +15,6 @@ use Rattle.numbers.specs.Places.{Within, number_in, num_at, Put, NumRead}
 use Rattle.numbers.proofs.PlaceLaws.{put_stays, put_full, put_then}
 use Rattle.numbers.specs.declared.Refusal.{Refusal}
 use Rattle.numbers.specs.declared.Refusal.TheVariants as R
-use Rattle.numbers.specs.declared.Place.{Place}
-use Rattle.numbers.specs.declared.Place.TheVariants.{At, Refused}
 use Rattle.layouts.specs.Tables.{table_t, table_r}
 use Rattle.framing.specs.Stretch.{Listing, entry, ends, stops, list_from, listing}
 use Rattle.framing.specs.ListingLaws.{goes_on}
@@ -76,8 +75,8 @@ module _ (file : List ℕ) where
   unfolding sealed
   sealed_short h = rw (lt-ltb (length file) 12 h)
 
-  pub sealed_reads : {a b c : ℕ} {p q r : Place} {m : Measured} {t : Bool} → 12 ≤ length file → NumRead 4 file (At (length file - 12)) a p → NumRead 4 file (At (length file - 12 + 4)) b q
-      → NumRead 4 file (At (length file - 12 + 8)) c r → m ≡ extent_of (listing table_t table_r (stretch_in file)) → t ≡ tells a b c m → t ≡ sealed file
+  pub sealed_reads : {a b c : ℕ} {p q r : Place} {m : Measured} {t : Bool} → 12 ≤ length file → NumRead 4 file (Ok (length file - 12)) a p → NumRead 4 file (Ok (length file - 12 + 4)) b q
+      → NumRead 4 file (Ok (length file - 12 + 8)) c r → m ≡ extent_of (listing table_t table_r (stretch_in file)) → t ≡ tells a b c m → t ≡ sealed file
   unfolding sealed
   sealed_reads h x y z f e = rw (le-ltb (length file) 12 h, ← x.value, ← y.value, ← z.value, ← f) e
 
@@ -93,10 +92,10 @@ unfolding sealed
 sealed_ends file e = go (ltb (length file) 12) e
   where
     go : (t : Bool)
-        → cond t false (tells (num_at 4 file (At (length file - 12))) (num_at 4 file (At (length file - 12 + 4))) (num_at 4 file (At (length file - 12 + 8))) (extent_of (listing table_t table_r (stretch_in file)))) ≡ true
+        → cond t false (tells (num_at 4 file (Ok (length file - 12))) (num_at 4 file (Ok (length file - 12 + 4))) (num_at 4 file (Ok (length file - 12 + 8))) (extent_of (listing table_t table_r (stretch_in file)))) ≡ true
         → Ends (listing table_t table_r (stretch_in file))
     go true f = absurd (let z : ◌≡◌ {A = ℕ} 0 1 = cc in omega arith)
-    go false f = extent_ends (num_at 4 file (At (length file - 12))) (num_at 4 file (At (length file - 12 + 4))) (num_at 4 file (At (length file - 12 + 8))) 0 0 (listing table_t table_r (stretch_in file)) f
+    go false f = extent_ends (num_at 4 file (Ok (length file - 12))) (num_at 4 file (Ok (length file - 12 + 4))) (num_at 4 file (Ok (length file - 12 + 8))) 0 0 (listing table_t table_r (stretch_in file)) f
 
 -- ---- a trailer that is written
 
@@ -104,15 +103,15 @@ pub trailer_length : (e : Extent) → length (trailer_bytes e) ≡ 12
 trailer_length e = simp (length-append, length_to_le)
 
 module _ (e : Extent) {o : List ℕ} where
-  pub put_long : 4294967295 < e.bytes → ExtentPut e o o (Refused R.Trailer 0)
+  pub put_long : 4294967295 < e.bytes → ExtentPut e o o (Err (R.Trailer, 0))
   put_long h = rw (lt-ltb 4294967295 e.bytes h) (put_stays refl)
 
-  pub put_crowded : e.bytes ≤ 4294967295 → length o < 12 → ExtentPut e o o (Refused R.NoRoom 0)
+  pub put_crowded : e.bytes ≤ 4294967295 → length o < 12 → ExtentPut e o o (Err (R.NoRoom, 0))
   put_crowded h l =
       let w : Within 0 12 (length o) false = record { is = omega arith } in
       rw (le-ltb 4294967295 e.bytes h) (put_full (trailer_length e) refl w refl)
 
-  pub put_three : {o1 o2 o3 : List ℕ} {a b c : Place} → e.bytes ≤ 4294967295 → 12 ≤ length o → Put (to_le 4 e.bytes) o (At 0) o1 a → Put (to_le 4 e.frames) o1 a o2 b
+  pub put_three : {o1 o2 o3 : List ℕ} {a b c : Place} → e.bytes ≤ 4294967295 → 12 ≤ length o → Put (to_le 4 e.bytes) o (Ok 0) o1 a → Put (to_le 4 e.frames) o1 a o2 b
       → Put (to_le 4 e.last) o2 b o3 c → ExtentPut e o o3 c
   put_three h l p q r =
       let s = put_then p q refl (simp (length-append, length_to_le) (omega arith)) in
@@ -122,7 +121,7 @@ module _ (bs : List ℕ) {o : List ℕ} {m : Measured} (f : m ≡ extent_of (lis
   pub put_whole : {e : Extent} {o' : List ℕ} {r : Place} → m ≡ M.Whole e → ExtentPut e o o' r → TrailerPut bs o o' r
   put_whole g p = rw (← f, g) p
 
-  pub put_none : {k : Refusal} {at : ℕ} → m ≡ M.Refused k at → TrailerPut bs o o (Refused k at)
+  pub put_none : {k : Refusal} {at : ℕ} → m ≡ M.Refused k at → TrailerPut bs o o (Err (k, at))
   put_none g = rw (← f, g) (put_stays refl)
 
 -- ---- a stretch with its own trailer is sealed
@@ -150,7 +149,7 @@ bounded (x ∷ xs) p zero n b h u v = go (λ k l. bounded xs (suc p) k (n + 1) p
         (λ k e. rw (list_stop table_t table_r p x xs e) tt)
 
 -- a number of four bytes where it was put
-num_there : (xs ys : List ℕ) (v n : ℕ) → v < 256 ^ 4 → length xs ≡ n → num_at 4 (xs ++ (to_le 4 v ++ ys)) (At n) ≡ v
+num_there : (xs ys : List ℕ) (v n : ℕ) → v < 256 ^ 4 → length xs ≡ n → num_at 4 (xs ++ (to_le 4 v ++ ys)) (Ok n) ≡ v
 unfolding num_at
 num_there xs ys v n h e = ap (λ (z : List ℕ). number_in (read_num 4 z)) (ap (λ m. drop m (xs ++ (to_le 4 v ++ ys))) (sym e) ∙ drop-append_seam xs (to_le 4 v ++ ys)) ∙ ap number_in ((reads_num 4 v h).back ys)
 
@@ -165,18 +164,18 @@ module _ (bs : List ℕ) (e : Extent) (f : extent_of (listing table_t table_r bs
   file_length : length file ≡ length bs + 12
   file_length = length-append bs (trailer_bytes e) ∙ ap (λ n. length bs + n) (trailer_length e)
 
-  first : num_at 4 file (At (length bs)) ≡ e.bytes
+  first : num_at 4 file (Ok (length bs)) ≡ e.bytes
   first =
       let x : file ≡ bs ++ (to_le 4 e.bytes ++ (to_le 4 e.frames ++ to_le 4 e.last)) = simp append_assoc in
       rw x (num_there bs (to_le 4 e.frames ++ to_le 4 e.last) e.bytes (length bs) h refl)
 
-  second : num_at 4 file (At (length bs + 4)) ≡ e.frames
+  second : num_at 4 file (Ok (length bs + 4)) ≡ e.frames
   second =
       let x : file ≡ bs ++ to_le 4 e.bytes ++ (to_le 4 e.frames ++ to_le 4 e.last) = simp append_assoc in
       let m = most.0 in
       rw x (num_there (bs ++ to_le 4 e.bytes) (to_le 4 e.last) e.frames (length bs + 4) (omega arith) (simp (length-append, length_to_le)))
 
-  third : num_at 4 file (At (length bs + 8)) ≡ e.last
+  third : num_at 4 file (Ok (length bs + 8)) ≡ e.last
   third =
       let x : file ≡ bs ++ to_le 4 e.bytes ++ to_le 4 e.frames ++ (to_le 4 e.last ++ []) = simp (append_assoc, append-nil) in
       let m = most.1 in

@@ -1,10 +1,9 @@
 -- The trailer of a recording (F15.2): bytes of frames, frames, the position of the last.
-use Rattle.std.specs.Prelude.{ℕ, ◌+◌, ◌-◌, Bool, false, cond, List, [], ◌++◌, length, take, ltb, eqb}
+use Rattle.numbers.specs.Place.{Place}
+use Rattle.std.specs.Prelude.{ℕ, ◌+◌, ◌-◌, Bool, false, cond, List, [], ◌++◌, length, take, ltb, eqb, Ok, Err}
 use Rattle.numbers.specs.Numbers.{to_le}
 use Rattle.numbers.specs.Places.{num_at, Put}
 use Rattle.numbers.specs.declared.Refusal.TheVariants as R
-use Rattle.numbers.specs.declared.Place.{Place}
-use Rattle.numbers.specs.declared.Place.TheVariants.{At, Refused}
 use Rattle.layouts.specs.Tables.{table_t, table_r}
 use Rattle.framing.specs.Stretch.{Listing, entry, ends, stops, listing}
 use Rattle.sealing.specs.declared.Extent.{Extent}
@@ -33,7 +32,7 @@ stretch_in file = take (length file - 12) file
 unfoldable pub sealed : List ℕ → Bool
 sealed file =
     cond (ltb (length file) 12) false
-    (tells (num_at 4 file (At (length file - 12))) (num_at 4 file (At (length file - 12 + 4))) (num_at 4 file (At (length file - 12 + 8))) (extent_of (listing table_t table_r (stretch_in file))))
+    (tells (num_at 4 file (Ok (length file - 12))) (num_at 4 file (Ok (length file - 12 + 4))) (num_at 4 file (Ok (length file - 12 + 8))) (extent_of (listing table_t table_r (stretch_in file))))
 
 -- ---- written
 
@@ -42,7 +41,7 @@ trailer_bytes e = to_le 4 e.bytes ++ to_le 4 e.frames ++ to_le 4 e.last
 
 -- bytes that four bytes cannot tell: 19
 abbrev pub told : Extent → Place
-told e = cond (ltb 4294967295 e.bytes) (Refused R.Trailer 0) (At 0)
+told e = cond (ltb 4294967295 e.bytes) (Err (R.Trailer, 0)) (Ok 0)
 
 abbrev pub trailer_of : Measured → List ℕ
 trailer_of (M.Whole e) = trailer_bytes e
@@ -51,7 +50,7 @@ trailer_of (M.Refused k p) = []
 -- 12 and 13, with the position; 19
 abbrev pub start_of : Measured → Place
 start_of (M.Whole e) = told e
-start_of (M.Refused k p) = Refused k p
+start_of (M.Refused k p) = Err (k, p)
 
 -- at the front of the output, or there is no room: 11
 abbrev pub ExtentPut : Extent → List ℕ → List ℕ → Place → Type 0

@@ -9,7 +9,7 @@ ghost use Rattle.framing.specs.Stretch.{listing};
 ghost use Rattle.sealing.specs.Trailers.{extent_of, tells, sealed, ExtentPut, TrailerPut};
 
 use framing::Cut;
-use numbers::{Place, Refusal};
+use numbers::{Fault, Place, Refusal};
 
 // Three numbers of four bytes.
 pub const TRAILER: usize = 12;
@@ -84,9 +84,9 @@ pub fn sealed(file: &[u8]) -> bool
         return false;
     }
     let end = file.len() - TRAILER;
-    let bytes = numbers::read_u32(file, Place::At(end));
-    let frames = numbers::read_u32(file, Place::At(end + 4));
-    let last = numbers::read_u32(file, Place::At(end + 8));
+    let bytes = numbers::read_u32(file, Ok(end));
+    let frames = numbers::read_u32(file, Ok(end + 4));
+    let last = numbers::read_u32(file, Ok(end + 8));
     tells(measure(&file[..end]), bytes.value, frames.value, last.value)
 }
 
@@ -97,7 +97,7 @@ pub fn write_trailer(out: &mut [u8], stretch: &[u8]) -> Place
     let m = measure(stretch);
     match m {
         Measured::Whole(e) => put_extent(out, e),
-        Measured::Refused(k, at) => Place::Refused(k, at),
+        Measured::Refused(k, at) => Err(Fault(k, at)),
     }
 }
 
@@ -105,12 +105,12 @@ fn put_extent(out: &mut [u8], e: Extent) -> Place
     ensures { ExtentPut e out.old out.new result }
 {
     if 4294967295 < e.bytes {
-        return Place::Refused(Refusal::Trailer, 0);
+        return Err(Fault(Refusal::Trailer, 0));
     }
     if out.len() < TRAILER {
-        return Place::Refused(Refusal::NoRoom, 0);
+        return Err(Fault(Refusal::NoRoom, 0));
     }
-    let a = numbers::put_num(out, Place::At(0), e.bytes as u64, 4);
+    let a = numbers::put_num(out, Ok(0), e.bytes as u64, 4);
     let b = numbers::put_num(out, a, e.frames as u64, 4);
     numbers::put_num(out, b, e.last as u64, 4)
 }

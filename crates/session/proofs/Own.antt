@@ -1,8 +1,7 @@
 -- What holds of the definitions in specs/Own.antt.
-use Rattle.std.specs.Prelude.{ℕ, ◌<◌, ◌≡◌, refl, Bool, true, false, cond, List, eqb}
+use Rattle.std.specs.Prelude.{ℕ, ◌<◌, ◌≡◌, refl, Bool, true, false, cond, List, eqb, Ok}
 use Rattle.std.proofs.Common.{arith, sym, ◌∙◌}
 use Rattle.numbers.specs.declared.Refusal.TheVariants as R
-use Rattle.numbers.specs.declared.Place.TheVariants as P
 use Rattle.layouts.specs.Tables.{table_t}
 use Rattle.pairs.specs.Pairs.{rlerror, pairs}
 use Rattle.places.specs.declared.Places.{Places}
@@ -65,7 +64,7 @@ given_own s fid p (S.At i) f =
 reached_full : (bs : List ℕ) (s : Session) (w : Way) (r : Request) → FitFor bs r w → OnlyFull (reached bs s w r).at
 unfolding reached
 reached_full bs s Y.Root r f = added_only_full s.places s.places.used 0 0
-reached_full bs s Y.Walk r f = walked_only_full bs r.count (P.At r.start) (record { places = s.places; at = S.At (place_of s r.known) }) f.1 tt
+reached_full bs s Y.Walk r f = walked_only_full bs r.count (Ok r.start) (record { places = s.places; at = S.At (place_of s r.known) }) f.1 tt
 reached_full bs s Y.Child r f = added_only_full s.places (place_of s r.known) r.start r.len
 reached_full bs s Y.Copy r f = tt
 

@@ -1,5 +1,5 @@
 -- What holds of the definitions in specs/Sound.antt.
-use Rattle.std.specs.Prelude.{ℕ, ◌<◌, ◌≡◌, Bool, cond, List, eqb}
+use Rattle.std.specs.Prelude.{ℕ, ◌<◌, ◌≡◌, Bool, cond, List, eqb, Ok}
 use Rattle.std.proofs.Common.{arith, ◌∙◌, inl, inr, length-set, get_or-set_other, eqb-true}
 use Rattle.std.proofs.Math.Path.{refl, sym}
 use Rattle.std.proofs.Math.Bool.{true, false}
@@ -9,7 +9,6 @@ use Rattle.std.proofs.Math.Seq.{get_or-set_same}
 use Rattle.std.proofs.lemmas.Bool.{eqb-false}
 use Rattle.numbers.specs.Numbers.{Bytes}
 use Rattle.numbers.specs.declared.Refusal.TheVariants as R
-use Rattle.numbers.specs.declared.Place.TheVariants as P
 use Rattle.layouts.specs.Tables.{table_t}
 use Rattle.pairs.specs.Pairs.{rlerror, pairs}
 use Rattle.places.specs.declared.Spot.{Spot}
@@ -189,7 +188,7 @@ module _ {bs : List ℕ} (b : Bytes bs) {s : Session} (d : Sound bs s) (r : Requ
   unfolding reached
   reached_grown Y.Root f k = (added_grown d.places s.places.used 0 0 (omega arith), added_named bs d.places d.names s.places.used 0 0 (omega arith))
   reached_grown Y.Walk f k =
-      (walked_grown bs r.count (P.At r.start) (stays f.0 (k f.0)), walked_named bs b r.count (P.At r.start) (stays f.0 (k f.0)) d.names)
+      (walked_grown bs r.count (Ok r.start) (stays f.0 (k f.0)), walked_named bs b r.count (Ok r.start) (stays f.0 (k f.0)) d.names)
   reached_grown Y.Child f k =
       let i = place_inside d r.known (k f.0) f.0 in
       (added_grown d.places (place_of s r.known) r.start r.len (omega arith), added_named bs d.places d.names (place_of s r.known) r.start r.len f.1)

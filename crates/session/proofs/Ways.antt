@@ -1,4 +1,6 @@
 -- For each way through the code: what the definition says there.
+use Rattle.std.specs.Prelude.{Ok, Err}
+use Rattle.numbers.specs.Place.{Place}
 use Prim.Native.Nat.{ℕ, ◌<◌, ◌≤◌}
 use native.Mathlib.Omega.{arith}
 use mathlib.Core.Path.{◌≡◌, refl, sym, ap, ◌∙◌}
@@ -13,8 +15,6 @@ use Rattle.numbers.specs.Places.{Put}
 use Rattle.numbers.proofs.PlaceLaws.{put_stays}
 use Rattle.numbers.specs.declared.Refusal.{Refusal}
 use Rattle.numbers.specs.declared.Refusal.TheVariants as R
-use Rattle.numbers.specs.declared.Place.{Place}
-use Rattle.numbers.specs.declared.Place.TheVariants as P
 use Rattle.layouts.specs.Tables.{table_t}
 use Rattle.pairs.specs.Pairs.{rlerror, pairs}
 use Rattle.places.specs.declared.Places.{Places}
@@ -175,7 +175,7 @@ module _ (bs : List ℕ) (s : Session) (r : Request) {from : ℕ} (e : from ≡ 
   unfolding reached
   reach_root h f = rw h f
 
-  pub reach_walk : {w : Way} {t : Reached} → w ≡ Y.Walk → t ≡ walked bs r.count (P.At r.start) (record { places = s.places; at = S.At from }) → t ≡ reached bs s w r
+  pub reach_walk : {w : Way} {t : Reached} → w ≡ Y.Walk → t ≡ walked bs r.count (Ok r.start) (record { places = s.places; at = S.At from }) → t ≡ reached bs s w r
   unfolding reached
   reach_walk h f = rw (h, ← e) f
 
@@ -366,9 +366,9 @@ module _ (s : Session) (e : Event) where
 -- ---- a path
 
 module _ (bs : List ℕ) (s : Session) (fid : ℕ) (o : List ℕ) {i : ℕ} (e : i ≡ row_of fid s.fids) where
-  pub path_known : {o' : List ℕ} {r : Place} → i < 64 → Put (path bs s.places (get_or s.at i 0)) o (P.At 0) o' r → FidPath bs s fid o o' r
+  pub path_known : {o' : List ℕ} {r : Place} → i < 64 → Put (path bs s.places (get_or s.at i 0)) o (Ok 0) o' r → FidPath bs s fid o o' r
   unfolding place_of
   path_known h w = rw (← e, lt-ltb i 64 h) w
 
-  pub path_unknown : 64 ≤ i → FidPath bs s fid o o (P.Refused R.FidUnknown 0)
+  pub path_unknown : 64 ≤ i → FidPath bs s fid o o (Err (R.FidUnknown, 0))
   path_unknown h = rw (← e, le-ltb i 64 h) (put_stays refl)

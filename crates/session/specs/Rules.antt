@@ -1,10 +1,9 @@
 -- The rules of a session, frame by frame (F15.5 to F15.9), on the record itself, so that every row of it is determined.
-use Rattle.std.specs.Prelude.{ℕ, Bool, true, false, cond, List, get_or, set, replicate, eqb}
+use Rattle.numbers.specs.Place.{Place}
+use Rattle.std.specs.Prelude.{ℕ, Bool, true, false, cond, List, get_or, set, replicate, eqb, Ok, Err}
 use Rattle.numbers.specs.Places.{Put}
 use Rattle.numbers.specs.declared.Refusal.{Refusal}
 use Rattle.numbers.specs.declared.Refusal.TheVariants as R
-use Rattle.numbers.specs.declared.Place.{Place}
-use Rattle.numbers.specs.declared.Place.TheVariants as P
 use Rattle.layouts.specs.Tables.{table_t}
 use Rattle.pairs.specs.Pairs.{rlerror, pairs}
 use Rattle.places.specs.declared.Places.{Places}
@@ -101,7 +100,7 @@ place_of s fid = cond (has fid s.fids) (get_or s.at (row_of fid s.fids) 0) 0
 -- the place that is given: a new root; where a walk from the fid's place ends; a child of that place; that place itself
 unfoldable pub reached : List ℕ → Session → Way → Request → Reached
 reached bs s Y.Root r = root s.places
-reached bs s Y.Walk r = walked bs r.count (P.At r.start) (record { places = s.places; at = S.At (place_of s r.known) })
+reached bs s Y.Walk r = walked bs r.count (Ok r.start) (record { places = s.places; at = S.At (place_of s r.known) })
 reached bs s Y.Child r = child s.places (place_of s r.known) r.start r.len
 reached bs s Y.Copy r = record { places = s.places; at = S.At (place_of s r.known) }
 
@@ -174,4 +173,4 @@ stepped bs s e = happened bs s e.ty e.tag e.what
 
 -- 23; then the path of its place is put at the front of the output, or there is no room: 11
 abbrev pub FidPath : List ℕ → Session → ℕ → List ℕ → List ℕ → Place → Type 0
-FidPath bs s fid o o' r = Put (path bs s.places (place_of s fid)) o (cond (has fid s.fids) (P.At 0) (P.Refused R.FidUnknown 0)) o' r
+FidPath bs s fid o o' r = Put (path bs s.places (place_of s fid)) o (cond (has fid s.fids) (Ok 0) (Err (R.FidUnknown, 0))) o' r

@@ -1,8 +1,7 @@
 -- What holds of a session after any frames (F15.9): open tags are distinct, fids are distinct, the places of fids are below the used ones, and
 -- each older place is not above its own.
-use Rattle.std.specs.Prelude.{ℕ, ◌+◌, ◌<◌, ◌≤◌, ◌≡◌, List, ◌⊎◌, length}
+use Rattle.std.specs.Prelude.{ℕ, ◌+◌, ◌<◌, ◌≤◌, ◌≡◌, List, ◌⊎◌, length, Ok}
 use Rattle.std.proofs.Math.ListN.{get_or}
-use Rattle.numbers.specs.declared.Place.TheVariants as P
 use Rattle.places.specs.Sound.{Sound as SoundPlaces}
 use Rattle.places.specs.Reads.{NamesRead}
 use Rattle.places.specs.Paths.{Named}
@@ -23,7 +22,7 @@ use Rattle.session.specs.Keys.{Distinct}
 pub record Fair (bs : List ℕ) (r : Request) : Type 0 where
   pub begins : (r.ty ≡ 110) ⊎ ((r.ty ≡ 14) ⊎ (r.ty ≡ 30)) → r.known < free
   pub lies : r.ty ≡ 14 → r.start + r.len ≤ length bs
-  pub reads : r.ty ≡ 110 → NamesRead bs r.count (P.At r.start)
+  pub reads : r.ty ≡ 110 → NamesRead bs r.count (Ok r.start)
 
 abbrev pub FairEvent : List ℕ → What → Type 0
 FairEvent bs (W.Asks r) = Fair bs r
@@ -43,7 +42,7 @@ pub record Sound (bs : List ℕ) (s : Session) : Type 0 where
 -- what a way asks of a request
 abbrev pub FitFor : List ℕ → Request → Way → Type 0
 FitFor bs r Y.Root = Unit {0}
-FitFor bs r Y.Walk = (r.known < free) × NamesRead bs r.count (P.At r.start)
+FitFor bs r Y.Walk = (r.known < free) × NamesRead bs r.count (Ok r.start)
 FitFor bs r Y.Child = (r.known < free) × (r.start + r.len ≤ length bs)
 FitFor bs r Y.Copy = r.known < free
 

@@ -11,7 +11,7 @@ ghost use Rattle.session.specs.About.{first_fid, fid_given, answered_fid, fid_of
 ghost use Rattle.session.specs.Rules.{fresh, accepts, refuses, unless, unfit, asked, effect_of, only_closes, closed, dropped, place_of, reached, held, given, done, finished, replied, answered, stepped, FidPath};
 
 use layouts::ids::Tag;
-use numbers::{Place, Refusal};
+use numbers::{Fault, Place, Refusal};
 use pairs::Mark;
 use places::{Places, Reached, Spot};
 use strings::Span;
@@ -509,5 +509,5 @@ pub fn write_path(out: &mut [u8], s: Session, fid: u32, stretch: &[u8]) -> Place
         let p = s.places;
         return places::write_path(out, p, place, stretch);
     }
-    Place::Refused(Refusal::FidUnknown, 0)
+    Err(Fault(Refusal::FidUnknown, 0))
 }

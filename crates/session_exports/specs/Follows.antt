@@ -1,10 +1,10 @@
 -- What Rust is told of a frame that a session follows, and of a path and a trailer that are written (F15.2, F15.8, F15.10, F15.12).
+use Rattle.numbers.specs.Place.{Place}
 use Rattle.std.specs.Prelude.{ℕ, ◌≡◌, true, false, List}
 use Rattle.std.proofs.Common.{sym, ◌∙◌}
 use Rattle.std.proofs.Math.Path.{ap}
 use Rattle.numbers.proofs.PlaceLaws.{one_answer, put_one}
 use Rattle.numbers.specs.Refusals.{number_of}
-use Rattle.numbers.specs.declared.Place.{Place}
 use Rattle.numbers.specs.declared.Refusal.{Refusal}
 use Rattle.layouts.specs.Tables.{table_t, table_r}
 use Rattle.layouts.specs.Bodies.{Answer}

@@ -1,5 +1,6 @@
 -- Fields followed by their counts, one after another at places (F14.3); and what that says of a box.
-use Rattle.std.specs.Prelude.{ℕ, ◌+◌, ◌-◌, ◌≤◌, ◌<◌, ◌≡◌, refl, Bool, true, false, cond, List, [], ◌∷◌, ◌++◌, map, length, take, drop, leb}
+use Rattle.numbers.specs.Place.{Place}
+use Rattle.std.specs.Prelude.{ℕ, ◌+◌, ◌-◌, ◌≤◌, ◌<◌, ◌≡◌, refl, Bool, true, false, cond, List, [], ◌∷◌, ◌++◌, map, length, take, drop, leb, Ok, Err}
 use Rattle.std.proofs.Common.{arith, sym, ap, ◌∙◌, append_assoc, length-append, take-append-drop, drop_at}
 use Rattle.std.proofs.Math.Path.{ap₂}
 use Rattle.std.proofs.Math.ListN.{length-drop}
@@ -12,8 +13,6 @@ use Rattle.numbers.specs.Places.{Within, read_at, rest_at, NumRead}
 use Rattle.numbers.proofs.PlaceLaws.{inside, outside, short_num, held_num, num_holds, num_refused}
 use Rattle.numbers.specs.declared.Refusal.{Refusal}
 use Rattle.numbers.specs.declared.Refusal.TheVariants as R
-use Rattle.numbers.specs.declared.Place.{Place}
-use Rattle.numbers.specs.declared.Place.TheVariants.{At, Refused}
 use Rattle.fields.specs.Layouts.{Shape, fixed, worded, follow}
 use Rattle.laying.specs.LayingLaws.{total}
 use Rattle.stats.specs.Stats.{Followed}
@@ -88,8 +87,8 @@ then_follow {fs} {gs} {s} {p} x y = record { is = y.is ∙ ap (λ z. rest_at (le
     at a (bad k i) e = refl
 
     from : (z : Place) → rest_at (length s) (read_at (follow gs) s (rest_at (length s) (read_at (follow fs) s z))) ≡ rest_at (length s) (read_at (follow (fs ++ gs)) s z)
-    from (At a) = at a (follow fs (drop a s)) refl ∙ ap (rest_at (length s)) (sym (follow_append fs gs (drop a s)))
-    from (Refused k i) = refl
+    from (Ok a) = at a (follow fs (drop a s)) refl ∙ ap (rest_at (length s)) (sym (follow_append fs gs (drop a s)))
+    from (Err f) = refl
 
 -- ---- numbers that stand together are passed as one
 
@@ -116,43 +115,43 @@ together w [] fs xs = ap (λ n. follow (fixed n ∷ fs) xs) (omega arith)
 together w (v ∷ ws) fs xs = merge w v (map fixed ws ++ fs) xs ∙ together (w + v) ws fs xs ∙ ap (λ n. follow (fixed n ∷ fs) xs) (omega arith)
 
 pub merged : (s : List ℕ) (p : Place) {q : Place} (w : ℕ) (ws : List ℕ) (fs : List Shape) → Followed (fixed (total (w ∷ ws)) ∷ fs) s p q → Followed (map fixed (w ∷ ws) ++ fs) s p q
-merged s (At a) w ws fs f = record { is = f.is ∙ ap (rest_at (length s)) (sym (together w ws fs (drop a s))) }
-merged s (Refused k at) w ws fs f = record { is = f.is }
+merged s (Ok a) w ws fs f = record { is = f.is ∙ ap (rest_at (length s)) (sym (together w ws fs (drop a s))) }
+merged s (Err e) w ws fs f = record { is = f.is }
 
 -- ---- numbers, and a string
 
-pub pass_refused : {fs : List Shape} {s : List ℕ} {p : Place} {k : Refusal} {at : ℕ} → p ≡ Refused k at → Followed fs s p p
+pub pass_refused : {fs : List Shape} {s : List ℕ} {p : Place} {k : Refusal} {at : ℕ} → p ≡ Err (k, at) → Followed fs s p p
 pass_refused e = record { is = rw e }
 
-module _ {n a : ℕ} {s : List ℕ} {p : Place} (e : p ≡ At a) {t : Bool} (i : Within a n (length s) t) where
-  pub skip_held : t ≡ true → Followed (fixed n ∷ []) s p (At (a + n))
+module _ {n a : ℕ} {s : List ℕ} {p : Place} (e : p ≡ Ok a) {t : Bool} (i : Within a n (length s) t) where
+  pub skip_held : t ≡ true → Followed (fixed n ∷ []) s p (Ok (a + n))
   unfolding follow
-  skip_held h = let l = inside i h in let d = length-drop (a + n) s in record { is = rw (e, held_num n a s l) (ap At (omega arith)) }
+  skip_held h = let l = inside i h in let d = length-drop (a + n) s in record { is = rw (e, held_num n a s l) (ap Ok (omega arith)) }
 
-  pub skip_short : 0 < n → t ≡ false → Followed (fixed n ∷ []) s p (Refused R.Short 0)
+  pub skip_short : 0 < n → t ≡ false → Followed (fixed n ∷ []) s p (Err (R.Short, 0))
   unfolding follow
   skip_short o h = record { is = rw (e, short_num n a s o (outside i h)) }
 
 module _ {s : List ℕ} {p q : Place} {x : ℕ} (r : NumRead 2 s p x q) where
-  pub pass_cut : {k : Refusal} {at : ℕ} → q ≡ Refused k at → Followed (worded ∷ []) s p q
+  pub pass_cut : {k : Refusal} {at : ℕ} → q ≡ Err (k, at) → Followed (worded ∷ []) s p q
   unfolding follow
   pass_cut {k} {at} f = record { is = f ∙ go p (num_refused r f).reads }
     where
-      go : (z : Place) → read_at (read_num 2) s z ≡ bad k at → Refused k at ≡ rest_at (length s) (read_at (follow (worded ∷ [])) s z)
-      go (At a) g = rw g
-      go (Refused j b) g = let h : j ≡ k = cc g in let i : b ≡ at = cc g in ap₂ Refused (sym h) (sym i)
+      go : (z : Place) → read_at (read_num 2) s z ≡ bad k at → Err (k, at) ≡ rest_at (length s) (read_at (follow (worded ∷ [])) s z)
+      go (Ok a) g = rw g
+      go (Err f) g = let h : f.0 ≡ k = cc g in let i : f.1 ≡ at = cc g in ap₂ Err (sym h, sym i)
 
-  module _ {b : ℕ} (f : q ≡ At b) {u : Bool} (j : Within b x (length s) u) where
-    pub pass_end : u ≡ true → Followed (worded ∷ []) s p (At (b + x))
+  module _ {b : ℕ} (f : q ≡ Ok b) {u : Bool} (j : Within b x (length s) u) where
+    pub pass_end : u ≡ true → Followed (worded ∷ []) s p (Ok (b + x))
     unfolding follow raw
     pass_end g =
         let H = num_holds (omega arith) r f in
         let l = inside j g in
         let d = length-drop b s in
         let c = length-drop (b + x) s in
-        record { is = rw (H.place, H.reads, le-leb x (length (drop b s)) (omega arith), drop-drop x b s) (ap At (omega arith)) }
+        record { is = rw (H.place, H.reads, le-leb x (length (drop b s)) (omega arith), drop-drop x b s) (ap Ok (omega arith)) }
 
-    pub pass_out : u ≡ false → Followed (worded ∷ []) s p (Refused R.Short 0)
+    pub pass_out : u ≡ false → Followed (worded ∷ []) s p (Err (R.Short, 0))
     unfolding follow
     pass_out g =
         let H = num_holds (omega arith) r f in

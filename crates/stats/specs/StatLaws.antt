@@ -1,5 +1,6 @@
 -- The ways that the reader of a stat goes, over any box: whether its counts agree, and where its fields are.
-use Rattle.std.specs.Prelude.{ℕ, ◌+◌, ◌-◌, ◌≤◌, refl, Bool, true, false, cond, List, [], ◌∷◌, ◌++◌, map, length, take, drop, eqb}
+use Rattle.numbers.specs.Place.{Place}
+use Rattle.std.specs.Prelude.{ℕ, ◌+◌, ◌-◌, ◌≤◌, refl, Bool, true, false, cond, List, [], ◌∷◌, ◌++◌, map, length, take, drop, eqb, Ok, Err}
 use Rattle.std.proofs.Common.{arith, ap, ap₂, ◌∙◌, length-take-le}
 use Rattle.std.proofs.Math.Path.{◌≡◌, sym}
 use Rattle.std.proofs.lemmas.List.{map-append}
@@ -14,8 +15,6 @@ use Rattle.numbers.specs.PlaceLaws.{Held}
 use Rattle.numbers.proofs.PlaceLaws.{inside, outside, held_num, num_holds, num_refused}
 use Rattle.numbers.specs.declared.Refusal.{Refusal}
 use Rattle.numbers.specs.declared.Refusal.TheVariants as R
-use Rattle.numbers.specs.declared.Place.{Place}
-use Rattle.numbers.specs.declared.Place.TheVariants.{At, Refused}
 use Rattle.strings.specs.Spans.{SpanPut}
 use Rattle.fields.specs.Layouts.{Shape, fixed, worded, boxed, box, read_cells, follow, at_end, agrees, read_field}
 use Rattle.fields.proofs.LayoutLaws.{agreed}
@@ -41,7 +40,7 @@ record Size (s : List ℕ) (start x first : ℕ) : Type 0 where
   pub inner : drop 2 (drop start s) ≡ drop first s
   pub length_is : length (drop start s) - 2 ≡ length s - first
 
-size : {s : List ℕ} {start x first : ℕ} {p : Place} → NumRead 2 s (At start) x p → p ≡ At first → Size s start x first
+size : {s : List ℕ} {start x first : ℕ} {p : Place} → NumRead 2 s (Ok start) x p → p ≡ Ok first → Size s start x first
 size {s} {start} {x} {first} r e =
     let H = num_holds (omega arith) r e in
     let k : start ≡ H.at = (let z = H.place in cc z) in
@@ -53,11 +52,11 @@ size {s} {start} {x} {first} r e =
     let v = sym (rw (← k) at H.reads) ∙ held_num 2 start s h in
     record { two = h; first_is = i; value = cc v; inner = drop-drop 2 start s ∙ ap (λ n. drop n s) (sym i); length_is = omega arith }
 
-pub first_within : {s : List ℕ} {start x first : ℕ} {p : Place} → NumRead 2 s (At start) x p → p ≡ At first → first ≤ length s
+pub first_within : {s : List ℕ} {start x first : ℕ} {p : Place} → NumRead 2 s (Ok start) x p → p ≡ Ok first → first ≤ length s
 first_within r e = let S = size r e in let a = S.two in let b = S.first_is in omega arith
 
-module _ (fs : List Shape) {s : List ℕ} {start x : ℕ} {p : Place} (l : start ≤ length s) (r : NumRead 2 s (At start) x p) where
-  pub agree_short : {k : Refusal} {at : ℕ} → p ≡ Refused k at → false ≡ agrees fs (drop start s)
+module _ (fs : List Shape) {s : List ℕ} {start x : ℕ} {p : Place} (l : start ≤ length s) (r : NumRead 2 s (Ok start) x p) where
+  pub agree_short : {k : Refusal} {at : ℕ} → p ≡ Err (k, at) → false ≡ agrees fs (drop start s)
   unfolding agrees
   agree_short e =
       let d = length-drop start s in
@@ -65,7 +64,7 @@ module _ (fs : List Shape) {s : List ℕ} {start x : ℕ} {p : Place} (l : start
       (λ h. absurd (let f = sym (num_refused r e).reads ∙ held_num 2 start s h in let z : ◌≡◌ {A = ℕ} 0 1 = cc f in omega arith))
       (λ h. rw (lt-leb 2 (length (drop start s)) (omega arith)))
 
-  module _ {first : ℕ} (e : p ≡ At first) where
+  module _ {first : ℕ} (e : p ≡ Ok first) where
     pub agree_size : (x ≡ length s - first → ⊥) → false ≡ agrees fs (drop start s)
     unfolding agrees
     agree_size n =
@@ -74,7 +73,7 @@ module _ (fs : List Shape) {s : List ℕ} {start x : ℕ} {p : Place} (l : start
         let a = S.two in
         rw (le-leb 2 (length (drop start s)) (omega arith), ← S.value, S.length_is, ne_eqb x (length s - first) n)
 
-    module _ (n : x ≡ length s - first) {q : Place} (f : Followed fs s (At first) q) where
+    module _ (n : x ≡ length s - first) {q : Place} (f : Followed fs s (Ok first) q) where
       told : agrees fs (drop start s) ≡ at_end (follow fs (drop first s))
       unfolding agrees
       told =
@@ -83,17 +82,17 @@ module _ (fs : List Shape) {s : List ℕ} {start x : ℕ} {p : Place} (l : start
           let a = S.two in
           rw (le-leb 2 (length (drop start s)) (omega arith), ← S.value, S.length_is, eq-eqb x (length s - first) n, S.inner)
 
-      pub agree_refused : {k : Refusal} {at : ℕ} → q ≡ Refused k at → false ≡ agrees fs (drop start s)
+      pub agree_refused : {k : Refusal} {at : ℕ} → q ≡ Err (k, at) → false ≡ agrees fs (drop start s)
       agree_refused {k} {at} h = sym (told ∙ go (follow fs (drop first s)) (sym f.is ∙ h))
         where
-          go : (m : Result ℕ) → rest_at (length s) m ≡ Refused k at → at_end m ≡ false
+          go : (m : Result ℕ) → rest_at (length s) m ≡ Err (k, at) → at_end m ≡ false
           go (ok a t) g = absurd (let z : ◌≡◌ {A = ℕ} 0 1 = cc g in omega arith)
           go (bad j b) g = refl
 
-      pub agree_end : {end : ℕ} {t : Bool} → q ≡ At end → t ≡ eqb end (length s) → t ≡ agrees fs (drop start s)
+      pub agree_end : {end : ℕ} {t : Bool} → q ≡ Ok end → t ≡ eqb end (length s) → t ≡ agrees fs (drop start s)
       agree_end {end} {t} h u = u ∙ sym (told ∙ go (follow fs (drop first s)) refl (sym f.is ∙ h))
         where
-          go : (m : Result ℕ) → follow fs (drop first s) ≡ m → rest_at (length s) m ≡ At end → at_end m ≡ eqb end (length s)
+          go : (m : Result ℕ) → follow fs (drop first s) ≡ m → rest_at (length s) m ≡ Ok end → at_end m ≡ eqb end (length s)
           go (ok a []) i g = let w : length s - 0 ≡ end = cc g in sym (eq-eqb end (length s) (omega arith))
           go (ok a (y ∷ ys)) i g =
               let w : length s - length (y ∷ ys) ≡ end = cc g in
@@ -117,13 +116,13 @@ start_two fs s start n a g w =
     omega arith
 
 -- the count is cut off
-pub open_cut : {fs : List Shape} {s : List ℕ} {p q : Place} {n : ℕ} {k : Refusal} {at : ℕ} → NumRead 2 s p n q → q ≡ Refused k at → Opened fs s p q (length s)
+pub open_cut : {fs : List Shape} {s : List ℕ} {p q : Place} {n : ℕ} {k : Refusal} {at : ℕ} → NumRead 2 s p n q → q ≡ Err (k, at) → Opened fs s p q (length s)
 unfolding past_field read_field
 open_cut {fs} {s} {p} {q} {n} {k} {at} r e = record { lies = omega arith; refuses = λ j b f. from p (num_refused r e).reads ∙ sym e ∙ f; opens = λ m f. absurd (let d = sym e ∙ f in let z : ◌≡◌ {A = ℕ} 0 1 = cc d in omega arith) }
   where
-    from : (x : Place) → read_at (read_num 2) s x ≡ bad k at → past_field (boxed fs) s x ≡ Refused k at
-    from (At a) f = rw f
-    from (Refused j b) f = let g : j ≡ k = cc f in let h : b ≡ at = cc f in ap₂ Refused g h
+    from : (x : Place) → read_at (read_num 2) s x ≡ bad k at → past_field (boxed fs) s x ≡ Err (k, at)
+    from (Ok a) f = rw f
+    from (Err e) f = let g : e.0 ≡ k = cc f in let h : e.1 ≡ at = cc f in ap₂ Err (g, h)
 
 module _ (fs : List Shape) {s : List ℕ} {p : Place} {n start : ℕ} (H : Held 2 s p n start) where
   past_is : past_field (boxed fs) s p
@@ -132,7 +131,7 @@ module _ (fs : List Shape) {s : List ℕ} {p : Place} {n start : ℕ} (H : Held 
   past_is = rw (H.place, H.reads)
 
   -- its bytes are cut off
-  pub open_short : {t : Bool} → Within start n (length s) t → t ≡ false → Opened fs s p (Refused R.Short 0) (length s)
+  pub open_short : {t : Bool} → Within start n (length s) t → t ≡ false → Opened fs s p (Err (R.Short, 0)) (length s)
   open_short i h =
       let a = H.fits in
       let b = H.ends in
@@ -156,14 +155,14 @@ module _ (fs : List Shape) {s : List ℕ} {p : Place} {n start : ℕ} (H : Held 
     agreeing = g ∙ ap (agrees fs) bytes_are
 
     -- its counts do not agree
-    pub open_wrong : b ≡ false → Opened fs s p (Refused R.StatMalformed 0) (length s)
+    pub open_wrong : b ≡ false → Opened fs s p (Err (R.StatMalformed, 0)) (length s)
     open_wrong w = record {
       lies = omega arith;
       refuses = λ k at f. past_is ∙ rw (held, sym agreeing ∙ w) f;
       opens = λ m f. absurd (let z : ◌≡◌ {A = ℕ} 0 1 = cc f in omega arith);
     }
 
-    pub open_well : b ≡ true → Opened fs s p (At (start + 2)) (start + n)
+    pub open_well : b ≡ true → Opened fs s p (Ok (start + 2)) (start + n)
     open_well w =
         let two = (agreed fs (take n (drop start s)) (sym agreeing ∙ w)).two in
         let len = length-take-le n (drop start s) (let d = length-drop start s in omega arith) in

@@ -1,8 +1,8 @@
 -- What the records of both stats hold of them (F14.2, F16.2), and what their functions answer.
+use Rattle.numbers.specs.Place.{Place}
 use Rattle.std.specs.Prelude.{ℕ, ◌≡◌, Bool, true, false, List, [], ◌∷◌, ◌++◌, map, length, get_or}
 use Rattle.std.proofs.Common.{ap}
 use Rattle.numbers.specs.Places.{read_at, rest_at}
-use Rattle.numbers.specs.declared.Place.{Place}
 use Rattle.strings.specs.declared.Span.{Span}
 use Rattle.fields.specs.Layouts.{Shape, follow}
 use Rattle.fields.specs.Values.{Slot, slot, text, slot_num, slot_start, slot_len, Value, block}

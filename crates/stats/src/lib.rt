@@ -16,7 +16,7 @@ ghost use Rattle.stats.specs.Stats.{slots, stat_of, shape_of, Followed, Blank, S
 
 use layouts::qids;
 use layouts::qids::Qid;
-use numbers::{Place, Refusal};
+use numbers::{Read, Place, Refusal};
 use strings::Span;
 
 #[derive(Clone, Copy)]
@@ -34,13 +34,6 @@ pub struct Stat {
     pub muid: Span,
 }
 
-// The stat that was read, all 0 if it was refused, and the place after it.
-#[derive(Clone, Copy)]
-pub struct ReadStat {
-    pub value: Stat,
-    pub next: Place,
-}
-
 // Where the fields of a stat begin, if its counts agree, and where they end.
 #[derive(Clone, Copy)]
 pub(crate) struct Open {
@@ -53,13 +46,13 @@ fn skip(s: &[u8], p: Place, n: usize) -> Place
     requires { 0 < n }
     ensures { Followed (fixed n ∷ []) s.now p result }
 {
-    let Place::At(at) = p else {
+    let Ok(at) = p else {
         return p;
     };
     if numbers::within(at, n, s.len()) {
-        return Place::At(at + n);
+        return Ok(at + n);
     }
-    Place::Refused(Refusal::Short, 0)
+    Err(Fault(Refusal::Short, 0))
 }
 
 // The place after a string, whose text is not looked at.
@@ -68,14 +61,14 @@ fn pass(s: &[u8], p: Place) -> Place
 {
     let count = numbers::read_u16(s, p);
     let q = count.next;
-    let Place::At(start) = q else {
+    let Ok(start) = q else {
         return q;
     };
     let len = count.value as usize;
     if numbers::within(start, len, s.len()) {
-        return Place::At(start + len);
+        return Ok(start + len);
     }
-    Place::Refused(Refusal::Short, 0)
+    Err(Fault(Refusal::Short, 0))
 }
 
 // The place after the fields of a stat, or of one with the four fields of 9P2000.u.
@@ -99,14 +92,14 @@ fn agree(s: &[u8], start: usize, longer: bool) -> bool
     requires { start ≤ length s.now }
     ensures { result ≡ agrees (shape_of longer) (drop start s.now) }
 {
-    let size = numbers::read_u16(s, Place::At(start));
+    let size = numbers::read_u16(s, Ok(start));
     let p = size.next;
-    let Place::At(first) = p else {
+    let Ok(first) = p else {
         return false;
     };
     if size.value as usize == s.len() - first {
-        let q = follow(s, Place::At(first), longer);
-        let Place::At(end) = q else {
+        let q = follow(s, Ok(first), longer);
+        let Ok(end) = q else {
             return false;
         };
         return end == s.len();
@@ -120,7 +113,7 @@ pub(crate) fn open_stat(s: &[u8], p: Place, longer: bool) -> Open
 {
     let count = numbers::read_u16(s, p);
     let q = count.next;
-    let Place::At(start) = q else {
+    let Ok(start) = q else {
         return Open {
             at: q,
             end: s.len(),
@@ -131,22 +124,22 @@ pub(crate) fn open_stat(s: &[u8], p: Place, longer: bool) -> Open
         let end = start + n;
         if agree(&s[..end], start, longer) {
             return Open {
-                at: Place::At(start + 2),
+                at: Ok(start + 2),
                 end,
             };
         }
         return Open {
-            at: Place::Refused(Refusal::StatMalformed, 0),
+            at: Err(Fault(Refusal::StatMalformed, 0)),
             end: s.len(),
         };
     }
     Open {
-        at: Place::Refused(Refusal::Short, 0),
+        at: Err(Fault(Refusal::Short, 0)),
         end: s.len(),
     }
 }
 
-pub(crate) fn no_stat(next: Place) -> ReadStat
+pub(crate) fn no_stat(next: Place) -> Read<Stat>
     ensures { Blank stat_shape (slots result.value) result.next next }
 {
     let none = Span { start: 0, len: 0 };
@@ -168,11 +161,11 @@ pub(crate) fn no_stat(next: Place) -> ReadStat
         gid: none,
         muid: none,
     };
-    ReadStat { value, next }
+    Read { value, next }
 }
 
 // The fields of a stat that has been opened, one after another.
-pub(crate) fn read_fields(t: &[u8], p0: Place) -> ReadStat
+pub(crate) fn read_fields(t: &[u8], p0: Place) -> Read<Stat>
     ensures { Fields (map plain_of stat_shape) t.now p0 (map value_of (slots result.value)) result.next }
 {
     let r1 = numbers::read_u16(t, p0);
@@ -215,18 +208,18 @@ pub(crate) fn read_fields(t: &[u8], p0: Place) -> ReadStat
         gid,
         muid,
     };
-    ReadStat { value, next }
+    Read { value, next }
 }
 
 // A stat at a place: 1, then 18, then 5 and 6 of its strings.
-pub fn read_stat(s: &[u8], p: Place) -> ReadStat
+pub fn read_stat(s: &[u8], p: Place) -> Read<Stat>
     ensures { FieldRead (boxed stat_shape) s.now p (stat_of result.value) result.next }
 {
     let o = open_stat(s, p, false);
     let p0 = o.at;
     let r = read_fields(&s[..o.end], p0);
     let next = r.next;
-    let Place::At(_) = next else {
+    let Ok(_) = next else {
         return no_stat(next);
     };
     r
@@ -251,11 +244,11 @@ pub(crate) fn size_of(v: Stat) -> usize
 pub(crate) fn counted(p: Place, n: usize) -> Place
     ensures { Countable n p result }
 {
-    let Place::At(_) = p else {
+    let Ok(_) = p else {
         return p;
     };
     if 65535 < n {
-        return Place::Refused(Refusal::StatMalformed, 0);
+        return Err(Fault(Refusal::StatMalformed, 0));
     }
     p
 }

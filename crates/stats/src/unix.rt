@@ -7,7 +7,7 @@ ghost use Rattle.stats.specs.Unix.{stat_shape};
 ghost use Rattle.stats.specs.Stats.{unix_slots, unix_of, Blank, Sized};
 
 use crate::Stat;
-use numbers::Place;
+use numbers::{Place, Read};
 use strings::Span;
 
 #[derive(Clone, Copy)]
@@ -19,14 +19,7 @@ pub struct UnixStat {
     pub n_muid: u32,
 }
 
-// The stat that was read, all 0 if it was refused, and the place after it.
-#[derive(Clone, Copy)]
-pub struct ReadUnixStat {
-    pub value: UnixStat,
-    pub next: Place,
-}
-
-fn no_stat(next: Place) -> ReadUnixStat
+fn no_stat(next: Place) -> Read<UnixStat>
     ensures { Blank stat_shape (unix_slots result.value) result.next next }
 {
     let none = crate::no_stat(next);
@@ -38,11 +31,11 @@ fn no_stat(next: Place) -> ReadUnixStat
         n_gid: 0,
         n_muid: 0,
     };
-    ReadUnixStat { value, next }
+    Read { value, next }
 }
 
 // A stat at a place: 1, then 18, then 5 and 6 of its strings.
-pub fn read_stat(s: &[u8], p: Place) -> ReadUnixStat
+pub fn read_stat(s: &[u8], p: Place) -> Read<UnixStat>
     ensures { FieldRead (boxed stat_shape) s.now p (unix_of result.value) result.next }
 {
     let o = crate::open_stat(s, p, true);
@@ -60,7 +53,7 @@ pub fn read_stat(s: &[u8], p: Place) -> ReadUnixStat
     let p4 = r4.next;
     let r5 = numbers::read_u32(t, p4);
     let next = r5.next;
-    let Place::At(_) = next else {
+    let Ok(_) = next else {
         return no_stat(next);
     };
     let value = UnixStat {
@@ -70,7 +63,7 @@ pub fn read_stat(s: &[u8], p: Place) -> ReadUnixStat
         n_gid: r4.value,
         n_muid: r5.value,
     };
-    ReadUnixStat { value, next }
+    Read { value, next }
 }
 
 fn size_of(v: UnixStat) -> usize

@@ -1,12 +1,11 @@
 -- A directory entry alone: how long it is at the most, and so that 10 is never answered for it but at a place near the largest frame's end.
-use Rattle.std.specs.Prelude.{ℕ, ◌+◌, ◌≤◌, ◌≡◌, refl, Bool, true, false, List, [], ◌∷◌, length}
+use Rattle.std.specs.Prelude.{ℕ, ◌+◌, ◌≤◌, ◌≡◌, refl, Bool, true, false, List, [], ◌∷◌, length, Ok}
 use Rattle.std.proofs.Common.{arith, sym, ap, ◌∙◌, length-append, lt-ltb}
 use Rattle.numbers.specs.Numbers.{to_le}
 use Rattle.numbers.proofs.Numbers.{length_to_le}
 use Rattle.numbers.specs.Reading.{ok}
 use Rattle.numbers.proofs.ReadingLaws.{after_inv}
 use Rattle.numbers.specs.Places.{past_put}
-use Rattle.numbers.specs.declared.Place.TheVariants.{At}
 use Rattle.strings.specs.Strings.{string_bytes}
 use Rattle.strings.specs.Spans.{show_string}
 use Rattle.strings.proofs.SpanLaws.{shown_length, string_inv}
@@ -82,7 +81,7 @@ shown_most (boxed c ∷ fs) lent vs b e = no_way b
 
 -- what is written of an entry is tested for room alone, unless its place is past 4,294,901,736
 pub entry_never_ten : (lent : List ℕ) (vs : List Value) (o : List ℕ) (a : ℕ) {is : List Item} {r : List ℕ} → a ≤ 4294901736 → shows layout_dirent lent vs ≡ ok is r
-    → written_past (shows layout_dirent lent vs) o (At a) ≡ past_put (items_bytes is) o (At a)
+    → written_past (shows layout_dirent lent vs) o (Ok a) ≡ past_put (items_bytes is) o (Ok a)
 entry_never_ten lent vs o a {is} h e =
     let l = shown_most layout_dirent lent vs refl e in
     rw (e, lt-ltb (a + length (items_bytes is)) limit (omega arith))

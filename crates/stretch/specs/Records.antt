@@ -1,7 +1,7 @@
 -- Any two answers of a record's reader are equal as records: its values determine it. For the messages' records that is `one_tversion` and so on, `Made.antt` of requests and of replies.
+use Rattle.numbers.specs.Place.{Place}
 use Rattle.std.specs.Prelude.{ℕ, ◌≡◌, List, get_or}
 use Rattle.std.proofs.Common.{ap}
-use Rattle.numbers.specs.declared.Place.{Place}
 use Rattle.fields.specs.Layouts.{Layout}
 use Rattle.fields.specs.Values.{Value, val, num_of, start_of, len_of}
 use Rattle.fields.specs.Fields.{Fields}

@@ -1,5 +1,5 @@
 -- Demand 3 of walks that were written from tables: they read back, as the Twalk and the Rwalk of F3.2.
-use Rattle.std.specs.Prelude.{ℕ, suc, ◌+◌, ◌^◌, ◌≤◌, ◌<◌, ◌≡◌, refl, List, [], ◌∷◌, ◌++◌, map, length, drop, get_or}
+use Rattle.std.specs.Prelude.{ℕ, suc, ◌+◌, ◌^◌, ◌≤◌, ◌<◌, ◌≡◌, refl, List, [], ◌∷◌, ◌++◌, map, length, drop, get_or, Ok}
 use Rattle.std.proofs.Common.{arith, sym, ap, ap₂, ◌∙◌, append_assoc, append-nil, lit<, le-leb}
 use Rattle.std.proofs.Math.Option.{some}
 use Rattle.std.proofs.lemmas.Bool.{lt-leb}
@@ -7,7 +7,6 @@ use Rattle.numbers.specs.Numbers.{to_le}
 use Rattle.numbers.specs.Reading.{Result, ok, after}
 use Rattle.numbers.proofs.ReadingLaws.{or_else, after_inv}
 use Rattle.numbers.specs.declared.Refusal.TheVariants as R
-use Rattle.numbers.specs.declared.Place.TheVariants.{At}
 use Rattle.strings.specs.Strings.{string_bytes}
 use Rattle.strings.specs.Spans.{show_string}
 use Rattle.fields.specs.Layouts.{num, Item, number, string, strings, qids, kind, counted, read_fields, many_bytes, item_bytes, items_bytes, AllGood, Goods}
@@ -30,7 +29,7 @@ use Rattle.framing.specs.ReadBack.{Wrote}
 use Rattle.framing.proofs.ReadBack.{good_text, wrote}
 
 -- what a table that was written had: no more elements than a walk may
-in_table : (k : ℕ) (m : Result (List Item)) {ty tag n : ℕ} {o o' : List ℕ} → TableWritten ty tag (counted k m) o o' (At n) → (k ≤ 16) × Wrote m ty tag o o' n
+in_table : (k : ℕ) (m : Result (List Item)) {ty tag n : ℕ} {o o' : List ℕ} → TableWritten ty tag (counted k m) o o' (Ok n) → (k ≤ 16) × Wrote m ty tag o o' n
 unfolding frame_past
 in_table k m {ty} {tag} w =
     or_else k 16
@@ -121,7 +120,7 @@ unfolding items_bytes item_bytes
 walk_bytes fid newfid l =
     ap (λ (x : List ℕ). to_le 4 fid ++ (to_le 4 newfid ++ x)) (ap (λ (x : List ℕ). to_le 2 (length l) ++ x) (names_bytes l) ∙ sym (append-nil (to_le 2 (length l) ++ many_bytes l)))
 
-pub twalk_back : {rows : List Row} {tag fid newfid n : ℕ} {lent o o' : List ℕ} (t : List (List ℕ)) → lookup rows 110 ≡ some layout_twalk → tag < 256 ^ 2 → fid < 256 ^ 4 → newfid < 256 ^ 4 → TwalkWritten tag fid newfid lent t o o' (At n)
+pub twalk_back : {rows : List Row} {tag fid newfid n : ℕ} {lent o o' : List ℕ} (t : List (List ℕ)) → lookup rows 110 ≡ some layout_twalk → tag < 256 ^ 2 → fid < 256 ^ 4 → newfid < 256 ^ 4 → TwalkWritten tag fid newfid lent t o o' (Ok n)
     → TwalkBack rows tag fid newfid lent t o' n
 twalk_back {rows} {tag} {fid} {newfid} {n} {lent} {o} {o'} t k g x y w =
     let m : Result (List Item) = shows (walk_fields t) lent (walk_values fid newfid (length t) t) in
@@ -155,7 +154,7 @@ pub record RwalkBack (rows : List Row) (tag : ℕ) (t : List Qid) (o' : List ℕ
   pub reads : read_frame rows o' ≡ framed 0 tag (accepted 111 (places 7 (qids (length t) (qids_bytes t) ∷ [])) n)
   pub after : shows layout_rwalk o' (places 7 (qids (length t) (qids_bytes t) ∷ [])) ≡ ok (qids (length t) (qids_bytes t) ∷ []) []
 
-pub rwalk_back : {rows : List Row} {tag n : ℕ} {o o' : List ℕ} (t : List Qid) → lookup rows 111 ≡ some layout_rwalk → tag < 256 ^ 2 → RwalkWritten tag t o o' (At n) → RwalkBack rows tag t o' n
+pub rwalk_back : {rows : List Row} {tag n : ℕ} {o o' : List ℕ} (t : List Qid) → lookup rows 111 ≡ some layout_rwalk → tag < 256 ^ 2 → RwalkWritten tag t o o' (Ok n) → RwalkBack rows tag t o' n
 unfolding items_bytes item_bytes
 rwalk_back {rows} {tag} {n} {o} {o'} t k g w =
     let p = in_table (length t) (ok (number 2 (length t) ∷ qid_items t) []) w.is in

@@ -1,5 +1,6 @@
 -- What holds of the definitions in specs/SpanLaws.antt.
-use Rattle.std.specs.Prelude.{ℕ, ◌+◌, ◌≤◌, ◌<◌, ◌≡◌, refl, Bool, true, false, cond, List, [], length, take, drop, leb}
+use Rattle.numbers.specs.Place.{Place}
+use Rattle.std.specs.Prelude.{ℕ, ◌+◌, ◌≤◌, ◌<◌, ◌≡◌, refl, Bool, true, false, cond, List, [], length, take, drop, leb, Ok, Err}
 use Rattle.std.proofs.Common.{arith, sym, ap₂, ◌∙◌, length-drop, length-take-le, drop-drop, le-leb, leb-true}
 use Rattle.std.proofs.lemmas.Bool.{lt-leb}
 use Rattle.numbers.specs.Reading.{Result, ok, bad, after, raw, read_num}
@@ -8,8 +9,6 @@ use Rattle.numbers.specs.Places.{read_at, read_from}
 use Rattle.numbers.specs.PlaceLaws.{Held}
 use Rattle.numbers.specs.declared.Refusal.{Refusal}
 use Rattle.numbers.specs.declared.Refusal.TheVariants as R
-use Rattle.numbers.specs.declared.Place.{Place}
-use Rattle.numbers.specs.declared.Place.TheVariants.{At, Refused}
 use Rattle.utf8.specs.Utf8.{utf8, sound_start, no_zero, zero_at}
 use Rattle.strings.specs.Strings.{ok_text, read_string}
 use Rattle.strings.specs.Spans.{show_span, show_string, check_at, TextCheck, SpanCheck, StrCheck, start_in}
@@ -27,28 +26,28 @@ pub shown_length : (lent : List ℕ) (x y : ℕ) → x + y ≤ length lent → l
 shown_length lent x y h = length-take-le y (drop x lent) (simp length-drop (omega arith))
 
 -- a check that is passed had something to show, at that place
-pub check_inv : {A X : Type 0} (m : Result A) (p : Place) {a : ℕ} → check_at m p ≡ At a → ((v : A) (r : List ℕ) → m ≡ ok v r → p ≡ At a → X) → X
-check_inv m (Refused k at) e f = absurd (let z : ◌≡◌ {A = ℕ} 0 1 = cc e in omega arith)
-check_inv (ok v r) (At n) e f = f v r refl e
-check_inv (bad k at) (At n) e f = absurd (let z : ◌≡◌ {A = ℕ} 0 1 = cc e in omega arith)
+pub check_inv : {A X : Type 0} (m : Result A) (p : Place) {a : ℕ} → check_at m p ≡ Ok a → ((v : A) (r : List ℕ) → m ≡ ok v r → p ≡ Ok a → X) → X
+check_inv m (Err w) e f = absurd (let z : ◌≡◌ {A = ℕ} 0 1 = cc e in omega arith)
+check_inv (ok v r) (Ok n) e f = f v r refl e
+check_inv (bad k at) (Ok n) e f = absurd (let z : ◌≡◌ {A = ℕ} 0 1 = cc e in omega arith)
 
 pub span_inv : (lent : List ℕ) (x y : ℕ) {bs r : List ℕ} → show_span lent x y ≡ ok bs r → x + y ≤ length lent
 span_inv lent x y e =
     or_else (x + y) (length lent) (λ h. h) (λ h. absurd (let f = sym (shown_out lent x y h) ∙ e in let z : ◌≡◌ {A = ℕ} 0 1 = cc f in omega arith))
 
-pub passed : {lent : List ℕ} {x y a : ℕ} {p q : Place} → SpanCheck lent x y p q → q ≡ At a → Passed lent x y p a
+pub passed : {lent : List ℕ} {x y a : ℕ} {p q : Place} → SpanCheck lent x y p q → q ≡ Ok a → Passed lent x y p a
 passed {lent} {x} {y} {a} {p} c e =
     check_inv (show_span lent x y) p (sym c.is ∙ e)
     (λ bs r f g. let h = span_inv lent x y f in record { place = g; lies = h; shows = shown_in lent x y h })
 
-pub span_lies : {lent : List ℕ} {x y a : ℕ} {p q : Place} → SpanCheck lent x y p q → q ≡ At a → x + y ≤ length lent
+pub span_lies : {lent : List ℕ} {x y a : ℕ} {p q : Place} → SpanCheck lent x y p q → q ≡ Ok a → x + y ≤ length lent
 span_lies c e = (passed c e).lies
 
 -- what a first check refuses, the whole does
-pub first_refuses : {A B : Type 0} (m : Result A) (k : A → List ℕ → Result B) (p : Place) {j : Refusal} {at : ℕ} → check_at m p ≡ Refused j at → check_at (after m k) p ≡ Refused j at
-first_refuses m k (Refused i b) e = e
-first_refuses (ok a r) k (At n) e = absurd (let z : ◌≡◌ {A = ℕ} 0 1 = cc e in omega arith)
-first_refuses (bad i b) k (At n) e = e
+pub first_refuses : {A B : Type 0} (m : Result A) (k : A → List ℕ → Result B) (p : Place) {j : Refusal} {at : ℕ} → check_at m p ≡ Err (j, at) → check_at (after m k) p ≡ Err (j, at)
+first_refuses m k (Err f) e = e
+first_refuses (ok a r) k (Ok n) e = absurd (let z : ◌≡◌ {A = ℕ} 0 1 = cc e in omega arith)
+first_refuses (bad i b) k (Ok n) e = e
 
 pub string_inv : (lent : List ℕ) (x y : ℕ) {bs r : List ℕ} → show_string lent x y ≡ ok bs r → StringShown lent x y bs r
 unfolding show_string
@@ -67,7 +66,7 @@ string_inv lent x y {bs} {r} e =
     let es : s ≡ [] = cc d in
     record { lies = h; small = leb-true y 65535 u.0; bytes = eb ∙ ec; rest = er ∙ es })
 
-pub string_passed : {lent : List ℕ} {x y a : ℕ} {p q : Place} → StrCheck lent x y p q → q ≡ At a → StringPassed lent x y p a
+pub string_passed : {lent : List ℕ} {x y a : ℕ} {p q : Place} → StrCheck lent x y p q → q ≡ Ok a → StringPassed lent x y p a
 string_passed {lent} {x} {y} {a} {p} c e =
     check_inv (show_string lent x y) p (sym c.is ∙ e)
     (λ bs r f g.
@@ -75,23 +74,23 @@ string_passed {lent} {x} {y} {a} {p} c e =
     record { place = g; lies = i.lies; small = i.small; shows = f ∙ rw (i.bytes, i.rest) })
 
 pub passing : {A : Type 0} (v : A) (r : List ℕ) (p : Place) → check_at (ok v r) p ≡ p
-passing v r (At n) = refl
-passing v r (Refused k at) = refl
+passing v r (Ok n) = refl
+passing v r (Err f) = refl
 
 -- ---- a string at a place
 
-pub string_at : (s : List ℕ) (a : ℕ) → read_from read_string s (At a) ≡ after (read_num 2 (drop a s)) (λ n r. after (raw n r) (ok_text (a + 2)))
+pub string_at : (s : List ℕ) (a : ℕ) → read_from read_string s (Ok a) ≡ after (read_num 2 (drop a s)) (λ n r. after (raw n r) (ok_text (a + 2)))
 unfolding read_string
 string_at s a = refl
 
 -- what the count refuses, the string does
 pub string_cut : (s : List ℕ) (p : Place) {k : Refusal} {at : ℕ} → read_at (read_num 2) s p ≡ bad k at → read_from read_string s p ≡ bad k at
-string_cut s (At a) e = string_at s a ∙ rw e
-string_cut s (Refused j b) {k} {at} e = let f : j ≡ k = cc e in let g : b ≡ at = cc e in ap₂ bad f g
+string_cut s (Ok a) e = string_at s a ∙ rw e
+string_cut s (Err w) {k} {at} e = let f : w.0 ≡ k = cc e in let g : w.1 ≡ at = cc e in ap₂ bad f g
 
 pub start_bad : (w : ℕ) (p : Place) (k : Refusal) (at : ℕ) → start_in w p (bad k at) ≡ 0
-start_bad w (At a) k at = refl
-start_bad w (Refused j b) k at = refl
+start_bad w (Ok a) k at = refl
+start_bad w (Err f) k at = refl
 
 -- after a count that is held: the bytes, or not enough of them
 pub string_held : {s : List ℕ} {p : Place} {n e : ℕ} → Held 2 s p n e → e + n ≤ length s → read_from read_string s p ≡ ok_text e (take n (drop e s)) (drop (e + n) s)
@@ -107,31 +106,31 @@ string_short {s} {p} {n} {e} h l =
     rw h.place (string_at s h.at ∙ rw (h.reads, raw_short n (drop e s) (simp length-drop (omega arith))))
 
 -- of a span that lies within, and is not too long, the check of a lent string is that of its text
-pub str_is_text : {s : List ℕ} {x y n : ℕ} {q : Place} → x + y ≤ length s → y ≤ 65535 → StrCheck s x y (At n) q → TextCheck s x y (At n) q
+pub str_is_text : {s : List ℕ} {x y n : ℕ} {q : Place} → x + y ≤ length s → y ≤ 65535 → StrCheck s x y (Ok n) q → TextCheck s x y (Ok n) q
 unfolding show_string
 str_is_text {s} {x} {y} h l c = record { is = c.is ∙ rw (shown_in s x y h, le-leb y 65535 l) }
 
 -- what the check of a text says of it
-module _ {s : List ℕ} {x y n : ℕ} {q : Place} (c : TextCheck s x y (At n) q) where
+module _ {s : List ℕ} {x y n : ℕ} {q : Place} (c : TextCheck s x y (Ok n) q) where
   abbrev text : List ℕ
   text = take y (drop x s)
 
-  pub text_refused : {k : Refusal} {at : ℕ} (r : List ℕ) → q ≡ Refused k at → ok_text x text r ≡ bad k at
+  pub text_refused : {k : Refusal} {at : ℕ} (r : List ℕ) → q ≡ Err (k, at) → ok_text x text r ≡ bad k at
   text_refused {k} {at} r e = go (utf8 text) (no_zero text) (x + zero_at text) (x + sound_start text) (sym c.is ∙ e)
     where
-      go : (u z : Bool) (i j : ℕ) → check_at (cond u (cond z (ok text []) (bad R.ZeroByte i)) (bad R.NotUtf8 j)) (At n) ≡ Refused k at
+      go : (u z : Bool) (i j : ℕ) → check_at (cond u (cond z (ok text []) (bad R.ZeroByte i)) (bad R.NotUtf8 j)) (Ok n) ≡ Err (k, at)
           → cond u (cond z (ok text r) (bad R.ZeroByte i)) (bad R.NotUtf8 j) ≡ bad k at
       go true true i j f = absurd (let z : ◌≡◌ {A = ℕ} 0 1 = cc f in omega arith)
       go true false i j f = let g : R.ZeroByte ≡ k = cc f in let h : i ≡ at = cc f in ap₂ bad g h
       go false z i j f = let g : R.NotUtf8 ≡ k = cc f in let h : j ≡ at = cc f in ap₂ bad g h
 
-  pub text_good : {a : ℕ} → q ≡ At a → (utf8 text ≡ true) × (no_zero text ≡ true)
+  pub text_good : {a : ℕ} → q ≡ Ok a → (utf8 text ≡ true) × (no_zero text ≡ true)
   text_good {a} e = go (utf8 text) (no_zero text) (x + zero_at text) (x + sound_start text) (sym c.is ∙ e)
     where
-      go : (u z : Bool) (i j : ℕ) → check_at (cond u (cond z (ok text []) (bad R.ZeroByte i)) (bad R.NotUtf8 j)) (At n) ≡ At a → (u ≡ true) × (z ≡ true)
+      go : (u z : Bool) (i j : ℕ) → check_at (cond u (cond z (ok text []) (bad R.ZeroByte i)) (bad R.NotUtf8 j)) (Ok n) ≡ Ok a → (u ≡ true) × (z ≡ true)
       go true true i j f = (refl, refl)
       go true false i j f = absurd (let z : ◌≡◌ {A = ℕ} 0 1 = cc f in omega arith)
       go false z i j f = absurd (let z : ◌≡◌ {A = ℕ} 0 1 = cc f in omega arith)
 
-  pub text_passed : {a : ℕ} (r : List ℕ) → q ≡ At a → (ok_text x text r ≡ ok text r) × (q ≡ At n)
+  pub text_passed : {a : ℕ} (r : List ℕ) → q ≡ Ok a → (ok_text x text r ≡ ok text r) × (q ≡ Ok n)
   text_passed r e = let g = text_good e in (rw (g.0, g.1), c.is ∙ rw (g.0, g.1))

@@ -1,4 +1,5 @@
 -- Strings: reading after writing, a cut, writing after reading; and one answer for each question.
+use Rattle.numbers.specs.Place.{Place}
 use Rattle.std.specs.Prelude.{ℕ, ◌+◌, ◌≡◌, refl, List, length}
 use Rattle.numbers.specs.Numbers.{Bytes}
 use Rattle.numbers.specs.Reading.{ok, raw, read_num}
@@ -6,7 +7,6 @@ use Rattle.numbers.specs.ReadingLaws.{Reads, Took}
 use Rattle.numbers.proofs.ReadingLaws.{reads_raw, reads_then, reads_after, reads_num, took_then, took_raw, took_num, after_inv, cond_inv}
 use Rattle.numbers.proofs.PlaceLaws.{one_answer}
 use Rattle.numbers.specs.declared.Refusal.TheVariants as R
-use Rattle.numbers.specs.declared.Place.{Place}
 use Rattle.utf8.specs.Utf8.{CharAt, utf8, no_zero}
 use Rattle.strings.specs.Strings.{ok_text, read_string, string_bytes, GoodText}
 use Rattle.strings.specs.Spans.{TextCheck, Shown, SpanCheck, StrCheck, StrRead}

@@ -1,4 +1,6 @@
 -- The ways that the checks, the reader and the writers of strings go: one law for each way out, over plain variables.
+use Rattle.std.specs.Prelude.{Ok, Err}
+use Rattle.numbers.specs.Place.{Place}
 use Prim.Native.Nat.{ℕ, ◌+◌, ◌-◌, ◌≤◌, ◌<◌, min}
 use native.Mathlib.Omega.{arith}
 use mathlib.Core.Path.{◌≡◌, refl, sym, ap, ap₂, ◌∙◌}
@@ -15,8 +17,6 @@ use Rattle.numbers.specs.Places.{Within, read_from, NumRead, over, Put}
 use Rattle.numbers.proofs.PlaceLaws.{inside, outside, num_holds, num_refused, put_stays, put_full, put_done, put_then, over_then}
 use Rattle.numbers.specs.declared.Refusal.{Refusal}
 use Rattle.numbers.specs.declared.Refusal.TheVariants as R
-use Rattle.numbers.specs.declared.Place.{Place}
-use Rattle.numbers.specs.declared.Place.TheVariants.{At, Refused}
 use Rattle.utf8.specs.Utf8.{utf8, sound_start, no_zero, zero_at}
 use Rattle.utf8.specs.Plain.{short_plain}
 use Rattle.utf8.proofs.Plain.{short_text}
@@ -39,15 +39,15 @@ zero_lies s x y h e =
     omega arith
 
 module _ {s : List ℕ} {x y a i : ℕ} {p : Place} where
-  pub text_bad : p ≡ At a → utf8 (between x (x + y) s) ≡ false → i ≡ sound_start (between x (x + y) s) → TextCheck s x y p (Refused R.NotUtf8 (x + i))
+  pub text_bad : p ≡ Ok a → utf8 (between x (x + y) s) ≡ false → i ≡ sound_start (between x (x + y) s) → TextCheck s x y p (Err (R.NotUtf8, x + i))
   text_bad e u h =
       let n : x + y - x ≡ y = omega arith in
       let v = rw n at u in
       let g = rw n at h in
       record { is = rw (e, v, g) }
 
-  pub text_zero : p ≡ At a → utf8 (between x (x + y) s) ≡ true → no_zero (between x (x + y) s) ≡ false → i ≡ zero_at (between x (x + y) s)
-      → TextCheck s x y p (Refused R.ZeroByte (x + i))
+  pub text_zero : p ≡ Ok a → utf8 (between x (x + y) s) ≡ true → no_zero (between x (x + y) s) ≡ false → i ≡ zero_at (between x (x + y) s)
+      → TextCheck s x y p (Err (R.ZeroByte, x + i))
   text_zero e u z h =
       let n : x + y - x ≡ y = omega arith in
       let v = rw n at u in
@@ -56,7 +56,7 @@ module _ {s : List ℕ} {x y a i : ℕ} {p : Place} where
       record { is = rw (e, v, w, g) }
 
 module _ {s : List ℕ} {x y a : ℕ} {p : Place} where
-  pub text_fine : p ≡ At a → utf8 (between x (x + y) s) ≡ true → no_zero (between x (x + y) s) ≡ true → TextCheck s x y p p
+  pub text_fine : p ≡ Ok a → utf8 (between x (x + y) s) ≡ true → no_zero (between x (x + y) s) ≡ true → TextCheck s x y p p
   text_fine e u z =
       let n : x + y - x ≡ y = omega arith in
       let v = rw n at u in
@@ -64,7 +64,7 @@ module _ {s : List ℕ} {x y a : ℕ} {p : Place} where
       record { is = rw (e, v, w) }
 
 -- a short plain text, cut out
-pub text_plain : {s : List ℕ} {x y a : ℕ} {b : Bool} {p : Place} → p ≡ At a → b ≡ short_plain (between x (x + y) s) → b ≡ true → TextCheck s x y p p
+pub text_plain : {s : List ℕ} {x y a : ℕ} {b : Bool} {p : Place} → p ≡ Ok a → b ≡ short_plain (between x (x + y) s) → b ≡ true → TextCheck s x y p p
 text_plain {s} {x} {y} e f h = let t = short_text (between x (x + y) s) f h in text_fine e t.0 t.1
 
 -- ---- a span
@@ -76,45 +76,45 @@ module _ {lent : List ℕ} {x y : ℕ} {t : Bool} where
   pub part_out : Within x y (length lent) t → t ≡ false → Shown lent x y []
   part_out i h = record { is = rw (shown_out lent x y (outside i h)) }
 
-  pub span_in_lem : {p : Place} {a : ℕ} → p ≡ At a → Within x y (length lent) t → t ≡ true → SpanCheck lent x y p p
+  pub span_in_lem : {p : Place} {a : ℕ} → p ≡ Ok a → Within x y (length lent) t → t ≡ true → SpanCheck lent x y p p
   span_in_lem e i h = record { is = rw (e, shown_in lent x y (inside i h)) }
 
-  pub span_out : {p : Place} {a : ℕ} → p ≡ At a → Within x y (length lent) t → t ≡ false → SpanCheck lent x y p (Refused R.SpanOutside 0)
+  pub span_out : {p : Place} {a : ℕ} → p ≡ Ok a → Within x y (length lent) t → t ≡ false → SpanCheck lent x y p (Err (R.SpanOutside, 0))
   span_out e i h = record { is = rw (e, shown_out lent x y (outside i h)) }
 
 -- ---- a lent string
 
 module _ {lent : List ℕ} {x y : ℕ} {p q : Place} where
-  pub str_span : {k : Refusal} {at : ℕ} → SpanCheck lent x y p q → q ≡ Refused k at → StrCheck lent x y p q
+  pub str_span : {k : Refusal} {at : ℕ} → SpanCheck lent x y p q → q ≡ Err (k, at) → StrCheck lent x y p q
   unfolding show_string
   str_span c e = record { is = e ∙ sym (first_refuses (show_span lent x y) _ p (sym c.is ∙ e)) }
 
-  pub str_long : {a : ℕ} → SpanCheck lent x y p q → q ≡ At a → 65535 < y → StrCheck lent x y p (Refused R.StringTooLong 0)
+  pub str_long : {a : ℕ} → SpanCheck lent x y p q → q ≡ Ok a → 65535 < y → StrCheck lent x y p (Err (R.StringTooLong, 0))
   unfolding show_string
   str_long c e h = let k = passed c e in record { is = rw (k.place, k.shows, lt-leb y 65535 h) }
 
-  pub str_text : {a : ℕ} {r : Place} → SpanCheck lent x y p q → q ≡ At a → y ≤ 65535 → TextCheck lent x y q r → StrCheck lent x y p r
+  pub str_text : {a : ℕ} {r : Place} → SpanCheck lent x y p q → q ≡ Ok a → y ≤ 65535 → TextCheck lent x y q r → StrCheck lent x y p r
   unfolding show_string
   str_text c e h d = let k = passed c e in record { is = rw (k.place, k.shows, le-leb y 65535 h) (rw e at d.is) }
 
 -- ---- a string that is read
 
 module _ {s : List ℕ} {p q : Place} where
-  refused_str : {k : Refusal} {at : ℕ} → read_from read_string s p ≡ bad k at → q ≡ Refused k at → StrRead s p 0 0 q
+  refused_str : {k : Refusal} {at : ℕ} → read_from read_string s p ≡ bad k at → q ≡ Err (k, at) → StrRead s p 0 0 q
   unfolding str_start str_len past_str
   refused_str {k} {at} f e = record { start = rw f (sym (start_bad 2 p k at)); len = rw f; next = rw f e }
 
-  pub str_cut : {n : ℕ} {k : Refusal} {at : ℕ} → NumRead 2 s p n q → q ≡ Refused k at → StrRead s p 0 0 q
+  pub str_cut : {n : ℕ} {k : Refusal} {at : ℕ} → NumRead 2 s p n q → q ≡ Err (k, at) → StrRead s p 0 0 q
   str_cut r e = refused_str (string_cut s p (num_refused r e).reads) e
 
 module _ {s : List ℕ} {p a : Place} {n e : ℕ} {t : Bool} where
-  pub str_short : NumRead 2 s p n a → a ≡ At e → Within e n (length s) t → t ≡ false → StrRead s p 0 0 (Refused R.Short 0)
+  pub str_short : NumRead 2 s p n a → a ≡ Ok e → Within e n (length s) t → t ≡ false → StrRead s p 0 0 (Err (R.Short, 0))
   str_short r f i h = refused_str (string_short (num_holds (omega arith) r f) (outside i h)) refl
 
-  pub str_bad : {q : Place} {k : Refusal} {at : ℕ} → NumRead 2 s p n a → a ≡ At e → Within e n (length s) t → t ≡ true → TextCheck s e n (At (e + n)) q → q ≡ Refused k at → StrRead s p 0 0 q
+  pub str_bad : {q : Place} {k : Refusal} {at : ℕ} → NumRead 2 s p n a → a ≡ Ok e → Within e n (length s) t → t ≡ true → TextCheck s e n (Ok (e + n)) q → q ≡ Err (k, at) → StrRead s p 0 0 q
   str_bad r f i h c g = refused_str (string_held (num_holds (omega arith) r f) (inside i h) ∙ text_refused c (drop (e + n) s) g) g
 
-  pub str_good : {q : Place} {g : ℕ} → NumRead 2 s p n a → a ≡ At e → Within e n (length s) t → t ≡ true → TextCheck s e n (At (e + n)) q → q ≡ At g → StrRead s p e n q
+  pub str_good : {q : Place} {g : ℕ} → NumRead 2 s p n a → a ≡ Ok e → Within e n (length s) t → t ≡ true → TextCheck s e n (Ok (e + n)) q → q ≡ Ok g → StrRead s p e n q
   unfolding str_start str_len past_str
   str_good r f i h c g =
       let l = inside i h in
@@ -125,7 +125,7 @@ module _ {s : List ℕ} {p a : Place} {n e : ℕ} {t : Bool} where
       record {
         start = rw (v, k.place) k.ends;
         len = rw v (sym (length-take-le n (drop e s) (simp length-drop (omega arith))));
-        next = rw v (u.1 ∙ ap At (omega arith));
+        next = rw v (u.1 ∙ ap Ok (omega arith));
       }
 
 -- ---- the loop that copies
@@ -193,14 +193,14 @@ copy_more o0 lent at start len done n h k l e f =
 -- ---- bytes that are put
 
 module _ {lent o : List ℕ} {x y : ℕ} {p q : Place} where
-  pub bytes_refused : {k : Refusal} {at : ℕ} → SpanCheck lent x y p q → q ≡ Refused k at → SpanPut lent x y o p o q
+  pub bytes_refused : {k : Refusal} {at : ℕ} → SpanCheck lent x y p q → q ≡ Err (k, at) → SpanPut lent x y o p o q
   bytes_refused c e = record { put = rw (← c.is) (put_stays e) }
 
-  pub bytes_full : {a : ℕ} {t : Bool} → SpanCheck lent x y p q → q ≡ At a → Within a y (length o) t → t ≡ false → SpanPut lent x y o p o (Refused R.NoRoom 0)
+  pub bytes_full : {a : ℕ} {t : Bool} → SpanCheck lent x y p q → q ≡ Ok a → Within a y (length o) t → t ≡ false → SpanPut lent x y o p o (Err (R.NoRoom, 0))
   bytes_full c e i h = let k = passed c e in record { put = rw (← c.is, k.shows) (put_full (shown_length lent x y k.lies) e i h) }
 
-  pub bytes_done : {a : ℕ} {t : Bool} {o' : List ℕ} → SpanCheck lent x y p q → q ≡ At a → Within a y (length o) t → t ≡ true → o' ≡ over o a (take y (drop x lent))
-      → SpanPut lent x y o p o' (At (a + y))
+  pub bytes_done : {a : ℕ} {t : Bool} {o' : List ℕ} → SpanCheck lent x y p q → q ≡ Ok a → Within a y (length o) t → t ≡ true → o' ≡ over o a (take y (drop x lent))
+      → SpanPut lent x y o p o' (Ok (a + y))
   bytes_done c e i h g = let k = passed c e in record { put = rw (← c.is, k.shows) (put_done (shown_length lent x y k.lies) e i h g) }
 
 -- ---- a string that is put
@@ -210,17 +210,17 @@ unfolding string_bytes
 string_length lent x y h =
     let k = shown_length lent x y h in simp (length-append, length_to_le) (omega arith)
 
-pub string_small : {lent : List ℕ} {x y a : ℕ} {p q : Place} → StrCheck lent x y p q → q ≡ At a → y ≤ 65535
+pub string_small : {lent : List ℕ} {x y a : ℕ} {p q : Place} → StrCheck lent x y p q → q ≡ Ok a → y ≤ 65535
 string_small c e = (string_passed c e).small
 
 module _ {lent o : List ℕ} {x y : ℕ} {p q : Place} where
-  pub string_refused : {k : Refusal} {at : ℕ} → StrCheck lent x y p q → q ≡ Refused k at → StrPut lent x y o p o q
+  pub string_refused : {k : Refusal} {at : ℕ} → StrCheck lent x y p q → q ≡ Err (k, at) → StrPut lent x y o p o q
   string_refused c e = record { put = rw (← c.is) (put_stays e) }
 
-  pub string_full : {a : ℕ} {t : Bool} → StrCheck lent x y p q → q ≡ At a → Within a (y + 2) (length o) t → t ≡ false → StrPut lent x y o p o (Refused R.NoRoom 0)
+  pub string_full : {a : ℕ} {t : Bool} → StrCheck lent x y p q → q ≡ Ok a → Within a (y + 2) (length o) t → t ≡ false → StrPut lent x y o p o (Err (R.NoRoom, 0))
   string_full c e i h = let k = string_passed c e in record { put = rw (← c.is, k.shows) (put_full (string_length lent x y k.lies) e i h) }
 
-  pub string_done : {a : ℕ} {t : Bool} {o1 o2 : List ℕ} {m r : Place} → StrCheck lent x y p q → q ≡ At a → Within a (y + 2) (length o) t → t ≡ true → Put (to_le 2 y) o (At a) o1 m
+  pub string_done : {a : ℕ} {t : Bool} {o1 o2 : List ℕ} {m r : Place} → StrCheck lent x y p q → q ≡ Ok a → Within a (y + 2) (length o) t → t ≡ true → Put (to_le 2 y) o (Ok a) o1 m
       → SpanPut lent x y o1 m o2 r → StrPut lent x y o p o2 r
   unfolding string_bytes
   string_done {m = m} c e i h f g =

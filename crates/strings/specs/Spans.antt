@@ -1,10 +1,9 @@
 -- Strings by spans: what a span shows of the lent bytes, the writer's checks, and a string read at a place. What the contracts cite.
-use Rattle.std.specs.Prelude.{ℕ, ◌+◌, ◌≡◌, cond, List, [], length, take, drop, leb}
+use Rattle.numbers.specs.Place.{Place}
+use Rattle.std.specs.Prelude.{ℕ, ◌+◌, ◌≡◌, cond, List, [], length, take, drop, leb, Ok, Err}
 use Rattle.numbers.specs.Reading.{Result, ok, bad, after}
 use Rattle.numbers.specs.Places.{read_from, rest_at, Put}
 use Rattle.numbers.specs.declared.Refusal.TheVariants as R
-use Rattle.numbers.specs.declared.Place.{Place}
-use Rattle.numbers.specs.declared.Place.TheVariants.{At, Refused}
 use Rattle.strings.specs.Strings.{ok_text, read_string, string_bytes}
 
 -- the bytes, none where they are refused
@@ -24,9 +23,9 @@ show_string lent x y = after (show_span lent x y) (λ bs r. cond (leb y 65535) (
 
 -- a check at a place: the place itself where it is passed, else the refusal. A refused place stays refused
 abbrev pub check_at : {A : Type 0} → Result A → Place → Place
-check_at m (Refused k at) = Refused k at
-check_at (ok a r) (At n) = At n
-check_at (bad k at) (At n) = Refused k at
+check_at m (Err f) = Err f
+check_at (ok a r) (Ok n) = Ok n
+check_at (bad k at) (Ok n) = Err (k, at)
 
 -- the bytes that are shown: none where the span lies outside
 pub record Shown (lent : List ℕ) (x y : ℕ) (bs : List ℕ) : Type 0 where
@@ -46,9 +45,9 @@ pub record StrCheck (lent : List ℕ) (x y : ℕ) (p q : Place) : Type 0 where
 
 -- where the bytes of an accepted field stand: after its count of w bytes
 abbrev pub start_in : ℕ → Place → Result (List ℕ) → ℕ
-start_in w (At a) (ok bs r) = a + w
-start_in w (At a) (bad k at) = 0
-start_in w (Refused k at) m = 0
+start_in w (Ok a) (ok bs r) = a + w
+start_in w (Ok a) (bad k at) = 0
+start_in w (Err f) m = 0
 
 unfoldable pub str_start : List ℕ → Place → ℕ
 str_start s p = start_in 2 p (read_from read_string s p)

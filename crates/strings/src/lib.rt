@@ -6,20 +6,13 @@ ghost use Rattle.std.specs.Prelude.{◌≡◌, ◌+◌, ◌≤◌, length, take,
 ghost use Rattle.numbers.specs.Places.{over};
 ghost use Rattle.strings.specs.Spans.{TextCheck, Shown, SpanCheck, StrCheck, StrRead, SpanPut, StrPut};
 
-use numbers::{Place, Refusal};
+use numbers::{Read, Place, Refusal};
 
 // A part of some bytes: where it starts among them, and its length.
 #[derive(Clone, Copy)]
 pub struct Span {
     pub start: usize,
     pub len: usize,
-}
-
-// The span of what was read, 0 and 0 if it was refused, and the place after it.
-#[derive(Clone, Copy)]
-pub struct ReadSpan {
-    pub value: Span,
-    pub next: Place,
 }
 
 // The part of the lent bytes that a span shows; the empty part where it lies outside them.
@@ -39,13 +32,13 @@ pub fn shown(lent: &[u8], v: Span) -> &[u8]
 pub fn check_span(lent: &[u8], v: Span, p: Place) -> Place
     ensures { SpanCheck lent.now v.start v.len p result }
 {
-    let Place::At(_) = p else {
+    let Ok(_) = p else {
         return p;
     };
     if numbers::within(v.start, v.len, lent.len()) {
         return p;
     }
-    Place::Refused(Refusal::SpanOutside, 0)
+    Err(Fault(Refusal::SpanOutside, 0))
 }
 
 // The longest string: its count has two bytes (F1.9).
@@ -60,7 +53,7 @@ fn check_text(s: &[u8], v: Span, p: Place) -> Place
     requires { v.start + v.len ≤ length s.now }
     ensures { TextCheck s.now v.start v.len p result }
 {
-    let Place::At(_) = p else {
+    let Ok(_) = p else {
         return p;
     };
     let start = v.start;
@@ -71,13 +64,13 @@ fn check_text(s: &[u8], v: Span, p: Place) -> Place
         let n = utf8::sound_start(text);
         if n < text.len() {
             let at = start + n;
-            return Place::Refused(Refusal::NotUtf8, at);
+            return Err(Fault(Refusal::NotUtf8, at));
         }
     }
     if e.low == 0 {
         let n = utf8::zero_at(text);
         let at = start + n;
-        return Place::Refused(Refusal::ZeroByte, at);
+        return Err(Fault(Refusal::ZeroByte, at));
     }
     p
 }
@@ -87,25 +80,25 @@ pub fn check_str(lent: &[u8], v: Span, p: Place) -> Place
     ensures { StrCheck lent.now v.start v.len p result }
 {
     let q = check_span(lent, v, p);
-    let Place::At(_) = q else {
+    let Ok(_) = q else {
         return q;
     };
     if LONGEST < v.len {
-        return Place::Refused(Refusal::StringTooLong, 0);
+        return Err(Fault(Refusal::StringTooLong, 0));
     }
     check_text(lent, v, q)
 }
 
 // A string at a place: count, bytes, UTF-8, zero byte. Short cut: a short plain text, as most names are, passes without a call. `check_str` has
 // none: walks are scanned by one of their own, and it would only be in their way.
-pub fn read_str(s: &[u8], p: Place) -> ReadSpan
+pub fn read_str(s: &[u8], p: Place) -> Read<Span>
     ensures { StrRead s.now p result.value.start result.value.len result.next }
 {
     let none = Span { start: 0, len: 0 };
     let count = numbers::read_u16(s, p);
     let a = count.next;
-    let Place::At(start) = a else {
-        return ReadSpan {
+    let Ok(start) = a else {
+        return Read {
             value: none,
             next: a,
         };
@@ -115,26 +108,26 @@ pub fn read_str(s: &[u8], p: Place) -> ReadSpan
         let end = start + len;
         let some = Span { start, len };
         if utf8::short_plain(&s[start..end]) {
-            return ReadSpan {
+            return Read {
                 value: some,
-                next: Place::At(end),
+                next: Ok(end),
             };
         }
-        let q = check_text(s, some, Place::At(end));
-        let Place::At(_) = q else {
-            return ReadSpan {
+        let q = check_text(s, some, Ok(end));
+        let Ok(_) = q else {
+            return Read {
                 value: none,
                 next: q,
             };
         };
-        return ReadSpan {
+        return Read {
             value: some,
             next: q,
         };
     }
-    ReadSpan {
+    Read {
         value: none,
-        next: Place::Refused(Refusal::Short, 0),
+        next: Err(Fault(Refusal::Short, 0)),
     }
 }
 
@@ -196,7 +189,7 @@ pub fn put_bytes(out: &mut [u8], p: Place, lent: &[u8], v: Span) -> Place
     ensures { SpanPut lent.now v.start v.len out.old p out.new result }
 {
     let q = check_span(lent, v, p);
-    let Place::At(at) = q else {
+    let Ok(at) = q else {
         return q;
     };
     let start = v.start;
@@ -204,9 +197,9 @@ pub fn put_bytes(out: &mut [u8], p: Place, lent: &[u8], v: Span) -> Place
     if numbers::within(at, len, out.len()) {
         copy(out, at, lent, start, len);
         let end = at + len;
-        return Place::At(end);
+        return Ok(end);
     }
-    Place::Refused(Refusal::NoRoom, 0)
+    Err(Fault(Refusal::NoRoom, 0))
 }
 
 // A string of the lent bytes, put at a place as n[2] and its bytes: 9, 7, 5, 6, 11. The room is tested once, for both.
@@ -214,7 +207,7 @@ pub fn put_str(out: &mut [u8], p: Place, lent: &[u8], v: Span) -> Place
     ensures { StrPut lent.now v.start v.len out.old p out.new result }
 {
     let q = check_str(lent, v, p);
-    let Place::At(at) = q else {
+    let Ok(at) = q else {
         return q;
     };
     let len = v.len;
@@ -223,5 +216,5 @@ pub fn put_str(out: &mut [u8], p: Place, lent: &[u8], v: Span) -> Place
         let text = numbers::put_u16(out, q, len as u16);
         return put_bytes(out, text, lent, v);
     }
-    Place::Refused(Refusal::NoRoom, 0)
+    Err(Fault(Refusal::NoRoom, 0))
 }

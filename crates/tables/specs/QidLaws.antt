@@ -1,7 +1,8 @@
 -- An Rwalk written by steps from a table of qids is what the definition writes.
+use Rattle.numbers.specs.Place.{Place}
 use Prim.Native.Nat.{ℕ, zero, suc, ◌+◌, ◌*◌, ◌≤◌, ◌<◌}
 use Rattle.std.proofs.Common.{arith, ◌∙◌, length-take-le}
-use Rattle.std.specs.Prelude.{◌≡◌, true, take, get_or, ltb}
+use Rattle.std.specs.Prelude.{◌≡◌, true, take, get_or, ltb, Ok, Err}
 use Rattle.std.proofs.Math.Path.{refl, sym, ap}
 use mathlib.Core.List.{List, [], ◌∷◌, ◌++◌, append_assoc, append-nil}
 use Rattle.std.proofs.Math.ListN.{length, length-append}
@@ -14,8 +15,6 @@ use Rattle.numbers.specs.Places.{over, Put}
 use Rattle.numbers.proofs.PlaceLaws.{length_over, put_then}
 use Rattle.numbers.specs.declared.Refusal.{Refusal}
 use Rattle.numbers.specs.declared.Refusal.TheVariants as R
-use Rattle.numbers.specs.declared.Place.{Place}
-use Rattle.numbers.specs.declared.Place.TheVariants.{At, Refused}
 use Rattle.fields.specs.Layouts.{Item, number, item_bytes, items_bytes}
 use Rattle.fields.specs.Fields.{CountCheck}
 use Rattle.fields.proofs.FieldLaws.{count_passed, count_refused}
@@ -79,7 +78,7 @@ placed_over l at t (suc k) h r =
     ap (λ (z : List ℕ). over z (at + 13 * k) x) (placed_over l at t k (omega arith) (omega arith)) ∙ over_on l at (at + 13 * k) b x (omega arith) (omega arith)
     ∙ ap (over l at) (sym (qids_next t k (omega arith)))
 
-pub qid_put : (at i : ℕ) (x : Qid) {o o1 o2 o3 : List ℕ} {a b c : Place} → at + 13 * i + 13 ≤ length o → Put (to_le 1 x.ty) o (At (at + 13 * i)) o1 a → Put (to_le 4 x.version) o1 a o2 b → Put (to_le 8 x.path) o2 b o3 c
+pub qid_put : (at i : ℕ) (x : Qid) {o o1 o2 o3 : List ℕ} {a b c : Place} → at + 13 * i + 13 ≤ length o → Put (to_le 1 x.ty) o (Ok (at + 13 * i)) o1 a → Put (to_le 4 x.version) o1 a o2 b → Put (to_le 8 x.path) o2 b o3 c
     → o3 ≡ put_qid o at i x
 qid_put at i x {o} h p1 p2 p3 =
     let l = qid_length x in
@@ -88,7 +87,7 @@ qid_put at i x {o} h p1 p2 p3 =
 
 -- ---- the head
 
-head_count : (n tag : ℕ) {o o1 o2 : List ℕ} {q r : Place} → 9 + 13 * n ≤ length o → HeadPut 111 tag (At (9 + 13 * n)) o o1 q → Put (to_le 2 n) o1 (At 7) o2 r
+head_count : (n tag : ℕ) {o o1 o2 : List ℕ} {q r : Place} → 9 + 13 * n ≤ length o → HeadPut 111 tag (Ok (9 + 13 * n)) o o1 q → Put (to_le 2 n) o1 (Ok 7) o2 r
     → o2 ≡ over o 0 (head_bytes (9 + 13 * n) 111 tag ++ to_le 2 n)
 head_count n tag {o} {o1} l a b =
     let hd : List ℕ = head_bytes (9 + 13 * n) 111 tag in
@@ -101,21 +100,21 @@ head_count n tag {o} {o1} l a b =
 
 -- where the frame ends
 
-pub past_long : (room n : ℕ) {p : Place} {k : Refusal} {at : ℕ} → CountCheck n (At 9) p → p ≡ Refused k at → p ≡ rwalk_past room n
+pub past_long : (room n : ℕ) {p : Place} {k : Refusal} {at : ℕ} → CountCheck n (Ok 9) p → p ≡ Err (k, at) → p ≡ rwalk_past room n
 past_long room n c e =
     let f = lt-leb n 16 (count_refused c e) in
     let g = rw f at c.is in
     rw f g
 
-module _ (room n : ℕ) {p : Place} {a : ℕ} (c : CountCheck n (At 9) p) (e : p ≡ At a) where
+module _ (room n : ℕ) {p : Place} {a : ℕ} (c : CountCheck n (Ok 9) p) (e : p ≡ Ok a) where
   -- the place that the count was tested at, and the count
   pub past_head : (n ≤ 16) × (9 ≡ a)
   past_head = let h = count_passed c e in (h.0, cc h.1)
 
-  pub past_full : room < a + 13 * n → Refused R.NoRoom 0 ≡ rwalk_past room n
+  pub past_full : room < a + 13 * n → Err (R.NoRoom, 0) ≡ rwalk_past room n
   past_full l = let h = past_head in rw (le-leb n 16 h.0, lt-ltb room (9 + 13 * n) (rw (← h.1) at l))
 
-  pub past_room : a + 13 * n ≤ room → At (a + 13 * n) ≡ rwalk_past room n
+  pub past_room : a + 13 * n ≤ room → Ok (a + 13 * n) ≡ rwalk_past room n
   past_room l = let h = past_head in rw (← h.1) (rw (le-leb n 16 h.0, le-ltb room (9 + 13 * n) (rw (← h.1) at l)))
 
 -- what is known where it can be written
@@ -124,7 +123,7 @@ pub record Fitting (room n e : ℕ) : Type 0 where
   pub size : e ≡ 9 + 13 * n
   pub held : 9 + 13 * n ≤ room
 
-pub fitting : (room n : ℕ) {e : ℕ} → rwalk_past room n ≡ At e → Fitting room n e
+pub fitting : (room n : ℕ) {e : ℕ} → rwalk_past room n ≡ Ok e → Fitting room n e
 fitting room n {e} f =
     or_else n 16
     (λ h.
@@ -134,15 +133,15 @@ fitting room n {e} f =
     (λ l. absurd (let d = rw (c, lt-ltb room (9 + 13 * n) l) at f in let z : ◌≡◌ {A = ℕ} 0 1 = cc d in omega arith)))
     (λ h. absurd (let d = rw (lt-leb n 16 h) at f in let z : ◌≡◌ {A = ℕ} 0 1 = cc d in omega arith))
 
-pub head_none : (n tag : ℕ) (o : List ℕ) {p : Place} {k : Refusal} {at : ℕ} → p ≡ rwalk_past (length o) n → p ≡ Refused k at → (0 ≡ to_follow (length o) n) × (o ≡ headed o tag n)
+pub head_none : (n tag : ℕ) (o : List ℕ) {p : Place} {k : Refusal} {at : ℕ} → p ≡ rwalk_past (length o) n → p ≡ Err (k, at) → (0 ≡ to_follow (length o) n) × (o ≡ headed o tag n)
 head_none n tag o f g = let d = sym f ∙ g in (ap (λ p. all_of n p) (sym d), ap (λ p. head_at o tag n p) (sym d))
 
-pub head_put : (n tag : ℕ) (o : List ℕ) {e : ℕ} {o1 o2 : List ℕ} {p q r : Place} → p ≡ rwalk_past (length o) n → p ≡ At e → HeadPut 111 tag p o o1 q → Put (to_le 2 n) o1 (At 7) o2 r
+pub head_put : (n tag : ℕ) (o : List ℕ) {e : ℕ} {o1 o2 : List ℕ} {p q r : Place} → p ≡ rwalk_past (length o) n → p ≡ Ok e → HeadPut 111 tag p o o1 q → Put (to_le 2 n) o1 (Ok 7) o2 r
     → (n ≡ to_follow (length o) n) × (o2 ≡ headed o tag n)
 head_put n tag o {e} f g a b =
     let k = fitting (length o) n (sym f ∙ g) in
-    let d : rwalk_past (length o) n ≡ At (9 + 13 * n) = sym f ∙ g ∙ ap At k.size in
-    (ap (λ p. all_of n p) (sym d), head_count n tag k.held (rw (g ∙ ap At k.size) at a) b ∙ ap (λ p. head_at o tag n p) (sym d))
+    let d : rwalk_past (length o) n ≡ Ok (9 + 13 * n) = sym f ∙ g ∙ ap Ok k.size in
+    (ap (λ p. all_of n p) (sym d), head_count n tag k.held (rw (g ∙ ap Ok k.size) at a) b ∙ ap (λ p. head_at o tag n p) (sym d))
 
 -- ---- the frame
 
@@ -192,7 +191,7 @@ module _ (tag : ℕ) (t : List Qid) (o : List ℕ) {r : Place} (e : r ≡ rwalk_
       record {
         is = record {
           bytes = rw (f, g, b) (u ∙ sym (put_fits (frame_bytes 111 tag items) o 0 (omega arith)));
-          next = e ∙ rw (f, g, b) (sym (past_fits (frame_bytes 111 tag items) o 0 (omega arith) ∙ ap At (omega arith)));
+          next = e ∙ rw (f, g, b) (sym (past_fits (frame_bytes 111 tag items) o 0 (omega arith) ∙ ap Ok (omega arith)));
         };
       })
       (λ l.

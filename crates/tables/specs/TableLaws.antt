@@ -1,5 +1,6 @@
 -- What is written from a table of names is what the definition writes.
-use Rattle.std.specs.Prelude.{ℕ, suc, ◌+◌, ◌≤◌, ◌<◌, ◌≡◌, List, [], ◌∷◌, length, drop, get_or}
+use Rattle.numbers.specs.Place.{Place}
+use Rattle.std.specs.Prelude.{ℕ, suc, ◌+◌, ◌≤◌, ◌<◌, ◌≡◌, List, [], ◌∷◌, length, drop, get_or, Ok, Err}
 use Rattle.std.proofs.Common.{arith, sym, ◌∙◌, drop-cons}
 use Rattle.std.proofs.Math.Seq.{drop-length}
 use borrow.Author.Tests.{lt-leb, le-leb}
@@ -7,8 +8,6 @@ use Rattle.numbers.specs.Numbers.{Bytes, to_le}
 use Rattle.numbers.specs.Places.{Put}
 use Rattle.numbers.proofs.PlaceLaws.{one_answer}
 use Rattle.numbers.specs.declared.Refusal.{Refusal}
-use Rattle.numbers.specs.declared.Place.{Place}
-use Rattle.numbers.specs.declared.Place.TheVariants.{At, Refused}
 use Rattle.numbers.specs.Reading.{Result}
 use Rattle.strings.specs.Spans.{SpanPut}
 use Rattle.fields.specs.Fields.{CountCheck}
@@ -65,7 +64,7 @@ walk_put t f g h l = put_number f (put_number g (put_number h l))
 -- ---- the frame
 
 module _ {tag fid newfid : ℕ} {lent : List ℕ} {t : List (List ℕ)} {o : List ℕ} where
-  pub twalk_long : {p : Place} {k : Refusal} {at : ℕ} → CountCheck (length t) (At 7) p → p ≡ Refused k at → TwalkWritten tag fid newfid lent t o o p
+  pub twalk_long : {p : Place} {k : Refusal} {at : ℕ} → CountCheck (length t) (Ok 7) p → p ≡ Err (k, at) → TwalkWritten tag fid newfid lent t o o p
   unfolding frame_out frame_past
   twalk_long c e =
       let f = lt-leb (length t) 16 (count_refused c e) in
@@ -76,7 +75,7 @@ module _ {tag fid newfid : ℕ} {lent : List ℕ} {t : List (List ℕ)} {o : Lis
       → TwalkWritten tag fid newfid lent t o o' q
   in_table h e w = let f = le-leb (length t) 16 h in record { is = record { bytes = rw (f, ← e) w.bytes; next = rw (f, ← e) w.next } }
 
-  pub twalk_put : {n : ℕ} {o2 o3 : List ℕ} {a : ℕ} {p d e q r z : Place} → Bytes lent → CountCheck (length t) (At 7) p → p ≡ At a → n ≡ length t
+  pub twalk_put : {n : ℕ} {o2 o3 : List ℕ} {a : ℕ} {p d e q r z : Place} → Bytes lent → CountCheck (length t) (Ok 7) p → p ≡ Ok a → n ≡ length t
       → Advanced 10 p d → Measured (name_fields t) lent (name_values t) d e → Begun p e (length o) q → PutAll (walk_fields t) lent (walk_values fid newfid n t) o q o2 r
       → HeadPut 110 tag r o2 o3 z → TwalkWritten tag fid newfid lent t o o3 z
   twalk_put {n} {p = p} {e = e} b k f m v c s l d =

@@ -1,7 +1,7 @@
 -- Walks written from lent tables: a Twalk from spans of names (F5.14), an Rwalk from qids (F5.15).
+use Rattle.numbers.specs.Place.{Place}
 use Rattle.std.specs.Prelude.{ℕ, ◌≡◌, List, [], ◌∷◌, map, length, get_or}
 use Rattle.numbers.specs.Reading.{Result, ok}
-use Rattle.numbers.specs.declared.Place.{Place}
 use Rattle.fields.specs.Layouts.{num, str, Layout, Item, number, counted}
 use Rattle.fields.specs.Values.{Value, val, span, shows}
 use Rattle.layouts.specs.declared.qids.Qid.{Qid}

@@ -9,7 +9,7 @@ ghost use Rattle.tables.specs.Qids.{put_qid, placed, rwalk_past, to_follow, head
 
 use layouts::ids::{Fid, Tag};
 use layouts::qids::Qid;
-use numbers::{Place, Refusal};
+use numbers::{Fault, Place, Refusal};
 use strings::Span;
 
 // The names of a table, in order, each a string, measured from a place. A row of the table is a span: its start and its length.
@@ -76,8 +76,8 @@ pub fn write_twalk(
 ) -> Place
     ensures { TwalkWritten tag.0 fid.0 newfid.0 lent.now names.now out.old out.new result }
 {
-    let p = fields::check_count(names.len(), Place::At(framing::BODY));
-    let Place::At(_) = p else {
+    let p = fields::check_count(names.len(), Ok(framing::BODY));
+    let Ok(_) = p else {
         return p;
     };
     let count = names.len() as u16;
@@ -94,7 +94,7 @@ fn put_qid(out: &mut [u8], at: usize, i: usize, q: Qid)
     ensures { out.new ≡ put_qid out.old at i q }
 {
     let start = at + 13 * i;
-    let version = numbers::put_u8(out, Place::At(start), q.ty);
+    let version = numbers::put_u8(out, Ok(start), q.ty);
     let path = numbers::put_u32(out, version, q.version);
     numbers::put_u64(out, path, q.path);
 }
@@ -115,15 +115,15 @@ fn put_qids(out: &mut [u8], at: usize, qids: &[Qid], count: usize)
 fn rwalk_past(room: usize, count: usize) -> Place
     ensures { result ≡ rwalk_past room count }
 {
-    let p = fields::check_count(count, Place::At(9));
-    let Place::At(head) = p else {
+    let p = fields::check_count(count, Ok(9));
+    let Ok(head) = p else {
         return p;
     };
     let size = head + 13 * count;
     if room < size {
-        return Place::Refused(Refusal::NoRoom, 0);
+        return Err(Fault(Refusal::NoRoom, 0));
     }
-    Place::At(size)
+    Ok(size)
 }
 
 // What stands before the qids of an Rwalk, put if the frame can be written; and how many qids are to follow it.
@@ -131,11 +131,11 @@ fn rwalk_head(out: &mut [u8], tag: Tag, count: usize) -> usize
     ensures { (result ≡ to_follow (length out.old) count) × (out.new ≡ headed out.old tag.0 count) }
 {
     let end = rwalk_past(out.len(), count);
-    let Place::At(_) = end else {
+    let Ok(_) = end else {
         return 0;
     };
     framing::put_header(out, end, 111, tag.0);
-    numbers::put_u16(out, Place::At(framing::BODY), count as u16);
+    numbers::put_u16(out, Ok(framing::BODY), count as u16);
     count
 }
 

@@ -7,7 +7,7 @@ ghost use Rattle.stats.specs.Unix.{layout_rstat, layout_twstat};
 ghost use Rattle.unix.specs.Records.{rstat, twstat};
 
 use layouts::ids::Fid;
-use numbers::Place;
+use numbers::{Place, Read};
 use stats::unix::UnixStat;
 
 #[derive(Clone, Copy)]
@@ -15,20 +15,14 @@ pub struct Rstat {
     pub stat: UnixStat,
 }
 
-#[derive(Clone, Copy)]
-pub struct ReadRstat {
-    pub value: Rstat,
-    pub next: Place,
-}
-
-pub fn read_rstat(s: &[u8], p: Place) -> ReadRstat
+pub fn read_rstat(s: &[u8], p: Place) -> Read<Rstat>
     ensures { Fields layout_rstat s.now p (rstat result.value) result.next }
 {
     let r1 = stats::unix::read_stat(s, p);
     let p1 = r1.next;
     let stat = r1.value;
     let value = Rstat { stat };
-    ReadRstat { value, next: p1 }
+    Read { value, next: p1 }
 }
 
 pub fn write_rstat(out: &mut [u8], p: Place, lent: &[u8], m: Rstat) -> Place
@@ -46,13 +40,7 @@ pub struct Twstat {
     pub stat: UnixStat,
 }
 
-#[derive(Clone, Copy)]
-pub struct ReadTwstat {
-    pub value: Twstat,
-    pub next: Place,
-}
-
-pub fn read_twstat(s: &[u8], p: Place) -> ReadTwstat
+pub fn read_twstat(s: &[u8], p: Place) -> Read<Twstat>
     ensures { Fields layout_twstat s.now p (twstat result.value) result.next }
 {
     let r1 = numbers::read_u32(s, p);
@@ -62,7 +50,7 @@ pub fn read_twstat(s: &[u8], p: Place) -> ReadTwstat
     let p2 = r2.next;
     let stat = r2.value;
     let value = Twstat { fid, stat };
-    ReadTwstat { value, next: p2 }
+    Read { value, next: p2 }
 }
 
 pub fn write_twstat(out: &mut [u8], p: Place, lent: &[u8], m: Twstat) -> Place

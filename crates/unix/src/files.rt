@@ -7,7 +7,7 @@ ghost use Rattle.stats.specs.Unix.{layout_tcreate};
 ghost use Rattle.unix.specs.Records.{tcreate};
 
 use layouts::ids::Fid;
-use numbers::Place;
+use numbers::{Place, Read};
 use strings::Span;
 
 #[derive(Clone, Copy)]
@@ -19,13 +19,7 @@ pub struct Tcreate {
     pub extension: Span,
 }
 
-#[derive(Clone, Copy)]
-pub struct ReadTcreate {
-    pub value: Tcreate,
-    pub next: Place,
-}
-
-pub fn read_tcreate(s: &[u8], p: Place) -> ReadTcreate
+pub fn read_tcreate(s: &[u8], p: Place) -> Read<Tcreate>
     ensures { Fields layout_tcreate s.now p (tcreate result.value) result.next }
 {
     let r1 = numbers::read_u32(s, p);
@@ -48,7 +42,7 @@ pub fn read_tcreate(s: &[u8], p: Place) -> ReadTcreate
         mode: r4.value,
         extension,
     };
-    ReadTcreate { value, next: p5 }
+    Read { value, next: p5 }
 }
 
 pub fn write_tcreate(out: &mut [u8], p: Place, lent: &[u8], m: Tcreate) -> Place

@@ -6,7 +6,7 @@ ghost use Rattle.laying.specs.Laying.{Written};
 ghost use Rattle.stats.specs.Unix.{layout_rerror};
 ghost use Rattle.unix.specs.Records.{rerror};
 
-use numbers::Place;
+use numbers::{Place, Read};
 use strings::Span;
 
 #[derive(Clone, Copy)]
@@ -15,13 +15,7 @@ pub struct Rerror {
     pub errno: u32,
 }
 
-#[derive(Clone, Copy)]
-pub struct ReadRerror {
-    pub value: Rerror,
-    pub next: Place,
-}
-
-pub fn read_rerror(s: &[u8], p: Place) -> ReadRerror
+pub fn read_rerror(s: &[u8], p: Place) -> Read<Rerror>
     ensures { Fields layout_rerror s.now p (rerror result.value) result.next }
 {
     let r1 = strings::read_str(s, p);
@@ -33,7 +27,7 @@ pub fn read_rerror(s: &[u8], p: Place) -> ReadRerror
         ename,
         errno: r2.value,
     };
-    ReadRerror { value, next: p2 }
+    Read { value, next: p2 }
 }
 
 pub fn write_rerror(out: &mut [u8], p: Place, lent: &[u8], m: Rerror) -> Place

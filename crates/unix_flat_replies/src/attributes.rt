@@ -13,7 +13,7 @@ pub(crate) fn read_rstat(s: &[u8], p: Place, values: &mut [u64; WIDTH_R]) -> Pla
 {
     let r = unix::attributes::read_rstat(s, p);
     let next = r.next;
-    let Place::At(_) = next else {
+    let Ok(_) = next else {
         return next;
     };
     let m = r.value;

@@ -13,7 +13,7 @@ pub(crate) fn read_tcreate(s: &[u8], p: Place, values: &mut [u64; WIDTH_T]) -> P
 {
     let r = unix::files::read_tcreate(s, p);
     let next = r.next;
-    let Place::At(_) = next else {
+    let Ok(_) = next else {
         return next;
     };
     let m = r.value;

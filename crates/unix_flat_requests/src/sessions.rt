@@ -13,7 +13,7 @@ pub(crate) fn read_tauth(s: &[u8], p: Place, values: &mut [u64; WIDTH_T]) -> Pla
 {
     let r = messages::sessions::read_tauth(s, p);
     let next = r.next;
-    let Place::At(_) = next else {
+    let Ok(_) = next else {
         return next;
     };
     let m = r.value;
@@ -26,7 +26,7 @@ pub(crate) fn read_tattach(s: &[u8], p: Place, values: &mut [u64; WIDTH_T]) -> P
 {
     let r = messages::sessions::read_tattach(s, p);
     let next = r.next;
-    let Place::At(_) = next else {
+    let Ok(_) = next else {
         return next;
     };
     let m = r.value;

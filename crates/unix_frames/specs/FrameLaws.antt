@@ -1,11 +1,11 @@
 -- Written by tools/messages from crates/frames/specs/FrameLaws.antt.
 -- What the two readers answer at a position is what the definition reads there.
+use Rattle.numbers.specs.Place.{Place}
 use Rattle.std.specs.Prelude.{ℕ, ◌+◌, ◌-◌, min, ◌≡◌, List, length, take, drop}
 use Rattle.std.proofs.Common.{sym, ◌∙◌}
 use Rattle.std.proofs.Math.Path.{ap}
 use Rattle.numbers.specs.Numbers.{Bytes}
 use Rattle.numbers.specs.declared.Refusal.{Refusal}
-use Rattle.numbers.specs.declared.Place.{Place}
 use Rattle.stats.specs.Unix.{table_t, table_r}
 use Rattle.layouts.specs.Bodies.{accepted, read_body}
 use Rattle.framing.specs.Frames.{framed, refused_whole}

@@ -1,10 +1,9 @@
 -- Written by tools/messages from crates/frames/specs/RequestLaws.antt.
 -- A request written: its message, or 16 where it holds a refusal.
-use Rattle.std.specs.Prelude.{ℕ, ◌≡◌, refl, List}
+use Rattle.numbers.specs.Place.{Place}
+use Rattle.std.specs.Prelude.{ℕ, ◌≡◌, refl, List, Err}
 use Rattle.numbers.specs.declared.Refusal.{Refusal}
 use Rattle.numbers.specs.declared.Refusal.TheVariants as R
-use Rattle.numbers.specs.declared.Place.{Place}
-use Rattle.numbers.specs.declared.Place.TheVariants.{Refused}
 use Rattle.unix_requests.specs.Views.{type_t, layout_t, values_t}
 use Rattle.unix_requests.specs.declared.Tmessage.{Tmessage}
 use Rattle.unix_requests.specs.declared.Tbody.{Tbody}
@@ -17,6 +16,6 @@ pub request_written : (lent : List ℕ) (tag : ℕ) (b : Tbody) {n : ℕ} {m : T
 unfolding TbodyWritten
 request_written lent tag b e w = rw e w
 
-pub request_refused : (lent : List ℕ) (tag : ℕ) (b : Tbody) (o : List ℕ) {k : Refusal} {at : ℕ} → b ≡ M.Refused k at → TbodyWritten lent tag b o o (Refused R.HoldsRefusal 0)
+pub request_refused : (lent : List ℕ) (tag : ℕ) (b : Tbody) (o : List ℕ) {k : Refusal} {at : ℕ} → b ≡ M.Refused k at → TbodyWritten lent tag b o o (Err (R.HoldsRefusal, 0))
 unfolding TbodyWritten
 request_refused lent tag b o e = rw e (refl, refl)

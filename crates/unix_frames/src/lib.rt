@@ -15,7 +15,7 @@ ghost use Rattle.unix_frames.specs.Views.{view_tframe, view_rframe, TframeWritte
 
 use framing::Head;
 use layouts::ids::Tag;
-use numbers::{Place, Refusal};
+use numbers::{Fault, Place, Refusal};
 use unix_replies::{Rbody, Rmessage};
 use unix_requests::Tbody;
 
@@ -138,11 +138,11 @@ pub fn write_tframe(out: &mut [u8], lent: &[u8], f: Tframe) -> Place
     let msg = f.msg;
     match msg {
         Tbody::Message(m, _) => {
-            let end = unix_requests::write_tmessage(out, Place::At(framing::BODY), lent, m);
+            let end = unix_requests::write_tmessage(out, Ok(framing::BODY), lent, m);
             let ty = unix_requests::type_of(m);
             framing::put_header(out, end, ty, tag.0)
         }
-        Tbody::Refused(_, _) => Place::Refused(Refusal::HoldsRefusal, 0),
+        Tbody::Refused(_, _) => Err(Fault(Refusal::HoldsRefusal, 0)),
     }
 }
 
@@ -152,7 +152,7 @@ pub fn write_rframe(out: &mut [u8], lent: &[u8], f: Rframe) -> Place
 {
     let tag = f.tag;
     let msg = f.msg;
-    let end = unix_replies::write_rmessage(out, Place::At(framing::BODY), lent, msg);
+    let end = unix_replies::write_rmessage(out, Ok(framing::BODY), lent, msg);
     let ty = unix_replies::type_of(msg);
     framing::put_header(out, end, ty, tag.0)
 }

@@ -13,7 +13,7 @@ use common::files::{Tread, Tremove, Twrite};
 use common::sessions::{Tclunk, Tflush, Tversion};
 use common::walking::Twalk;
 use messages::sessions::{Tattach, Tauth};
-use numbers::{Place, Refusal};
+use numbers::{Fault, Place, Refusal};
 use plain::attributes::Tstat;
 use plain::files::Topen;
 use unix::attributes::Twstat;
@@ -47,8 +47,8 @@ fn finish(m: Tmessage, end: Place) -> Tbody
     ensures { view_t result ≡ finish_at (type_t m) (values_t m) end }
 {
     match end {
-        Place::At(n) => Tbody::Message(m, n),
-        Place::Refused(k, n) => Tbody::Refused(k, n),
+        Ok(n) => Tbody::Message(m, n),
+        Err(Fault(k, n)) => Tbody::Refused(k, n),
     }
 }
 

@@ -11,21 +11,21 @@ returns-in_default c =
 pub returns-then-second-gt65535 : goal.returns-then-second-gt65535
 returns-then-second-gt65535 c =
     let a = c.args in
-    second_long a.first.now a.second.now c.in-At.is c.if-second-gt65535.true
+    second_long a.first.now a.second.now c.in-Ok.is c.if-second-gt65535.true
 
 pub overflow_add-at : goal.overflow_add-at
 overflow_add-at c =
     let a = c.args in
-    let n = second_lies a.first.now a.second.now c.in-At.is (omega (arith, c.if-second-gt65535.false)) c.measure-q.ensures c.in-Refused.is in
-    let l = first_short a.first.now c.in-At.is c.requires in
+    let n = second_lies a.first.now a.second.now c.in-Ok.is (omega (arith, c.if-second-gt65535.false)) c.measure-q.ensures c.in-Refused.is in
+    let l = first_short a.first.now c.in-Ok.is c.requires in
     omega (arith, c.if-second-gt65535.false)
 
-pub returns-in-At-q : goal.returns-in-At-q
-returns-in-At-q c =
+pub returns-in-Ok-q : goal.returns-in-Ok-q
+returns-in-Ok-q c =
     let a = c.args in
-    second_good a.first.now a.second.now c.in-At.is (omega (arith, c.if-second-gt65535.false)) c.measure-q.ensures c.in-At-q.is
+    second_good a.first.now a.second.now c.in-Ok.is (omega (arith, c.if-second-gt65535.false)) c.measure-q.ensures c.in-Ok-q.is
 
 pub returns-in-Refused : goal.returns-in-Refused
 returns-in-Refused c =
     let a = c.args in
-    second_bad a.first.now a.second.now c.in-At.is (omega (arith, c.if-second-gt65535.false)) c.measure-q.ensures c.in-Refused.is
+    second_bad a.first.now a.second.now c.in-Ok.is (omega (arith, c.if-second-gt65535.false)) c.measure-q.ensures c.in-Refused.is

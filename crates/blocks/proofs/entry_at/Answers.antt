@@ -6,10 +6,10 @@ use Rattle.blocks.proofs.entry_at.Goals as goal
 pub returns-then-position-block : goal.returns-then-position-block
 returns-then-position-block c = asked_end _ _ c.if-position-block.true
 
-pub returns-in-At : goal.returns-in-At
-returns-in-At c =
+pub returns-in-Ok : goal.returns-in-Ok
+returns-in-Ok c =
     let b = bytes_all c.args.block.now (λ i. (c.type_inv.block i).fits) in
-    asked_entry _ _ b c.if-position-block.false c.read_dirent-read.ensures c.in-At.is
+    asked_entry _ _ b c.if-position-block.false c.read_dirent-read.ensures c.in-Ok.is
 
 pub returns-in-Refused : goal.returns-in-Refused
 returns-in-Refused c =

@@ -20,14 +20,14 @@ pub loop-at-smaller : goal.loop-at-smaller
 loop-at-smaller c =
     let a = c.args in
     let l = c.loop-at in
-    let x = next a.stretch.now l.at l.invariant.0 c.frame_end-p.ensures c.in-At.is in
+    let x = next a.stretch.now l.at l.invariant.0 c.frame_end-p.ensures c.in-Ok.is in
     omega (arith, x.held, x.on, x.seven, l.invariant.0, l.invariant.1)
 
 pub loop-at-preserved : goal.loop-at-preserved
 loop-at-preserved c =
     let a = c.args in
     let l = c.loop-at in
-    let x = next a.stretch.now l.at l.invariant.0 c.frame_end-p.ensures c.in-At.is in
+    let x = next a.stretch.now l.at l.invariant.0 c.frame_end-p.ensures c.in-Ok.is in
     let h = x.held in
     let k = l.invariant.1 in
     let m = x.on in

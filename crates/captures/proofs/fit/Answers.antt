@@ -20,28 +20,28 @@ pub overflow_sub-next : goal.overflow_sub-next
 overflow_sub-next c =
     let a = c.args in
     let l = c.loop-at in
-    let x = next a.stretch.now l.at l.invariant.0 c.frame_end-p.ensures c.in-At.is in
+    let x = next a.stretch.now l.at l.invariant.0 c.frame_end-p.ensures c.in-Ok.is in
     omega (arith, x.on)
 
 pub returns-then-next-at : goal.returns-then-next-at
 returns-then-next-at c =
     let a = c.args in
     let l = c.loop-at in
-    let x = next a.stretch.now l.at l.invariant.0 c.frame_end-p.ensures c.in-At.is in
+    let x = next a.stretch.now l.at l.invariant.0 c.frame_end-p.ensures c.in-Ok.is in
     fit_long x c.if-next-at.true ∙ l.invariant.1
 
 pub loop-at-smaller : goal.loop-at-smaller
 loop-at-smaller c =
     let a = c.args in
     let l = c.loop-at in
-    let x = next a.stretch.now l.at l.invariant.0 c.frame_end-p.ensures c.in-At.is in
+    let x = next a.stretch.now l.at l.invariant.0 c.frame_end-p.ensures c.in-Ok.is in
     omega (arith, x.held, x.on, x.seven, l.invariant.0)
 
 pub loop-at-preserved : goal.loop-at-preserved
 loop-at-preserved c =
     let a = c.args in
     let l = c.loop-at in
-    let x = next a.stretch.now l.at l.invariant.0 c.frame_end-p.ensures c.in-At.is in
+    let x = next a.stretch.now l.at l.invariant.0 c.frame_end-p.ensures c.in-Ok.is in
     let h = x.held in
     (omega arith, fit_turn x c.if-next-at.false ∙ l.invariant.1)
 

@@ -19,49 +19,49 @@ pub overflow_sub-len : goal.overflow_sub-len
 overflow_sub-len c =
     let a = c.args in
     let l = c.loop-at in
-    let x = next a.stretch.now l.at l.invariant.within c.frame_end.ensures c.in-At.is in
+    let x = next a.stretch.now l.at l.invariant.within c.frame_end.ensures c.in-Ok.is in
     omega (arith, x.held, x.on, x.seven)
 
 pub bounds-times-i : goal.bounds-times-i
 bounds-times-i c =
     let a = c.args in
     let l = c.loop-at in
-    let x = next a.stretch.now l.at l.invariant.within c.frame_end.ensures c.in-At.is in
+    let x = next a.stretch.now l.at l.invariant.within c.frame_end.ensures c.in-Ok.is in
     omega (arith, row_there a.stretch.now a.times.now a.out.now l.out l.at l.to l.i l.invariant x)
 
-pub bounds-times-i-in-At : goal.bounds-times-i-in-At
-bounds-times-i-in-At c =
+pub bounds-times-i-in-Ok : goal.bounds-times-i-in-Ok
+bounds-times-i-in-Ok c =
     let a = c.args in
     let l = c.loop-at in
-    let x = next a.stretch.now l.at l.invariant.within c.frame_end.ensures c.in-At.is in
+    let x = next a.stretch.now l.at l.invariant.within c.frame_end.ensures c.in-Ok.is in
     omega (arith, row_there a.stretch.now a.times.now a.out.now l.out l.at l.to l.i l.invariant x)
 
 pub put_record-requires : goal.put_record-requires
 put_record-requires c =
     let a = c.args in
     let l = c.loop-at in
-    let x = next a.stretch.now l.at l.invariant.within c.frame_end.ensures c.in-At.is in
+    let x = next a.stretch.now l.at l.invariant.within c.frame_end.ensures c.in-Ok.is in
     (omega (arith, x.held, x.on), room_there a.stretch.now a.times.now a.out.now l.out l.at l.to l.i l.invariant x)
 
 pub overflow_add-to-in-loop-at : goal.overflow_add-to-in-loop-at
 overflow_add-to-in-loop-at c =
     let a = c.args in
     let l = c.loop-at in
-    let x = next a.stretch.now l.at l.invariant.within c.frame_end.ensures c.in-At.is in
+    let x = next a.stretch.now l.at l.invariant.within c.frame_end.ensures c.in-Ok.is in
     omega (arith, room_there a.stretch.now a.times.now a.out.now l.out l.at l.to l.i l.invariant x)
 
 pub loop-at-smaller : goal.loop-at-smaller
 loop-at-smaller c =
     let a = c.args in
     let l = c.loop-at in
-    let x = next a.stretch.now l.at l.invariant.within c.frame_end.ensures c.in-At.is in
+    let x = next a.stretch.now l.at l.invariant.within c.frame_end.ensures c.in-Ok.is in
     omega (arith, x.held, x.on, x.seven)
 
 pub loop-at-preserved : goal.loop-at-preserved
 loop-at-preserved c =
     let a = c.args in
     let l = c.loop-at in
-    let x = next a.stretch.now l.at l.invariant.within c.frame_end.ensures c.in-At.is in
+    let x = next a.stretch.now l.at l.invariant.within c.frame_end.ensures c.in-Ok.is in
     put_turn a.stretch.now a.times.now a.out.now l.out l.at l.to l.i l.invariant x c.put_record.ensures
 
 pub returns : goal.returns

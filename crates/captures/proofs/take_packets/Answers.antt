@@ -14,42 +14,42 @@ pub number-seconds-requires : goal.number-seconds-requires
 number-seconds-requires c =
     let a = c.args in
     let l = c.loop-at in
-    let x = stands a.big a.file.now l.at c.frame_size.ensures c.in-At.is in
+    let x = stands a.big a.file.now l.at c.frame_size.ensures c.in-Ok.is in
     omega (arith, x.held, x.seven, l.invariant.within)
 
 pub number-micros-requires : goal.number-micros-requires
 number-micros-requires c =
     let a = c.args in
     let l = c.loop-at in
-    let x = stands a.big a.file.now l.at c.frame_size.ensures c.in-At.is in
+    let x = stands a.big a.file.now l.at c.frame_size.ensures c.in-Ok.is in
     omega (arith, x.held, x.seven, l.invariant.within)
 
 pub bounds-times-i : goal.bounds-times-i
 bounds-times-i c =
     let a = c.args in
     let l = c.loop-at in
-    let x = stands a.big a.file.now l.at c.frame_size.ensures c.in-At.is in
+    let x = stands a.big a.file.now l.at c.frame_size.ensures c.in-Ok.is in
     row_left a.big a.file.now a.out.now a.times.now l.out l.times l.at l.to l.i l.invariant x
 
 pub overflow_add-to : goal.overflow_add-to
 overflow_add-to c =
     let a = c.args in
     let l = c.loop-at in
-    let x = stands a.big a.file.now l.at c.frame_size.ensures c.in-At.is in
+    let x = stands a.big a.file.now l.at c.frame_size.ensures c.in-Ok.is in
     omega (arith, room_left a.big a.file.now a.out.now a.times.now l.out l.times l.at l.to l.i l.invariant x)
 
 pub overflow_add-at-in-loop-at : goal.overflow_add-at-in-loop-at
 overflow_add-at-in-loop-at c =
     let a = c.args in
     let l = c.loop-at in
-    let x = stands a.big a.file.now l.at c.frame_size.ensures c.in-At.is in
+    let x = stands a.big a.file.now l.at c.frame_size.ensures c.in-Ok.is in
     omega (arith, x.held, x.seven, l.invariant.within)
 
 pub loop-at-preserved : goal.loop-at-preserved
 loop-at-preserved c =
     let a = c.args in
     let l = c.loop-at in
-    let x = stands a.big a.file.now l.at c.frame_size.ensures c.in-At.is in
+    let x = stands a.big a.file.now l.at c.frame_size.ensures c.in-Ok.is in
     take_turn a.big a.file.now a.out.now a.times.now l.out l.times l.at l.to l.i l.invariant x c.number-seconds.ensures c.number-micros.ensures c.put_bytes.ensures
 
 pub returns : goal.returns

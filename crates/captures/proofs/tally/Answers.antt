@@ -14,21 +14,21 @@ pub overflow_add-bytes : goal.overflow_add-bytes
 overflow_add-bytes c =
     let a = c.args in
     let l = c.loop-at in
-    let x = stands a.big a.file.now l.at c.frame_size.ensures c.in-At.is in
+    let x = stands a.big a.file.now l.at c.frame_size.ensures c.in-Ok.is in
     omega (arith, x.held, l.invariant.0, l.invariant.1, l.invariant.2)
 
 pub overflow_add-at-in-loop-at : goal.overflow_add-at-in-loop-at
 overflow_add-at-in-loop-at c =
     let a = c.args in
     let l = c.loop-at in
-    let x = stands a.big a.file.now l.at c.frame_size.ensures c.in-At.is in
+    let x = stands a.big a.file.now l.at c.frame_size.ensures c.in-Ok.is in
     omega (arith, x.held, l.invariant.0, l.invariant.1, l.invariant.2)
 
 pub loop-at-preserved : goal.loop-at-preserved
 loop-at-preserved c =
     let a = c.args in
     let l = c.loop-at in
-    let x = stands a.big a.file.now l.at c.frame_size.ensures c.in-At.is in
+    let x = stands a.big a.file.now l.at c.frame_size.ensures c.in-Ok.is in
     let h = x.held in
     let k = l.invariant.1 in
     let m = l.invariant.2 in

@@ -7,12 +7,12 @@ returns-in_default c = data_cut c.read_u32-count.ensures c.in_default.is
 
 pub returns-then-limit-len : goal.returns-then-limit-len
 returns-then-limit-len c =
-    data_limit c.read_u32-count.ensures c.in-At.is c.if-limit-len.true
+    data_limit c.read_u32-count.ensures c.in-Ok.is c.if-limit-len.true
 
 pub returns-then-within : goal.returns-then-within
 returns-then-within c =
-    data_good c.read_u32-count.ensures c.in-At.is c.if-limit-len.false c.within.ensures c.if-within.true
+    data_good c.read_u32-count.ensures c.in-Ok.is c.if-limit-len.false c.within.ensures c.if-within.true
 
 pub returns : goal.returns
 returns c =
-    data_short c.read_u32-count.ensures c.in-At.is c.if-limit-len.false c.within.ensures c.if-within.false
+    data_short c.read_u32-count.ensures c.in-Ok.is c.if-limit-len.false c.within.ensures c.if-within.false

@@ -7,18 +7,18 @@ pub returns-in_default : goal.returns-in_default
 returns-in_default c = strs_cut c.read_count-c.ensures c.in_default.is c.no_part.ensures
 
 pub scan_names-end-requires : goal.scan_names-end-requires
-scan_names-end-requires c = count_lies c.read_count-c.ensures c.in-At.is
+scan_names-end-requires c = count_lies c.read_count-c.ensures c.in-Ok.is
 
 pub returns-in_default-end : goal.returns-in_default-end
 returns-in_default-end c =
-    strs_bad c.read_count-c.ensures c.in-At.is c.scan_names-end.ensures c.in_default-end.is c.no_part-in_default-end.ensures
+    strs_bad c.read_count-c.ensures c.in-Ok.is c.scan_names-end.ensures c.in_default-end.is c.no_part-in_default-end.ensures
 
 pub overflow_sub-len : goal.overflow_sub-len
 overflow_sub-len c =
     let b = bytes_all c.args.s.now (λ i. (c.type_inv.s i).fits) in
-    strs_on b c.read_count-c.ensures c.in-At.is c.scan_names-end.ensures c.in-At-end.is
+    strs_on b c.read_count-c.ensures c.in-Ok.is c.scan_names-end.ensures c.in-Ok-end.is
 
 pub returns : goal.returns
 returns c =
     let b = bytes_all c.args.s.now (λ i. (c.type_inv.s i).fits) in
-    strs_good b c.read_count-c.ensures c.in-At.is c.scan_names-end.ensures c.in-At-end.is
+    strs_good b c.read_count-c.ensures c.in-Ok.is c.scan_names-end.ensures c.in-Ok-end.is

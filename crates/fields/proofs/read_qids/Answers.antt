@@ -7,8 +7,8 @@ returns-in_default c = quids_cut c.read_count-c.ensures c.in_default.is c.no_par
 
 pub returns-then-within : goal.returns-then-within
 returns-then-within c =
-    quids_good c.read_count-c.ensures c.in-At.is c.within.ensures c.if-within.true
+    quids_good c.read_count-c.ensures c.in-Ok.is c.within.ensures c.if-within.true
 
 pub returns : goal.returns
 returns c =
-    quids_short c.read_count-c.ensures c.in-At.is c.within.ensures c.if-within.false c.no_part-2.ensures
+    quids_short c.read_count-c.ensures c.in-Ok.is c.within.ensures c.if-within.false c.no_part-2.ensures

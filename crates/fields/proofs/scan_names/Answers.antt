@@ -16,12 +16,12 @@ loop-i-preserved-then-k-gt0 c =
 pub loop-i-preserved : goal.loop-i-preserved
 loop-i-preserved c =
     let l = c.loop-i in
-    (omega arith, l.invariant.1, all_good _ l.invariant.1 (str_is_text (omega arith) (omega arith) c.check_str-q.ensures) c.in-At-q.is)
+    (omega arith, l.invariant.1, all_good _ l.invariant.1 (str_is_text (omega arith) (omega arith) c.check_str-q.ensures) c.in-Ok-q.is)
 
 pub names-preserved : goal.names-preserved
 names-preserved c =
     let l = c.loop-i in
-    let m = the_name c.read_u16-c.ensures c.in-At.is (omega arith) in
+    let m = the_name c.read_u16-c.ensures c.in-Ok.is (omega arith) in
     (m.lies, one_off c.if-n-eq0.false m (omega (arith, l.invariant.1)) l.invariant.2 c.names.invariant.1)
 
 pub returns-then-n-eq0 : goal.returns-then-n-eq0
@@ -34,15 +34,15 @@ returns-in_default c =
 
 pub returns-then-s-len : goal.returns-then-s-len
 returns-then-s-len c =
-    record { next = bytes_cut c.if-n-eq0.false c.read_u16-c.ensures c.in-At.is (omega arith) c.names.invariant.1 }
+    record { next = bytes_cut c.if-n-eq0.false c.read_u16-c.ensures c.in-Ok.is (omega arith) c.names.invariant.1 }
 
 pub returns-then-s-len-2 : goal.returns-then-s-len-2
 returns-then-s-len-2 c =
-    record { next = bytes_cut c.if-n-eq0.false c.read_u16-c.ensures c.in-At.is (omega arith) c.names.invariant.1 }
+    record { next = bytes_cut c.if-n-eq0.false c.read_u16-c.ensures c.in-Ok.is (omega arith) c.names.invariant.1 }
 
 pub returns-in_default-q : goal.returns-in_default-q
 returns-in_default-q c =
-    let m = the_name c.read_u16-c.ensures c.in-At.is (omega (arith, c.if-s-len.false, c.if-s-len-2.false)) in
+    let m = the_name c.read_u16-c.ensures c.in-Ok.is (omega (arith, c.if-s-len.false, c.if-s-len-2.false)) in
     let b = bytes_all c.args.s.now (λ i. (c.type_inv.s i).fits) in
     let f : c.read_u16-c.result.value < 65536 = num_fits b c.read_u16-c.ensures in
     record { next = text_bad c.if-n-eq0.false m (str_is_text m.lies (omega arith) c.check_str-q.ensures) c.in_default-q.is c.names.invariant.1 }

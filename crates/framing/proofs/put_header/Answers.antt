@@ -3,8 +3,8 @@ use Rattle.framing.proofs.WritingLaws.{head_full, head_put}
 use Rattle.framing.proofs.put_header.Goals as goal
 
 pub returns-then-out-lt-HEADER : goal.returns-then-out-lt-HEADER
-returns-then-out-lt-HEADER c = head_full c.in-At.is c.if-out-lt-HEADER.true
+returns-then-out-lt-HEADER c = head_full c.in-Ok.is c.if-out-lt-HEADER.true
 
 pub returns : goal.returns
 returns c =
-    head_put c.in-At.is c.if-out-lt-HEADER.false c.put_num-a.ensures c.put_u8-b.ensures c.put_u16.ensures
+    head_put c.in-Ok.is c.if-out-lt-HEADER.false c.put_num-a.ensures c.put_u8-b.ensures c.put_u16.ensures

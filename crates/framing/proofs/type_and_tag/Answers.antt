@@ -3,9 +3,9 @@ use Rattle.framing.specs.Headers.{TypeTag}
 use Rattle.framing.proofs.HeaderLaws.{tagged, untagged}
 use Rattle.framing.proofs.type_and_tag.Goals as goal
 
-pub returns-in-At : goal.returns-in-At
+pub returns-in-Ok : goal.returns-in-Ok
 unfolding TypeTag
-returns-in-At c = tagged c.read_u8-t.ensures c.read_u16-g.ensures c.in-At.is
+returns-in-Ok c = tagged c.read_u8-t.ensures c.read_u16-g.ensures c.in-Ok.is
 
 pub returns-in-Refused : goal.returns-in-Refused
 unfolding TypeTag

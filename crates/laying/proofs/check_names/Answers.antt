@@ -11,13 +11,13 @@ pub returns-in_default : goal.returns-in_default
 returns-in_default c = strs_outside c.check_part-q.ensures c.in_default.is
 
 pub overflow_add-stop : goal.overflow_add-stop
-overflow_add-stop c = omega (arith, part_lies c.check_part-q.ensures c.in-At.is)
+overflow_add-stop c = omega (arith, part_lies c.check_part-q.ensures c.in-Ok.is)
 
 pub slice_bounds-scan-end : goal.slice_bounds-scan-end
 slice_bounds-scan-end c =
-    sym (length-take-le _ _ (part_lies c.check_part-q.ensures c.in-At.is))
+    sym (length-take-le _ _ (part_lies c.check_part-q.ensures c.in-Ok.is))
 
 pub returns : goal.returns
 returns c =
     let b = bytes_all c.args.lent.now (λ i. (c.type_inv.lent i).fits) in
-    strs_scanned b c.check_part-q.ensures c.in-At.is c.scan-end.ensures c.filled.ensures
+    strs_scanned b c.check_part-q.ensures c.in-Ok.is c.scan-end.ensures c.filled.ensures

@@ -7,8 +7,8 @@ returns-in_default c = quids_outside c.check_part-q.ensures c.in_default.is
 
 pub returns-then-elements-v : goal.returns-then-elements-v
 returns-then-elements-v c =
-    quids_fine c.check_part-q.ensures c.in-At.is c.if-elements-v.true
+    quids_fine c.check_part-q.ensures c.in-Ok.is c.if-elements-v.true
 
 pub returns : goal.returns
 returns c =
-    quids_malformed c.check_part-q.ensures c.in-At.is c.if-elements-v.false
+    quids_malformed c.check_part-q.ensures c.in-Ok.is c.if-elements-v.false

@@ -1,30 +1,27 @@
-use Prim.Native.Nat.{◌-◌, ◌+◌}
-use borrow.Author.Rules.{rules}
-use native.Mathlib.Omega.{arith}
+use Rattle.std.specs.Prelude.{◌+◌, ◌-◌, ◌≡◌, refl, take, drop}
+use Rattle.std.proofs.Common.{arith}
 use Rattle.numbers.proofs.Numbers.{bytes_all}
-use Rattle.numbers.proofs.Loops.{read_begins, read_turn, read_bound}
+use Rattle.numbers.proofs.Loops.{taken_begins, taken_turn, taken_fits, taken_ends}
 use Rattle.numbers.proofs.le_at.Goals as goal
 
-pub loop-k-init : goal.loop-k-init
-loop-k-init c = let a = c.args in (search rules, read_begins a.s.now (a.at + a.width) a.width)
+pub loop-b-init : goal.loop-b-init
+loop-b-init c =
+    let a = c.args in
+    let e : a.at + a.width - a.at ≡ a.width = omega arith in
+    let p : c.into_iter-b-iterator.result.iter.rest.now ≡ take a.width (drop a.at a.s.now)
+    = rw (c.into_iter-b-iterator.ensures.into_iter_gives, c.rev-b-items.ensures.source, c.iter.ensures.rest, e) refl in
+    taken_begins a.s.now a.at a.width (bytes_all a.s.now (λ i. (c.type_inv.s i).fits)) p c.requires.1
 
 pub overflow_mul-v : goal.overflow_mul-v
 overflow_mul-v c =
-    let a = c.args in
-    let g = bytes_all a.s.now (λ i. (c.type_inv.s i).fits) in
-    let b = read_bound a.s.now a.at a.width c.loop-k.k 7 g (omega arith) (omega arith) (omega arith) in
-    omega (arith, b)
+    let f = taken_fits c.next.new.self.iter.rest.now c.in-Some.field-0.now c.loop-b.invariant c.in-Some.ensures.steps c.requires.0 in omega (arith, f)
 
 pub overflow_add-v : goal.overflow_add-v
 overflow_add-v c =
-    let a = c.args in
-    let l = c.loop-k in
-    let h = c.type_inv.s in
-    let b = read_bound a.s.now a.at a.width l.k 7 (bytes_all a.s.now (λ i. (h i).fits)) (omega arith) (omega arith) (omega arith) in
-    omega (arith, b, h (a.at + (l.k - 1)))
+    let f = taken_fits c.next.new.self.iter.rest.now c.in-Some.field-0.now c.loop-b.invariant c.in-Some.ensures.steps c.requires.0 in rw c.from.ensures (omega (arith, f))
 
-pub loop-k-preserved : goal.loop-k-preserved
-loop-k-preserved c =
-    let a = c.args in
-    let l = c.loop-k in
-    (search rules, rw (l.invariant.1, c.wide.ensures) (read_turn a.s.now a.at a.width l.k (omega arith) (omega arith) (omega arith)))
+pub loop-b-preserved : goal.loop-b-preserved
+loop-b-preserved c = rw c.from.ensures (taken_turn c.next.new.self.iter.rest.now c.in-Some.field-0.now c.loop-b.invariant c.in-Some.ensures.steps)
+
+pub returns : goal.returns
+returns c = let e = c.in-None.ensures in taken_ends c.loop-b.invariant e.steps.0

@@ -1,11 +1,8 @@
--- The invariant: what the bytes from `at + k` on hold. The measure is `k`.
-use Prim.Native.Nat.{◌≤◌, ◌-◌, ◌+◌}
-use mathlib.Core.Path.{◌≡◌}
-use Rattle.numbers.proofs.Loops.{held}
+-- The invariant: the number is what the bytes hold that are left, and what was taken of it, which stands above them.
+use Rattle.std.specs.Prelude.{take, drop}
+use Rattle.numbers.specs.Numbers.{from_le}
+use Rattle.numbers.proofs.Loops.{Taken}
 use Rattle.numbers.proofs.le_at.Given as goal
 
-abbrev pub invariant-loop-k : goal.invariant-loop-k
-invariant-loop-k l = (l.k ≤ l.width) × (l.v ≡ held l.s (l.at + l.k) (l.width - l.k))
-
-abbrev pub decreases-loop-k : goal.decreases-loop-k
-decreases-loop-k l = l.k
+abbrev pub invariant-loop-b : goal.invariant-loop-b
+invariant-loop-b l = Taken l.width l.b-iterator.iter.rest.now l.v (from_le (take l.width (drop l.at l.s)))

@@ -3,9 +3,9 @@
 use Rattle.plain_replies.specs.Views.{view_r}
 use Rattle.plain_replies.proofs.finish.Goals as goal
 
-pub returns-in-At : goal.returns-in-At
+pub returns-in-Ok : goal.returns-in-Ok
 unfolding view_r
-returns-in-At c = rw c.in-At.is
+returns-in-Ok c = rw c.in-Ok.is
 
 pub returns-in-Refused : goal.returns-in-Refused
 unfolding view_r

@@ -3,9 +3,9 @@
 use Rattle.plain_requests.specs.Views.{view_t}
 use Rattle.plain_requests.proofs.finish.Goals as goal
 
-pub returns-in-At : goal.returns-in-At
+pub returns-in-Ok : goal.returns-in-Ok
 unfolding view_t
-returns-in-At c = rw c.in-At.is
+returns-in-Ok c = rw c.in-Ok.is
 
 pub returns-in-Refused : goal.returns-in-Refused
 unfolding view_t

@@ -17,10 +17,10 @@ returns-in_default c =
     let b = bytes_all c.args.bytes.now (λ i. (c.type_inv.bytes i).fits) in
     body_failed (flat_replies table_r) _ c.read_header-head.ensures b c.in-Held.is c.read_flat-next.ensures c.in_default.is (c.ended.ensures ∙ ap ended c.in_default.is)
 
-pub returns-in-At : goal.returns-in-At
-returns-in-At c =
+pub returns-in-Ok : goal.returns-in-Ok
+returns-in-Ok c =
     let b = bytes_all c.args.bytes.now (λ i. (c.type_inv.bytes i).fits) in
-    frame_read (flat_replies table_r) _ c.read_header-head.ensures b c.in-Held.is c.read_flat-next.ensures c.in-At.is c.outcome_of.ensures
+    frame_read (flat_replies table_r) _ c.read_header-head.ensures b c.in-Held.is c.read_flat-next.ensures c.in-Ok.is c.outcome_of.ensures
 
 pub returns-in-Refused : goal.returns-in-Refused
 returns-in-Refused c =

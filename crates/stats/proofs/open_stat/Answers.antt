@@ -9,12 +9,12 @@ returns-in_default c = open_cut c.read_u16-count.ensures c.in_default.is
 
 pub returns-then-agree : goal.returns-then-agree
 returns-then-agree c =
-    open_well _ (num_holds (omega arith) c.read_u16-count.ensures c.in-At.is) (inside c.within.ensures c.if-within.true) c.agree.ensures c.if-agree.true
+    open_well _ (num_holds (omega arith) c.read_u16-count.ensures c.in-Ok.is) (inside c.within.ensures c.if-within.true) c.agree.ensures c.if-agree.true
 
 pub returns-then-within : goal.returns-then-within
 returns-then-within c =
-    open_wrong _ (num_holds (omega arith) c.read_u16-count.ensures c.in-At.is) (inside c.within.ensures c.if-within.true) c.agree.ensures c.if-agree.false
+    open_wrong _ (num_holds (omega arith) c.read_u16-count.ensures c.in-Ok.is) (inside c.within.ensures c.if-within.true) c.agree.ensures c.if-agree.false
 
 pub returns : goal.returns
 returns c =
-    open_short _ (num_holds (omega arith) c.read_u16-count.ensures c.in-At.is) c.within.ensures c.if-within.false
+    open_short _ (num_holds (omega arith) c.read_u16-count.ensures c.in-Ok.is) c.within.ensures c.if-within.false

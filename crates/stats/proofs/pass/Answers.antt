@@ -7,8 +7,8 @@ returns-in_default c = pass_cut c.read_u16-count.ensures c.in_default.is
 
 pub returns-then-within : goal.returns-then-within
 returns-then-within c =
-    pass_end c.read_u16-count.ensures c.in-At.is c.within.ensures c.if-within.true
+    pass_end c.read_u16-count.ensures c.in-Ok.is c.within.ensures c.if-within.true
 
 pub returns : goal.returns
 returns c =
-    pass_out c.read_u16-count.ensures c.in-At.is c.within.ensures c.if-within.false
+    pass_out c.read_u16-count.ensures c.in-Ok.is c.within.ensures c.if-within.false

@@ -12,4 +12,4 @@ returns-in_default c =
 pub returns : goal.returns
 returns c =
     let b = bytes_all c.args.s.now (λ i. (c.type_inv.s i).fits) in
-    box_read c.open_stat-o.ensures b c.read_fields-r.ensures c.in-At.is
+    box_read c.open_stat-o.ensures b c.read_fields-r.ensures c.in-Ok.is

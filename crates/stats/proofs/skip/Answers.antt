@@ -3,8 +3,8 @@ use Rattle.stats.specs.Following.{skip_held, skip_short}
 use Rattle.stats.proofs.skip.Goals as goal
 
 pub returns-then-within : goal.returns-then-within
-returns-then-within c = skip_held c.in-At.is c.within.ensures c.if-within.true
+returns-then-within c = skip_held c.in-Ok.is c.within.ensures c.if-within.true
 
 pub returns : goal.returns
 returns c =
-    skip_short c.in-At.is c.within.ensures c.requires c.if-within.false
+    skip_short c.in-Ok.is c.within.ensures c.requires c.if-within.false

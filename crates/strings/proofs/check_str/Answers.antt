@@ -8,12 +8,12 @@ returns-in_default c = str_span c.check_span-q.ensures c.in_default.is
 
 pub returns-then-v-gt-LONGEST : goal.returns-then-v-gt-LONGEST
 returns-then-v-gt-LONGEST c =
-    str_long c.check_span-q.ensures c.in-At.is c.if-v-gt-LONGEST.true
+    str_long c.check_span-q.ensures c.in-Ok.is c.if-v-gt-LONGEST.true
 
 pub check_text-requires : goal.check_text-requires
 check_text-requires c =
-    span_lies c.check_span-q.ensures c.in-At.is
+    span_lies c.check_span-q.ensures c.in-Ok.is
 
 pub returns : goal.returns
 returns c =
-    str_text c.check_span-q.ensures c.in-At.is c.if-v-gt-LONGEST.false c.check_text.ensures
+    str_text c.check_span-q.ensures c.in-Ok.is c.if-v-gt-LONGEST.false c.check_text.ensures

@@ -11,7 +11,7 @@ use Rattle.strings.proofs.check_text.Goals.{then-e-ge-BEYOND_ASCII+else-n-text, 
 pub returns-then-n-text : goal.returns-then-n-text
 returns-then-n-text c =
     let e = c.sound_start-n.ensures in
-    text_bad c.in-At.is (sound_part _ e c.if-n-text.true) e
+    text_bad c.in-Ok.is (sound_part _ e c.if-n-text.true) e
 
 pub overflow_add-at-then-e-eq0 : goal.overflow_add-at-then-e-eq0
 overflow_add-at-then-e-eq0 c =
@@ -20,8 +20,8 @@ overflow_add-at-then-e-eq0 c =
 
 pub returns-then-e-eq0 : goal.returns-then-e-eq0
 returns-then-e-eq0 c =
-    text_zero c.in-At.is (elim c.if-e-ge-BEYOND_ASCII.branch [ then-e-ge-BEYOND_ASCII+else-n-text w ↦ sound_whole _ w.sound_start-n.ensures w.if-n-text.false | else-e-ge-BEYOND_ASCII w ↦ ascii_text _ (omega (arith, c.extremes_of-e.ensures.1)) ]) (zero_text _ (sym c.extremes_of-e.ensures.0 ∙ c.if-e-eq0.true)) c.zero_at-n.ensures
+    text_zero c.in-Ok.is (elim c.if-e-ge-BEYOND_ASCII.branch [ then-e-ge-BEYOND_ASCII+else-n-text w ↦ sound_whole _ w.sound_start-n.ensures w.if-n-text.false | else-e-ge-BEYOND_ASCII w ↦ ascii_text _ (omega (arith, c.extremes_of-e.ensures.1)) ]) (zero_text _ (sym c.extremes_of-e.ensures.0 ∙ c.if-e-eq0.true)) c.zero_at-n.ensures
 
 pub returns : goal.returns
 returns c =
-    text_fine c.in-At.is (elim c.if-e-ge-BEYOND_ASCII.branch [ then-e-ge-BEYOND_ASCII+else-n-text w ↦ sound_whole _ w.sound_start-n.ensures w.if-n-text.false | else-e-ge-BEYOND_ASCII w ↦ ascii_text _ (omega (arith, c.extremes_of-e.ensures.1)) ]) (full_text _ (λ e. c.if-e-eq0.false (c.extremes_of-e.ensures.0 ∙ e)))
+    text_fine c.in-Ok.is (elim c.if-e-ge-BEYOND_ASCII.branch [ then-e-ge-BEYOND_ASCII+else-n-text w ↦ sound_whole _ w.sound_start-n.ensures w.if-n-text.false | else-e-ge-BEYOND_ASCII w ↦ ascii_text _ (omega (arith, c.extremes_of-e.ensures.1)) ]) (full_text _ (λ e. c.if-e-eq0.false (c.extremes_of-e.ensures.0 ∙ e)))

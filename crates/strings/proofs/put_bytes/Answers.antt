@@ -9,12 +9,12 @@ returns-in_default c = bytes_refused c.check_span-q.ensures c.in_default.is
 
 pub copy-requires : goal.copy-requires
 copy-requires c =
-    (inside c.within.ensures c.if-within.true, span_lies c.check_span-q.ensures c.in-At.is)
+    (inside c.within.ensures c.if-within.true, span_lies c.check_span-q.ensures c.in-Ok.is)
 
 pub returns-then-within : goal.returns-then-within
 returns-then-within c =
-    bytes_done c.check_span-q.ensures c.in-At.is c.within.ensures c.if-within.true c.copy.ensures
+    bytes_done c.check_span-q.ensures c.in-Ok.is c.within.ensures c.if-within.true c.copy.ensures
 
 pub returns : goal.returns
 returns c =
-    bytes_full c.check_span-q.ensures c.in-At.is c.within.ensures c.if-within.false
+    bytes_full c.check_span-q.ensures c.in-Ok.is c.within.ensures c.if-within.false

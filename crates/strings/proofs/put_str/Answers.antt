@@ -8,16 +8,16 @@ returns-in_default c = string_refused c.check_str-q.ensures c.in_default.is
 
 pub overflow_add-size : goal.overflow_add-size
 overflow_add-size c =
-    omega (arith, string_small c.check_str-q.ensures c.in-At.is)
+    omega (arith, string_small c.check_str-q.ensures c.in-Ok.is)
 
 pub overflow_cast-len : goal.overflow_cast-len
 overflow_cast-len c =
-    omega (arith, string_small c.check_str-q.ensures c.in-At.is)
+    omega (arith, string_small c.check_str-q.ensures c.in-Ok.is)
 
 pub returns-then-within : goal.returns-then-within
 returns-then-within c =
-    string_done c.check_str-q.ensures c.in-At.is c.within.ensures c.if-within.true c.put_u16-text.ensures c.put_bytes.ensures
+    string_done c.check_str-q.ensures c.in-Ok.is c.within.ensures c.if-within.true c.put_u16-text.ensures c.put_bytes.ensures
 
 pub returns : goal.returns
 returns c =
-    string_full c.check_str-q.ensures c.in-At.is c.within.ensures c.if-within.false
+    string_full c.check_str-q.ensures c.in-Ok.is c.within.ensures c.if-within.false

@@ -10,4 +10,4 @@ returns-in_default c = twalk_long c.check_count-p.ensures c.in_default.is
 pub returns : goal.returns
 returns c =
     let b = bytes_all c.args.lent.now (λ i. (c.type_inv.lent i).fits) in
-    twalk_put b c.check_count-p.ensures c.in-At.is refl c.advanced-first.ensures c.measure_names-end.ensures c.begun-start.ensures c.put_twalk-past.ensures c.put_header.ensures
+    twalk_put b c.check_count-p.ensures c.in-Ok.is refl c.advanced-first.ensures c.measure_names-end.ensures c.begun-start.ensures c.put_twalk-past.ensures c.put_header.ensures

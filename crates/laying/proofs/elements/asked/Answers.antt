@@ -6,7 +6,7 @@ pub returns-in_default : goal.returns-in_default
 returns-in_default c = asked_outside c.check_part-q.ensures c.in_default.is
 
 pub returns-then-i-v : goal.returns-then-i-v
-returns-then-i-v c = asked_below c.check_part-q.ensures c.in-At.is c.if-i-v.true
+returns-then-i-v c = asked_below c.check_part-q.ensures c.in-Ok.is c.if-i-v.true
 
 pub returns : goal.returns
-returns c = asked_past c.check_part-q.ensures c.in-At.is c.if-i-v.false
+returns c = asked_past c.check_part-q.ensures c.in-Ok.is c.if-i-v.false

@@ -9,4 +9,4 @@ returns-in_default c = flat_refused (fields_skipped refl refl c.skip-next.ensure
 
 pub returns : goal.returns
 returns c =
-    flat_known (fields_skipped refl refl c.skip-next.ensures c.read_tread-r.ensures.values) c.in-At.is c.flat_tread.ensures
+    flat_known (fields_skipped refl refl c.skip-next.ensures c.read_tread-r.ensures.values) c.in-Ok.is c.flat_tread.ensures

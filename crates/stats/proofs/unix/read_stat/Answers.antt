@@ -19,4 +19,4 @@ returns c =
     let b = bytes_all c.args.s.now (λ i. (c.type_inv.s i).fits) in
     box_read c.open_stat-o.ensures b
     (fields_then c.read_fields-r1.ensures (field (string_field c.read_str-r2.ensures) (field (number_field c.read_u32-r3.ensures) (field (number_field c.read_u32-r4.ensures) (field (number_field c.read_u32-r5.ensures) done)))))
-    c.in-At.is
+    c.in-Ok.is
