@@ -7,7 +7,7 @@ ghost use Rattle.block_exports.specs.Answers.{EntryRead, PackWritten};
 
 use blocks::{Packing, Step};
 use exports::Outcome;
-use numbers::{Fault, Place};
+use numbers::Fault;
 
 // What crosses to Rust once entries were packed: 0, how many they are and how many bytes; or the refusal of a name and its place (F2.7), and
 // no entries.

@@ -7,7 +7,7 @@ ghost use Rattle.capture_exports.specs.Captures.{ImportMade, ExportMade};
 
 use captures::Imported;
 use exports::Outcome;
-use numbers::{Fault, Place};
+use numbers::Fault;
 
 // The place that is answered is that after the stretch: so many bytes it has. How many frames goes to `frames`, which a refusal leaves as it was.
 pub fn sheafsledge_import(

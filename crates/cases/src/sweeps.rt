@@ -2,7 +2,7 @@
 
 ghost use Rattle.std.specs.Prelude.{◌<◌};
 
-use numbers::{Fault, Place};
+use numbers::Fault;
 use strings::Span;
 
 // The byte at `i` of the ranges; 0 where there is none, so that a range that is not given has one byte.

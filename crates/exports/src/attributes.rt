@@ -6,7 +6,6 @@ ghost use Rattle.exports.specs.Frames.{FlatWrote};
 use crate::Outcome;
 use flat::WIDTH_R;
 use layouts::ids::Tag;
-use numbers::Place;
 
 const RGETATTR: u8 = 25;
 

@@ -6,7 +6,6 @@ ghost use Rattle.exports.specs.Answers.{FieldsRead, FieldsWritten};
 
 use crate::Outcome;
 use layouts::dirents;
-use numbers::Place;
 
 // Refused, the values are as they were.
 pub fn sheafsledge_read_dirent(bytes: &[u8], at: usize, values: &mut [u64; 7]) -> Outcome

@@ -9,7 +9,7 @@ ghost use Rattle.exports.specs.Steps.{stopped, step_outcome};
 use crate::Outcome;
 use framing::Cut;
 use layouts::ids::Tag;
-use numbers::{Place, Refusal};
+use numbers::Refusal;
 use pairs::Mark;
 
 // The frame is the bytes from the position to the place; at the end, where there is none, the place is the position. What is in it, the

@@ -16,7 +16,7 @@ use laying::elements::Element;
 use layouts::ids::{Fid, Tag};
 use layouts::qids;
 use layouts::qids::Qid;
-use numbers::{Fault, Place};
+use numbers::Fault;
 use strings::Span;
 
 // An element's start and length, and the place after it. Refused, the two numbers are as they were.

@@ -16,7 +16,7 @@ use Rattle.numbers.specs.Reading.{Result, ok, bad, after, raw, read_num}
 use Rattle.numbers.proofs.ReadingLaws.{or_else, raw_short}
 use Rattle.numbers.specs.Places.{Within, read_at, read_from, rest_at, number_in, num_at, past_num, NumRead}
 use Rattle.numbers.specs.PlaceLaws.{Held}
-use Rattle.numbers.proofs.PlaceLaws.{inside, outside, num_holds, num_refused}
+use Rattle.numbers.proofs.PlaceLaws.{inside, outside, num_holds, num_refused, refused_one}
 use Rattle.numbers.specs.declared.Refusal.{Refusal}
 use Rattle.numbers.specs.declared.Refusal.TheVariants as R
 use Rattle.strings.specs.Spans.{check_at}
@@ -68,7 +68,7 @@ raw_cut n e s h l = raw_short n (drop e s) (simp length-drop (omega arith))
 held_length : (n e : ℕ) (s : List ℕ) → e + n ≤ length s → length (take n (drop e s)) ≡ n
 held_length n e s h = length-take-le n (drop e s) (simp length-drop (omega arith))
 
-held_next : (n e : ℕ) (s : List ℕ) → e + n ≤ length s → Ok (e + n) ≡ Ok (length s - length (drop (e + n) s))
+held_next : (n e : ℕ) (s : List ℕ) → e + n ≤ length s → ◌≡◌ {A = Place} (Ok (e + n)) (Ok (length s - length (drop (e + n) s)))
 held_next n e s h = ap Ok (let d = length-drop (e + n) s in omega arith)
 
 -- ---- data
@@ -125,20 +125,17 @@ module _ {f : Field} {g : ℕ → ℕ → List ℕ → Result Item} where
   vector_refused {s} {p} {q} {n} {k} {at} c r e = refused_field (there p r.value (sym r.next ∙ e)) e
     where
       go : (a : ℕ) (m : Result ℕ) → n ≡ number_in m → check_at (ok_count n) (rest_at (length s) m) ≡ Err (k, at) → after m (λ x t. counted x (g a x t)) ≡ bad k at
-      go a (bad j b) v h = let x : j ≡ k = cc h in let y : b ≡ at = cc h in ap₂ bad x y
+      go a (bad j b) v h = let x = refused_one h in ap₂ bad x.0 x.1
       go a (ok x t) v h =
           or_else x 16
           (λ l. absurd (let i = rw (v, few (ok x []) l) at h in let z : ◌≡◌ {A = ℕ} 0 1 = cc i in omega arith))
           (λ l.
-          let i = rw (v, many (ok x []) l) at h in
-          let j : R.TooManyElements ≡ k = cc i in
-          let y : 0 ≡ at = cc i in
-          many (g a x t) l ∙ ap₂ bad j y)
+          let i = refused_one (rw (v, many (ok x []) l) at h) in many (g a x t) l ∙ ap₂ bad i.0 i.1)
 
       there : (p' : Place) → n ≡ number_in (read_at (read_num 2) s p') → check_at (ok_count n) (rest_at (length s) (read_at (read_num 2) s p')) ≡ Err (k, at)
           → read_from (read_field f) s p' ≡ bad k at
       there (Ok a) v h = c.is.is a (drop a s) ∙ go a (read_num 2 (drop a s)) v h
-      there (Err f) v h = let x : f.0 ≡ k = cc h in let y : f.1 ≡ at = cc h in ap₂ bad x y
+      there (Err f) v h = let x = refused_one h in ap₂ bad x.0 x.1
 
   vector_held : {s : List ℕ} {p q : Place} {n e : ℕ} → Vector f g → (r : CountRead s p n q) (h : q ≡ Ok e)
       → read_from (read_field f) s p ≡ g (count_holds r h).held.at n (drop e s)
@@ -183,7 +180,7 @@ vector_strs = record { is = record { is = λ a xs. refl } }
 
 rest_bad : {A : Type 0} (m : Result A) (n : ℕ) {k : Refusal} {at : ℕ} → rest_at n m ≡ Err (k, at) → m ≡ bad k at
 rest_bad (ok a r) n e = absurd (let z : ◌≡◌ {A = ℕ} 0 1 = cc e in omega arith)
-rest_bad (bad j b) n {k} {at} e = let f : j ≡ k = cc e in let g : b ≡ at = cc e in ap₂ bad f g
+rest_bad (bad j b) n e = let f = refused_one e in ap₂ bad f.0 f.1
 
 rest_ok : {A X : Type 0} (m : Result A) (n : ℕ) {g : ℕ} → rest_at n m ≡ Ok g → ((a : A) (r : List ℕ) → m ≡ ok a r → n - length r ≡ g → X) → X
 rest_ok (ok a r) n e f = f a r refl (cc e)

@@ -7,7 +7,7 @@ use Rattle.std.proofs.Math.ListN.{length}
 use Rattle.numbers.specs.Reading.{ok, after, raw, read_num}
 use Rattle.numbers.specs.declared.Refusal.{Refusal}
 use Rattle.fields.specs.Layouts.{Shape, fixed, worded, Field, num, str, boxed, Cell, amount, words, Item, number, string, agrees}
-use Rattle.fields.specs.Values.{Slot, slot, text, Value, val, span, part, block, place}
+use Rattle.fields.specs.Values.{Slot, slot, text, Value, val, span, part, block}
 use Rattle.fields.specs.Fields.{past_field}
 
 -- ---- a box's fields, items and values as plain ones

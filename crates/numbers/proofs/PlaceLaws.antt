@@ -127,9 +127,12 @@ num_fits {w} {x} {s} {p} h a = rw a.value (fits_at w s p h)
 
 -- ---- the ways that a put goes
 
-pub put_stays : {bs o : List ℕ} {p : Place} {f : Fault} → p ≡ Err f → Put bs o p o (Err f)
+pub put_refuses : {bs o : List ℕ} {p : Place} {f : Fault} → p ≡ Err f → Put bs o p o (Err f)
 unfolding put_at past_put
-put_stays e = record { bytes = rw e; next = rw e }
+put_refuses e = record { bytes = rw e; next = rw e }
+
+pub put_stays : {bs o : List ℕ} {p : Place} {f : Fault} → p ≡ Err f → Put bs o p o p
+put_stays e = rw e (put_refuses refl)
 
 pub put_full : {bs o : List ℕ} {n a : ℕ} {p : Place} {t : Bool} → length bs ≡ n → p ≡ Ok a → Within a n (length o) t → t ≡ false → Put bs o p o (Err (NoRoom, 0))
 unfolding put_at past_put

@@ -7,8 +7,8 @@ ghost use Rattle.std.specs.Prelude.{◌≡◌, suc, ◌+◌, ◌≤◌, ◌<◌,
 ghost use Rattle.numbers.specs.Places.{over, Put};
 ghost use Rattle.places.specs.Places.{unused, rowed, root, child, is_up, step, onward, walked, name_in, path_in, path};
 
-use numbers::{Read, Place, Refusal};
-use strings::{Span};
+use numbers::{Fault, Place, Read, Refusal};
+use strings::Span;
 
 // The rows of the places; the first `used` of them are places. A root's older place is itself.
 #[repr(C)]

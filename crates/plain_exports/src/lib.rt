@@ -13,7 +13,7 @@ ghost use Rattle.exports.specs.Frames.{FrameRead, BodyRead, FlatWrote};
 use exports::Outcome;
 use framing::Head;
 use layouts::ids::Tag;
-use numbers::{Fault, Place, Refusal};
+use numbers::{Fault, Refusal};
 use pairs::Mark;
 use plain_flat::{WIDTH_R, WIDTH_T};
 

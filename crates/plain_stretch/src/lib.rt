@@ -8,7 +8,7 @@ ghost use Rattle.plain_stretch.specs.Views.{BodyOf, Leaves, view_body, ListedAs,
 
 use framing::Cut;
 use layouts::ids::Tag;
-use numbers::{Place, Refusal};
+use numbers::Refusal;
 use plain_replies::Rbody;
 use plain_requests::Tbody;
 

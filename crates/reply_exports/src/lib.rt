@@ -11,7 +11,7 @@ use exports::Outcome;
 use flat::WIDTH_R;
 use framing::Head;
 use layouts::ids::Tag;
-use numbers::{Fault, Place, Refusal};
+use numbers::{Fault, Refusal};
 
 // What `frames::read_rframe` answers, as `request_exports` has it for requests; but a reply whose body is refused is refused whole, and has no
 // tag.

@@ -12,7 +12,7 @@ use exports::Outcome;
 use flat::WIDTH_T;
 use framing::Head;
 use layouts::ids::Tag;
-use numbers::{Fault, Place, Refusal};
+use numbers::{Fault, Refusal};
 
 // What `frames::read_tframe` answers. A record goes flat in the arm that reads it, and through no enum; where the frame is refused, the
 // values are as they were. If its body is, it still has its tag.

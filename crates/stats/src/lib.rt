@@ -16,7 +16,7 @@ ghost use Rattle.stats.specs.Stats.{slots, stat_of, shape_of, Followed, Blank, S
 
 use layouts::qids;
 use layouts::qids::Qid;
-use numbers::{Read, Place, Refusal};
+use numbers::{Fault, Place, Read, Refusal};
 use strings::Span;
 
 #[derive(Clone, Copy)]

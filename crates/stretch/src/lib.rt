@@ -7,7 +7,7 @@ ghost use Rattle.stretch.specs.Views.{BodyOf, Leaves, view_body, ListedAs, Asked
 
 use framing::Cut;
 use layouts::ids::Tag;
-use numbers::{Place, Refusal};
+use numbers::Refusal;
 use replies::Rbody;
 use requests::Tbody;
 

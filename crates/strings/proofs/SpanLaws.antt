@@ -1,4 +1,6 @@
 -- What holds of the definitions in specs/SpanLaws.antt.
+use Rattle.numbers.specs.declared.Fault.{Fault}
+use Rattle.numbers.proofs.PlaceLaws.{refused_one}
 use Rattle.numbers.specs.Place.{Place}
 use Rattle.std.specs.Prelude.{ℕ, ◌+◌, ◌≤◌, ◌<◌, ◌≡◌, refl, Bool, true, false, cond, List, [], length, take, drop, leb, Ok, Err}
 use Rattle.std.proofs.Common.{arith, sym, ap₂, ◌∙◌, length-drop, length-take-le, drop-drop, le-leb, leb-true}
@@ -44,7 +46,7 @@ pub span_lies : {lent : List ℕ} {x y a : ℕ} {p q : Place} → SpanCheck lent
 span_lies c e = (passed c e).lies
 
 -- what a first check refuses, the whole does
-pub first_refuses : {A B : Type 0} (m : Result A) (k : A → List ℕ → Result B) (p : Place) {j : Refusal} {at : ℕ} → check_at m p ≡ Err (j, at) → check_at (after m k) p ≡ Err (j, at)
+pub first_refuses : {A B : Type 0} (m : Result A) (k : A → List ℕ → Result B) (p : Place) {g : Fault} → check_at m p ≡ Err g → check_at (after m k) p ≡ Err g
 first_refuses m k (Err f) e = e
 first_refuses (ok a r) k (Ok n) e = absurd (let z : ◌≡◌ {A = ℕ} 0 1 = cc e in omega arith)
 first_refuses (bad i b) k (Ok n) e = e
@@ -121,8 +123,8 @@ module _ {s : List ℕ} {x y n : ℕ} {q : Place} (c : TextCheck s x y (Ok n) q)
       go : (u z : Bool) (i j : ℕ) → check_at (cond u (cond z (ok text []) (bad R.ZeroByte i)) (bad R.NotUtf8 j)) (Ok n) ≡ Err (k, at)
           → cond u (cond z (ok text r) (bad R.ZeroByte i)) (bad R.NotUtf8 j) ≡ bad k at
       go true true i j f = absurd (let z : ◌≡◌ {A = ℕ} 0 1 = cc f in omega arith)
-      go true false i j f = let g : R.ZeroByte ≡ k = cc f in let h : i ≡ at = cc f in ap₂ bad g h
-      go false z i j f = let g : R.NotUtf8 ≡ k = cc f in let h : j ≡ at = cc f in ap₂ bad g h
+      go true false i j f = let g = refused_one f in ap₂ bad g.0 g.1
+      go false z i j f = let g = refused_one f in ap₂ bad g.0 g.1
 
   pub text_good : {a : ℕ} → q ≡ Ok a → (utf8 text ≡ true) × (no_zero text ≡ true)
   text_good {a} e = go (utf8 text) (no_zero text) (x + zero_at text) (x + sound_start text) (sym c.is ∙ e)

@@ -14,7 +14,8 @@ use Rattle.numbers.specs.Numbers.{to_le}
 use Rattle.numbers.proofs.Numbers.{length_to_le}
 use Rattle.numbers.specs.Reading.{bad}
 use Rattle.numbers.specs.Places.{Within, read_from, NumRead, over, Put}
-use Rattle.numbers.proofs.PlaceLaws.{inside, outside, num_holds, num_refused, put_stays, put_full, put_done, put_then, over_then}
+use Rattle.numbers.proofs.PlaceLaws.{inside, outside, num_holds, num_refused, put_refuses, put_full, put_done, put_then, over_then}
+use Rattle.numbers.specs.declared.Fault.{Fault}
 use Rattle.numbers.specs.declared.Refusal.{Refusal}
 use Rattle.numbers.specs.declared.Refusal.TheVariants as R
 use Rattle.utf8.specs.Utf8.{utf8, sound_start, no_zero, zero_at}
@@ -56,7 +57,7 @@ module _ {s : List ℕ} {x y a i : ℕ} {p : Place} where
       record { is = rw (e, v, w, g) }
 
 module _ {s : List ℕ} {x y a : ℕ} {p : Place} where
-  pub text_fine : p ≡ Ok a → utf8 (between x (x + y) s) ≡ true → no_zero (between x (x + y) s) ≡ true → TextCheck s x y p p
+  pub text_fine : p ≡ Ok a → utf8 (between x (x + y) s) ≡ true → no_zero (between x (x + y) s) ≡ true → TextCheck s x y p (Ok a)
   text_fine e u z =
       let n : x + y - x ≡ y = omega arith in
       let v = rw n at u in
@@ -64,7 +65,7 @@ module _ {s : List ℕ} {x y a : ℕ} {p : Place} where
       record { is = rw (e, v, w) }
 
 -- a short plain text, cut out
-pub text_plain : {s : List ℕ} {x y a : ℕ} {b : Bool} {p : Place} → p ≡ Ok a → b ≡ short_plain (between x (x + y) s) → b ≡ true → TextCheck s x y p p
+pub text_plain : {s : List ℕ} {x y a : ℕ} {b : Bool} {p : Place} → p ≡ Ok a → b ≡ short_plain (between x (x + y) s) → b ≡ true → TextCheck s x y p (Ok a)
 text_plain {s} {x} {y} e f h = let t = short_text (between x (x + y) s) f h in text_fine e t.0 t.1
 
 -- ---- a span
@@ -76,7 +77,7 @@ module _ {lent : List ℕ} {x y : ℕ} {t : Bool} where
   pub part_out : Within x y (length lent) t → t ≡ false → Shown lent x y []
   part_out i h = record { is = rw (shown_out lent x y (outside i h)) }
 
-  pub span_in_lem : {p : Place} {a : ℕ} → p ≡ Ok a → Within x y (length lent) t → t ≡ true → SpanCheck lent x y p p
+  pub span_in_lem : {p : Place} {a : ℕ} → p ≡ Ok a → Within x y (length lent) t → t ≡ true → SpanCheck lent x y p (Ok a)
   span_in_lem e i h = record { is = rw (e, shown_in lent x y (inside i h)) }
 
   pub span_out : {p : Place} {a : ℕ} → p ≡ Ok a → Within x y (length lent) t → t ≡ false → SpanCheck lent x y p (Err (R.SpanOutside, 0))
@@ -85,17 +86,17 @@ module _ {lent : List ℕ} {x y : ℕ} {t : Bool} where
 -- ---- a lent string
 
 module _ {lent : List ℕ} {x y : ℕ} {p q : Place} where
-  pub str_span : {k : Refusal} {at : ℕ} → SpanCheck lent x y p q → q ≡ Err (k, at) → StrCheck lent x y p q
+  pub str_span : {f : Fault} → SpanCheck lent x y p q → q ≡ Err f → StrCheck lent x y p (Err f)
   unfolding show_string
-  str_span c e = record { is = e ∙ sym (first_refuses (show_span lent x y) _ p (sym c.is ∙ e)) }
+  str_span c e = record { is = sym (first_refuses (show_span lent x y) _ p (sym c.is ∙ e)) }
 
   pub str_long : {a : ℕ} → SpanCheck lent x y p q → q ≡ Ok a → 65535 < y → StrCheck lent x y p (Err (R.StringTooLong, 0))
   unfolding show_string
   str_long c e h = let k = passed c e in record { is = rw (k.place, k.shows, lt-leb y 65535 h) }
 
-  pub str_text : {a : ℕ} {r : Place} → SpanCheck lent x y p q → q ≡ Ok a → y ≤ 65535 → TextCheck lent x y q r → StrCheck lent x y p r
+  pub str_text : {a : ℕ} {r : Place} → SpanCheck lent x y p q → q ≡ Ok a → y ≤ 65535 → TextCheck lent x y (Ok a) r → StrCheck lent x y p r
   unfolding show_string
-  str_text c e h d = let k = passed c e in record { is = rw (k.place, k.shows, le-leb y 65535 h) (rw e at d.is) }
+  str_text c e h d = let k = passed c e in record { is = rw (k.place, k.shows, le-leb y 65535 h) d.is }
 
 -- ---- a string that is read
 
@@ -193,8 +194,8 @@ copy_more o0 lent at start len done n h k l e f =
 -- ---- bytes that are put
 
 module _ {lent o : List ℕ} {x y : ℕ} {p q : Place} where
-  pub bytes_refused : {k : Refusal} {at : ℕ} → SpanCheck lent x y p q → q ≡ Err (k, at) → SpanPut lent x y o p o q
-  bytes_refused c e = record { put = rw (← c.is) (put_stays e) }
+  pub bytes_refused : {f : Fault} → SpanCheck lent x y p q → q ≡ Err f → SpanPut lent x y o p o (Err f)
+  bytes_refused c e = record { put = rw (← c.is) (put_refuses e) }
 
   pub bytes_full : {a : ℕ} {t : Bool} → SpanCheck lent x y p q → q ≡ Ok a → Within a y (length o) t → t ≡ false → SpanPut lent x y o p o (Err (R.NoRoom, 0))
   bytes_full c e i h = let k = passed c e in record { put = rw (← c.is, k.shows) (put_full (shown_length lent x y k.lies) e i h) }
@@ -214,8 +215,8 @@ pub string_small : {lent : List ℕ} {x y a : ℕ} {p q : Place} → StrCheck le
 string_small c e = (string_passed c e).small
 
 module _ {lent o : List ℕ} {x y : ℕ} {p q : Place} where
-  pub string_refused : {k : Refusal} {at : ℕ} → StrCheck lent x y p q → q ≡ Err (k, at) → StrPut lent x y o p o q
-  string_refused c e = record { put = rw (← c.is) (put_stays e) }
+  pub string_refused : {f : Fault} → StrCheck lent x y p q → q ≡ Err f → StrPut lent x y o p o (Err f)
+  string_refused c e = record { put = rw (← c.is) (put_refuses e) }
 
   pub string_full : {a : ℕ} {t : Bool} → StrCheck lent x y p q → q ≡ Ok a → Within a (y + 2) (length o) t → t ≡ false → StrPut lent x y o p o (Err (R.NoRoom, 0))
   string_full c e i h = let k = string_passed c e in record { put = rw (← c.is, k.shows) (put_full (string_length lent x y k.lies) e i h) }

@@ -6,7 +6,7 @@ ghost use Rattle.std.specs.Prelude.{◌≡◌, ◌+◌, ◌≤◌, length, take,
 ghost use Rattle.numbers.specs.Places.{over};
 ghost use Rattle.strings.specs.Spans.{TextCheck, Shown, SpanCheck, StrCheck, StrRead, SpanPut, StrPut};
 
-use numbers::{Read, Place, Refusal};
+use numbers::{Fault, Place, Read, Refusal};
 
 // A part of some bytes: where it starts among them, and its length.
 #[derive(Clone, Copy)]
@@ -19,26 +19,21 @@ pub struct Span {
 pub fn shown(lent: &[u8], v: Span) -> &[u8]
     ensures { Shown lent.now v.start v.len result.now }
 {
-    let start = v.start;
-    let len = v.len;
-    if numbers::within(start, len, lent.len()) {
-        let end = start + len;
-        return &lent[start..end];
+    if !numbers::within(v.start, v.len, lent.len()) {
+        return &[];
     }
-    &lent[..0]
+    &lent[v.start..v.start + v.len]
 }
 
 // A span of the lent bytes that is to be written: the place itself; or 9.
 pub fn check_span(lent: &[u8], v: Span, p: Place) -> Place
     ensures { SpanCheck lent.now v.start v.len p result }
 {
-    let Ok(_) = p else {
-        return p;
-    };
-    if numbers::within(v.start, v.len, lent.len()) {
-        return p;
+    let at = p?;
+    if !numbers::within(v.start, v.len, lent.len()) {
+        return Err(Fault(Refusal::SpanOutside, 0));
     }
-    Err(Fault(Refusal::SpanOutside, 0))
+    Ok(at)
 }
 
 // The longest string: its count has two bytes (F1.9).
@@ -53,40 +48,40 @@ fn check_text(s: &[u8], v: Span, p: Place) -> Place
     requires { v.start + v.len ≤ length s.now }
     ensures { TextCheck s.now v.start v.len p result }
 {
-    let Ok(_) = p else {
-        return p;
-    };
-    let start = v.start;
-    let end = start + v.len;
-    let text = &s[start..end];
+    let at = p?;
+    let text = &s[v.start..v.start + v.len];
     let e = utf8::extremes_of(text);
     if BEYOND_ASCII <= e.high {
         let n = utf8::sound_start(text);
         if n < text.len() {
-            let at = start + n;
-            return Err(Fault(Refusal::NotUtf8, at));
+            return Err(Fault(Refusal::NotUtf8, v.start + n));
         }
     }
     if e.low == 0 {
-        let n = utf8::zero_at(text);
-        let at = start + n;
-        return Err(Fault(Refusal::ZeroByte, at));
+        return Err(Fault(Refusal::ZeroByte, v.start + utf8::zero_at(text)));
     }
-    p
+    Ok(at)
 }
 
 // A string of the lent bytes that is to be written: the place itself; or 9, 7, 5, 6.
 pub fn check_str(lent: &[u8], v: Span, p: Place) -> Place
     ensures { StrCheck lent.now v.start v.len p result }
 {
-    let q = check_span(lent, v, p);
-    let Ok(_) = q else {
-        return q;
-    };
+    let at = check_span(lent, v, p)?;
     if LONGEST < v.len {
         return Err(Fault(Refusal::StringTooLong, 0));
     }
-    check_text(lent, v, q)
+    check_text(lent, v, Ok(at))
+}
+
+// What a reader of bytes answers where it is refused.
+fn no_span(next: Place) -> Read<Span>
+    ensures { (result.value.start ≡ 0) × (result.value.len ≡ 0) × (result.next ≡ next) }
+{
+    Read {
+        value: Span { start: 0, len: 0 },
+        next,
+    }
 }
 
 // A string at a place: count, bytes, UTF-8, zero byte. Short cut: a short plain text, as most names are, passes without a call. `check_str` has
@@ -94,41 +89,29 @@ pub fn check_str(lent: &[u8], v: Span, p: Place) -> Place
 pub fn read_str(s: &[u8], p: Place) -> Read<Span>
     ensures { StrRead s.now p result.value.start result.value.len result.next }
 {
-    let none = Span { start: 0, len: 0 };
     let count = numbers::read_u16(s, p);
-    let a = count.next;
-    let Ok(start) = a else {
-        return Read {
-            value: none,
-            next: a,
-        };
+    let Ok(start) = count.next else {
+        return no_span(count.next);
     };
-    let len = count.value as usize;
-    if numbers::within(start, len, s.len()) {
-        let end = start + len;
-        let some = Span { start, len };
-        if utf8::short_plain(&s[start..end]) {
-            return Read {
-                value: some,
-                next: Ok(end),
-            };
-        }
-        let q = check_text(s, some, Ok(end));
-        let Ok(_) = q else {
-            return Read {
-                value: none,
-                next: q,
-            };
-        };
+    let some = Span {
+        start,
+        len: count.value as usize,
+    };
+    if !numbers::within(start, some.len, s.len()) {
+        return no_span(Err(Fault(Refusal::Short, 0)));
+    }
+    let end = start + some.len;
+    if utf8::short_plain(&s[start..end]) {
         return Read {
             value: some,
-            next: q,
+            next: Ok(end),
         };
     }
-    Read {
-        value: none,
-        next: Err(Fault(Refusal::Short, 0)),
-    }
+    let next = check_text(s, some, Ok(end));
+    let Ok(_) = next else {
+        return no_span(next);
+    };
+    Read { value: some, next }
 }
 
 // The lent bytes from `start` on, over those of the output from `at` on: the plain form, byte by byte.
@@ -136,10 +119,8 @@ fn copy_bytes(out: &mut [u8], at: usize, lent: &[u8], start: usize, len: usize)
     requires { (at + len ≤ length out.old) × (start + len ≤ length lent.now) }
     ensures { out.new ≡ over out.old at (take len (drop start lent.now)) }
 {
-    let mut i = 0;
-    while i < len {
+    for i in 0..len {
         out[at + i] = lent[start + i];
-        i += 1;
     }
 }
 
@@ -161,7 +142,7 @@ fn copy_blocks(out: &mut [u8], at: usize, lent: &[u8], start: usize, len: usize)
 {
     let mut done = 0;
     while done < len {
-        let n = numbers::min(len - done, 65536);
+        let n = (len - done).min(65536);
         copy_block(out, at + done, lent, start + done, n);
         done += n;
     }
@@ -173,48 +154,35 @@ fn copy(out: &mut [u8], at: usize, lent: &[u8], start: usize, len: usize)
     requires { (at + len ≤ length out.old) × (start + len ≤ length lent.now) }
     ensures { out.new ≡ over out.old at (take len (drop start lent.now)) }
 {
-    if 8 <= len {
-        if len <= 16 {
-            let last = len - 8;
-            copy_block(out, at, lent, start, 8);
-            copy_block(out, at + last, lent, start + last, 8);
-            return;
-        }
+    if 8 <= len && len <= 16 {
+        let last = len - 8;
+        copy_block(out, at, lent, start, 8);
+        copy_block(out, at + last, lent, start + last, 8);
+    } else {
+        copy_blocks(out, at, lent, start, len);
     }
-    copy_blocks(out, at, lent, start, len);
 }
 
 // The bytes that a span shows, put at a place: 9, 11.
 pub fn put_bytes(out: &mut [u8], p: Place, lent: &[u8], v: Span) -> Place
     ensures { SpanPut lent.now v.start v.len out.old p out.new result }
 {
-    let q = check_span(lent, v, p);
-    let Ok(at) = q else {
-        return q;
-    };
-    let start = v.start;
-    let len = v.len;
-    if numbers::within(at, len, out.len()) {
-        copy(out, at, lent, start, len);
-        let end = at + len;
-        return Ok(end);
+    let at = check_span(lent, v, p)?;
+    if !numbers::within(at, v.len, out.len()) {
+        return Err(Fault(Refusal::NoRoom, 0));
     }
-    Err(Fault(Refusal::NoRoom, 0))
+    copy(out, at, lent, v.start, v.len);
+    Ok(at + v.len)
 }
 
 // A string of the lent bytes, put at a place as n[2] and its bytes: 9, 7, 5, 6, 11. The room is tested once, for both.
 pub fn put_str(out: &mut [u8], p: Place, lent: &[u8], v: Span) -> Place
     ensures { StrPut lent.now v.start v.len out.old p out.new result }
 {
-    let q = check_str(lent, v, p);
-    let Ok(at) = q else {
-        return q;
-    };
-    let len = v.len;
-    let size = len + 2;
-    if numbers::within(at, size, out.len()) {
-        let text = numbers::put_u16(out, q, len as u16);
-        return put_bytes(out, text, lent, v);
+    let at = check_str(lent, v, p)?;
+    if !numbers::within(at, v.len + 2, out.len()) {
+        return Err(Fault(Refusal::NoRoom, 0));
     }
-    Err(Fault(Refusal::NoRoom, 0))
+    let text = numbers::put_u16(out, Ok(at), v.len as u16);
+    put_bytes(out, text, lent, v)
 }

@@ -8,7 +8,7 @@ ghost use Rattle.unix_stretch.specs.Views.{BodyOf, Leaves, view_body, ListedAs, 
 
 use framing::Cut;
 use layouts::ids::Tag;
-use numbers::{Place, Refusal};
+use numbers::Refusal;
 use unix_replies::Rbody;
 use unix_requests::Tbody;
 

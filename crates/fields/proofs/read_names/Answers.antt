@@ -13,8 +13,8 @@ pub returns-in_default-end : goal.returns-in_default-end
 returns-in_default-end c =
     strs_bad c.read_count-c.ensures c.in-Ok.is c.scan_names-end.ensures c.in_default-end.is c.no_part-in_default-end.ensures
 
-pub overflow_sub-len : goal.overflow_sub-len
-overflow_sub-len c =
+pub overflow_sub-result : goal.overflow_sub-result
+overflow_sub-result c =
     let b = bytes_all c.args.s.now (λ i. (c.type_inv.s i).fits) in
     strs_on b c.read_count-c.ensures c.in-Ok.is c.scan_names-end.ensures c.in-Ok-end.is
 

@@ -5,10 +5,9 @@ use Rattle.fields.proofs.read_qids.Goals as goal
 pub returns-in_default : goal.returns-in_default
 returns-in_default c = quids_cut c.read_count-c.ensures c.in_default.is c.no_part.ensures
 
-pub returns-then-within : goal.returns-then-within
-returns-then-within c =
-    quids_good c.read_count-c.ensures c.in-Ok.is c.within.ensures c.if-within.true
+pub returns-then-not-within : goal.returns-then-not-within
+returns-then-not-within c =
+    quids_short c.read_count-c.ensures c.in-Ok.is c.within.ensures c.if-not-within.true c.no_part-then-not-within.ensures
 
 pub returns : goal.returns
-returns c =
-    quids_short c.read_count-c.ensures c.in-Ok.is c.within.ensures c.if-within.false c.no_part-2.ensures
+returns c = quids_good c.read_count-c.ensures c.in-Ok.is c.within.ensures c.if-not-within.false

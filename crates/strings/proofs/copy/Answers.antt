@@ -1,5 +1,5 @@
 -- Two blocks of eight, or all of the blocks.
-use native.Mathlib.Omega.{arith}
+use Rattle.std.proofs.Common.{arith}
 use Rattle.strings.proofs.Ways.{copy_eights}
 use Rattle.strings.proofs.copy.Goals as goal
 

@@ -7,7 +7,6 @@ pub loop-i-preserved : goal.loop-i-preserved
 loop-i-preserved c =
     let a = c.args in
     let l = c.loop-i in (
-      omega arith,
-      simp length-set l.invariant.1,
-      copy_turn l.out a.out.now a.lent.now a.at a.start l.i (omega arith) (omega arith) l.invariant.2,
+      simp length-set l.invariant.0,
+      copy_turn l.out a.out.now a.lent.now a.at a.start l.i (omega arith) (omega arith) l.invariant.1,
     )
