@@ -3,7 +3,7 @@ use Rattle.numbers.specs.Place.{Place}
 use Rattle.std.specs.Prelude.{ℕ, ◌+◌, ◌≤◌, ◌<◌, ◌≡◌, refl, Bool, true, false, cond, List, [], ◌++◌, length, Ok, Err}
 use Rattle.std.proofs.Common.{arith, sym, ap₂, ◌∙◌}
 use borrow.Author.Tests.{le-leb, lt-leb}
-use Rattle.numbers.specs.Reading.{Result, ok, bad, after}
+use Rattle.numbers.specs.Reading.{Reading, ok, bad, after}
 use Rattle.numbers.specs.declared.Refusal.{Refusal}
 use Rattle.numbers.specs.declared.Refusal.TheVariants as R
 use Rattle.utf8.specs.Utf8.{utf8, sound_start, no_zero, zero_at}
@@ -18,14 +18,14 @@ use Rattle.apart.proofs.ApartLaws.{whole, in_second}
 use Rattle.apart.specs.SecondLaws.{Passed}
 
 -- the place after a text that is checked at a
-abbrev past : Result (List ℕ) → ℕ → Place
+abbrev past : Reading (List ℕ) → ℕ → Place
 past m a = advance (shown_size (after m (λ bs r. ok (string bs) r))) (check_at (after m (λ bs r. ok (string bs) r)) (Ok a))
 
 pub first_passed : {s : List ℕ} {p q : Place} → FieldMeasured str s (span 0 (length s)) p q → Passed s q
 unfolding check_field show
 first_passed {s} {p} m = rw m.is (go p (show_string s 0 (length s)) refl)
   where
-    go : (p' : Place) (m : Result (List ℕ)) → show_string s 0 (length s) ≡ m
+    go : (p' : Place) (m : Reading (List ℕ)) → show_string s 0 (length s) ≡ m
         → Passed s (advance (shown_size (after m (λ bs r. ok (string bs) r))) (check_at (after m (λ bs r. ok (string bs) r)) p'))
     go (Err f) m e = tt
     go (Ok a) (ok bs r) e = (string_inv s 0 (length s) e).small

@@ -3,7 +3,7 @@ use Rattle.std.specs.Prelude.{ℕ, zero, suc, ◌+◌, ◌-◌, ◌^◌, ◌≤�
 use Rattle.std.proofs.Common.{arith, sym, ap, ap₂, ◌∙◌, append_assoc, append-nil, length-append, take_at, drop_at}
 use Rattle.std.proofs.Math.Seq.{drop-append_seam}
 use Rattle.numbers.specs.Numbers.{Bytes}
-use Rattle.numbers.specs.Reading.{Result}
+use Rattle.numbers.specs.Reading.{Reading}
 use Rattle.fields.specs.Layouts.{Item, items_bytes}
 use Rattle.fields.proofs.LayoutLaws.{reads_fields}
 use Rattle.fields.specs.Values.{Value, places, shows}
@@ -40,9 +40,9 @@ again names row b w s a cs =
       shows_it = ap (λ (z : List ℕ). shows layout_dirent (a ++ (z ++ cs)) (places p is)) e ∙ ap (λ l. shows l (a ++ (items_bytes is ++ cs)) (places p is)) (sym g.0) ∙ shows_items is a cs p g.1 refl;
     }
 
-gives_more : {s : List ℕ} {l : Listing} {ms : List (Result (List Item))} {vs : List Value} {m : Result (List Item)} (at next : ℕ) → shows layout_dirent s vs ≡ m → Gives s l ms → Gives s (line at vs next l) (m ∷ ms)
+gives_more : {s : List ℕ} {l : Listing} {ms : List (Reading (List Item))} {vs : List Value} {m : Reading (List Item)} (at next : ℕ) → shows layout_dirent s vs ≡ m → Gives s l ms → Gives s (line at vs next l) (m ∷ ms)
 unfolding records_in
-gives_more at next e g = record { records = ap₂ (λ x (y : List (Result (List Item))). x ∷ y) e g.records; last = g.last }
+gives_more at next e g = record { records = ap₂ (λ x (y : List (Reading (List Item))). x ∷ y) e g.records; last = g.last }
 
 gives_none : (a : List ℕ) → Gives (a ++ []) (list_from (length a) 0 []) []
 unfolding records_in

@@ -8,7 +8,7 @@ use Rattle.std.proofs.Math.Seq.{drop-length, drop-append_seam}
 use borrow.Author.Tests.{lt-ltb, le-ltb, eq-eqb, ne_eqb}
 use Rattle.numbers.specs.Numbers.{Bytes}
 use Rattle.numbers.proofs.Numbers.{length_to_le, bytes_drop}
-use Rattle.numbers.specs.Reading.{Result, ok, bad}
+use Rattle.numbers.specs.Reading.{Reading, ok, bad}
 use Rattle.numbers.proofs.ReadingLaws.{or_else}
 use Rattle.numbers.specs.declared.Refusal.{Refusal}
 use Rattle.numbers.specs.declared.Refusal.TheVariants as R
@@ -64,7 +64,7 @@ pub front_case : {X : Type 0} (p : ℕ) (xs : List ℕ) → Bytes xs → ((is : 
 unfolding front
 front_case {X} p xs b f g = go (read_fields layout_dirent p xs) refl
   where
-    go : (m : Result (List Item)) → read_fields layout_dirent p xs ≡ m → X
+    go : (m : Reading (List Item)) → read_fields layout_dirent p xs ≡ m → X
     go (ok is r) e = let t = took_fields layout_dirent p xs b e in f is (record { left = r; reads = e; whole = t.whole; kinds = t.good.0 })
     go (bad k at) e = g k at (ap (entry_of p) e)
 

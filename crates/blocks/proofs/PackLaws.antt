@@ -7,7 +7,7 @@ use Rattle.std.proofs.Math.Seq.{drop-length}
 use Rattle.std.proofs.lemmas.Bool.{lt-leb}
 use Rattle.numbers.specs.Numbers.{Bytes}
 use Rattle.numbers.proofs.Numbers.{length_to_le}
-use Rattle.numbers.specs.Reading.{Result, ok, bad}
+use Rattle.numbers.specs.Reading.{Reading, ok, bad}
 use Rattle.numbers.proofs.ReadingLaws.{or_else}
 use Rattle.numbers.specs.Places.{Within, over}
 use Rattle.numbers.proofs.PlaceLaws.{inside, over_then, length_over}
@@ -61,7 +61,7 @@ entry_passes names row c e = name_sized names row (string_passed c e).shows
 pub entry_fails : (names row : List ℕ) {k : Refusal} {at : ℕ} {q : Place} → StrCheck names (get_or row 5 0) (get_or row 6 0) (Ok 0) q → q ≡ Err (k, at) → shown names row ≡ bad k at
 entry_fails names row {k} {at} c e = unnamed names row (go (show_string names (get_or row 5 0) (get_or row 6 0)) (sym c.is ∙ e))
   where
-    go : (m : Result (List ℕ)) → check_at m (Ok 0) ≡ Err (k, at) → m ≡ bad k at
+    go : (m : Reading (List ℕ)) → check_at m (Ok 0) ≡ Err (k, at) → m ≡ bad k at
     go (ok bs r) f = absurd (let z : ◌≡◌ {A = ℕ} 0 1 = cc f in omega arith)
     go (bad j n) f = let x : j ≡ k = cc f in let y : n ≡ at = cc f in ap₂ bad x y
 
@@ -84,7 +84,7 @@ short_name {names} {x} {y} w h e g =
 pub shows_sized : {names row : List ℕ} → Shows names row → Sized names row
 shows_sized {names} {row} s = go (show_string names (get_or row 5 0) (get_or row 6 0)) refl
   where
-    go : (m : Result (List ℕ)) → show_string names (get_or row 5 0) (get_or row 6 0) ≡ m → Sized names row
+    go : (m : Reading (List ℕ)) → show_string names (get_or row 5 0) (get_or row 6 0) ≡ m → Sized names row
     go (ok bs r) e = name_sized names row e
     go (bad k at) e = absurd (let d = sym s.is ∙ unnamed names row e in let z : ◌≡◌ {A = ℕ} 0 1 = cc d in omega arith)
 
@@ -97,7 +97,7 @@ row_size s = ap (λ m. length (bytes_of m)) s.is ∙ s.size
 -- ---- an entry and those after it
 
 module _ (names : List ℕ) (rows : List (List ℕ)) (row : List ℕ) (room : ℕ) where
-  pack_cons : {m : Result (List Item)} → shown names row ≡ m → pack_from names room (row ∷ rows) ≡ fitted room m (λ left. pack_from names left rows)
+  pack_cons : {m : Reading (List Item)} → shown names row ≡ m → pack_from names room (row ∷ rows) ≡ fitted room m (λ left. pack_from names left rows)
   unfolding pack_from
   pack_cons e = ap (λ m. fitted room m (λ left. pack_from names left rows)) e
 
@@ -290,7 +290,7 @@ pub held_in : (names : List ℕ) (room : ℕ) (rows : List (List ℕ)) {n : ℕ}
 held_in names room [] e = nothing_held (sym (pack_none names room) ∙ e)
 held_in names room (row ∷ rows) {n} {bs} e = go (shown names row) refl (λ left m cs f. held_in names left rows f)
   where
-    go : (m : Result (List Item)) → shown names row ≡ m → ((left : ℕ) (k : ℕ) (cs : List ℕ) → pack_from names left rows ≡ holds k cs → Holds names left rows k cs) → Holds names room (row ∷ rows) n bs
+    go : (m : Reading (List Item)) → shown names row ≡ m → ((left : ℕ) (k : ℕ) (cs : List ℕ) → pack_from names left rows ≡ holds k cs → Holds names left rows k cs) → Holds names room (row ∷ rows) n bs
     go (bad k at) s ih = absurd (let d = sym (pack_bad names rows row room s) ∙ e in let z : ◌≡◌ {A = ℕ} 0 1 = cc d in omega arith)
     go (ok is r) s ih =
         or_else (length (items_bytes is)) room

@@ -6,7 +6,7 @@ use Rattle.std.proofs.Math.Path.{sym, ap, ap₂}
 use mathlib.Core.List.{List, [], ◌∷◌}
 use borrow.Author.Tests.{lt-ltb, le-ltb, eq-eqb, ne_eqb}
 use Rattle.numbers.specs.Numbers.{Bytes}
-use Rattle.numbers.specs.Reading.{Result, ok, bad}
+use Rattle.numbers.specs.Reading.{Reading, ok, bad}
 use Rattle.numbers.proofs.ReadingLaws.{or_else}
 use Rattle.numbers.proofs.PlaceLaws.{num_short}
 use Rattle.numbers.specs.declared.Refusal.{Refusal}
@@ -36,7 +36,7 @@ module _ (s : List ℕ) (p : ℕ) where
     unfolding entry_at front
     in_block h = rw (le-ltb (length s) p (omega arith), ne_eqb (length s) p (λ z. omega arith)) (go (read_fields layout_dirent p (drop p s)) refl)
       where
-        go : (m : Result (List Item)) → read_fields layout_dirent p (drop p s) ≡ m → found_at p vs e ≡ entry_of p m
+        go : (m : Reading (List Item)) → read_fields layout_dirent p (drop p s) ≡ m → found_at p vs e ≡ entry_of p m
         go (ok is r) d = let a = fields_accepted layout_dirent s p b (omega arith) d in ap₂ (λ (w : List Value) q. found_at p w q) (f.values ∙ a.values) (f.next ∙ a.next)
         go (bad k at) d = ap (found_at p vs) (f.next ∙ fields_refused layout_dirent s p b (omega arith) d)
 

@@ -1,6 +1,6 @@
 -- What is packed is listed again, entry by entry; no more entries from the front would fit; and what stands after the packed bytes is as it was.
 use Rattle.std.specs.Prelude.{ℕ, ◌+◌, ◌^◌, ◌<◌, ◌≡◌, List, [], ◌∷◌, ◌++◌, length, get_or}
-use Rattle.numbers.specs.Reading.{Result, ok}
+use Rattle.numbers.specs.Reading.{Reading, ok}
 use Rattle.fields.specs.Layouts.{Item}
 use Rattle.fields.specs.Values.{places, shows}
 use Rattle.layouts.specs.Tables.{layout_dirent}
@@ -10,7 +10,7 @@ use Rattle.blocks.specs.Views.{row_bytes}
 -- ---- packed, then listed
 
 -- what the lines of a listing show of the block
-unfoldable pub records_in : List ℕ → Listing → List (Result (List Item))
+unfoldable pub records_in : List ℕ → Listing → List (Reading (List Item))
 records_in s (line at vs next l) = shows layout_dirent s vs ∷ records_in s l
 records_in s (ends p) = []
 records_in s (stops k at p) = []
@@ -33,6 +33,6 @@ pub record Again (names row : List ℕ) (a cs : List ℕ) : Type 0 where
   pub shows_it : shows layout_dirent (a ++ (row_bytes names row ++ cs)) (places (length a) items) ≡ ok items []
 
 -- the listing of a block shows these entries and ends where the block does
-pub record Gives (s : List ℕ) (l : Listing) (shown : List (Result (List Item))) : Type 0 where
+pub record Gives (s : List ℕ) (l : Listing) (shown : List (Reading (List Item))) : Type 0 where
   pub records : records_in s l ≡ shown
   pub last : last_of l ≡ end (length s)

@@ -1,6 +1,6 @@
 -- A directory block: entries one after the other (F1.7), listed from a position on (F11.1 to F11.3) and packed entry by entry (F11.4 to F11.7).
 use Rattle.std.specs.Prelude.{ℕ, zero, suc, ◌+◌, ◌-◌, min, cond, List, [], ◌∷◌, ◌++◌, length, drop, leb, ltb, eqb}
-use Rattle.numbers.specs.Reading.{Result, ok, bad}
+use Rattle.numbers.specs.Reading.{Reading, ok, bad}
 use Rattle.numbers.specs.Places.{over}
 use Rattle.numbers.specs.declared.Refusal.{Refusal}
 use Rattle.numbers.specs.declared.Refusal.TheVariants as R
@@ -18,7 +18,7 @@ pub data Found : Type 0 where
   stop : Refusal → ℕ → ℕ → Found
 
 -- spans and places count from the block's first byte (F11.2)
-abbrev pub entry_of : ℕ → Result (List Item) → Found
+abbrev pub entry_of : ℕ → Reading (List Item) → Found
 entry_of p (ok is r) = entry p (places p is) (p + length (items_bytes is))
 entry_of p (bad k at) = stop k at p
 
@@ -54,7 +54,7 @@ listing s = list_from 0 0 s
 -- ---- packing
 
 -- a row of the table is an entry's flat values (F11.4); its name is a span of the names
-abbrev pub shown : List ℕ → List ℕ → Result (List Item)
+abbrev pub shown : List ℕ → List ℕ → Reading (List Item)
 shown names row = shows layout_dirent names (field_values layout_dirent row)
 
 -- how many entries, and their bytes; or the refusal of a name, and its place
@@ -67,7 +67,7 @@ more bs (holds n cs) = holds (suc n) (bs ++ cs)
 more bs (refuses k at) = refuses k at
 
 -- the name first, then the fit (F11.5); where one does not fit, none after it is looked at (F11.6)
-abbrev pub fitted : ℕ → Result (List Item) → (ℕ → Pack) → Pack
+abbrev pub fitted : ℕ → Reading (List Item) → (ℕ → Pack) → Pack
 fitted room (bad k at) others = refuses k at
 fitted room (ok is r) others = cond (leb (length (items_bytes is)) room) (more (items_bytes is) (others (room - length (items_bytes is)))) (holds 0 [])
 

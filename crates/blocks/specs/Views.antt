@@ -1,6 +1,6 @@
 -- What the functions answer, as the definition has it. What the contracts cite.
 use Rattle.std.specs.Prelude.{ℕ, ◌≡◌, List, [], length}
-use Rattle.numbers.specs.Reading.{Result, ok, bad}
+use Rattle.numbers.specs.Reading.{Reading, ok, bad}
 use Rattle.fields.specs.Layouts.{Item, items_bytes}
 use Rattle.layouts.specs.Records.{dirent}
 use Rattle.blocks.specs.declared.Step.{Step}
@@ -36,7 +36,7 @@ pub record PackedInto (count : ℕ) (names : List ℕ) (rows : List (List ℕ)) 
 
 -- ---- the bytes of the first entries of a table
 
-abbrev pub bytes_of : Result (List Item) → List ℕ
+abbrev pub bytes_of : Reading (List Item) → List ℕ
 bytes_of (ok is r) = items_bytes is
 bytes_of (bad k at) = []
 

@@ -8,7 +8,7 @@ use Rattle.std.proofs.Math.ListN.{length}
 use borrow.Author.Tests.{eqb-true}
 use Rattle.numbers.specs.Numbers.{Bytes}
 use Rattle.numbers.proofs.Numbers.{length_to_le, bytes_take, bytes_drop}
-use Rattle.numbers.specs.Reading.{Result, ok, bad, after}
+use Rattle.numbers.specs.Reading.{Reading, ok, bad, after}
 use Rattle.numbers.proofs.ReadingLaws.{after_inv, cond_inv}
 use Rattle.numbers.specs.declared.Refusal.{Refusal}
 use Rattle.numbers.specs.declared.Refusal.TheVariants as R
@@ -30,21 +30,21 @@ use Rattle.exports.specs.declared.Outcome.{Outcome}
 abbrev end_of : Value → ℕ
 end_of v = start_of v + len_of v
 
-abbrev pub past_element : Result Value → Place
+abbrev pub past_element : Reading Value → Place
 past_element (ok v r) = Ok (end_of v)
 past_element (bad k at) = Err (k, at)
 
-abbrev found_in : Result Value → List Value
+abbrev found_in : Reading Value → List Value
 found_in (ok v r) = v ∷ []
 found_in (bad k at) = []
 
 -- F4.18; refused, the two numbers are as they were
-pub record Spanned (e : Result Value) (before after : List ℕ) (r : Outcome) : Type 0 where
+pub record Spanned (e : Reading Value) (before after : List ℕ) (r : Outcome) : Type 0 where
   pub is : Answered (ended (past_element e)) (laid (past_element e) (found_in e) before) after r
 
 -- ---- its end is a number of eight bytes, as it lies within the lent bytes
 
-abbrev pub Ends : Result Value → Type 0
+abbrev pub Ends : Reading Value → Type 0
 Ends (ok v r) = end_of v < 2 ^ 64
 Ends (bad k at) = Unit {0}
 
@@ -106,11 +106,11 @@ module _ (lent : List ℕ) (c x y i : ℕ) (b : Bytes lent) (m : length lent < 2
       let lies = span_inv lent x y e3 in
       rw (e2, f) (omega arith)))
 
-  pub name_lies : (e : Result Value) → e ≡ element_at strs lent (part c x y) i → Ends e
+  pub name_lies : (e : Reading Value) → e ≡ element_at strs lent (part c x y) i → Ends e
   name_lies (bad k at) h = tt
   name_lies (ok v r) h = let n = name_within (sym h) in omega arith
 
-  pub qid_lies : (e : Result Value) → e ≡ element_at quids lent (part c x y) i → Ends e
+  pub qid_lies : (e : Reading Value) → e ≡ element_at quids lent (part c x y) i → Ends e
   qid_lies (bad k at) h = tt
   qid_lies (ok v r) h = let n = qid_within (sym h) in omega arith
 
@@ -129,5 +129,5 @@ module _ (e : Element) where
   unfolding view_element
   spanned_refused h x = rw h (record { is = record { answer = x; left = refl } })
 
-pub spanned_same : {e f : Result Value} {before after : List ℕ} {r : Outcome} → Spanned e before after r → e ≡ f → Spanned f before after r
+pub spanned_same : {e f : Reading Value} {before after : List ℕ} {r : Outcome} → Spanned e before after r → e ≡ f → Spanned f before after r
 spanned_same s h = rw (← h) s

@@ -1,6 +1,6 @@
 -- What crosses to Rust for a frame: its outcome, its values in the room that is lent for them, and what writing one from such values leaves.
 use Rattle.std.specs.Prelude.{ℕ, true, cond, List, eqb, Ok, Err}
-use Rattle.numbers.specs.Reading.{Result, bad}
+use Rattle.numbers.specs.Reading.{Reading, bad}
 use Rattle.numbers.specs.declared.Refusal.TheVariants as R
 use Rattle.fields.specs.Layouts.{Item}
 use Rattle.layouts.specs.Tables.{Row, lookup}
@@ -45,7 +45,7 @@ pub record BodyRead (a : Answer) (before after : List ℕ) (r : Outcome) : Type 
 -- ---- writing
 
 -- what a frame shows: 16 where it holds a refusal
-abbrev pub flat_shows : List Row → ℕ → ℕ → List ℕ → List ℕ → Result (List Item)
+abbrev pub flat_shows : List Row → ℕ → ℕ → List ℕ → List ℕ → Reading (List Item)
 flat_shows rows refusal ty lent ns = cond (eqb refusal 0) (shows_from (lookup rows ty) lent ns) (bad R.HoldsRefusal 0)
 
 -- refused, the output is as it was; else the frame stands at its front

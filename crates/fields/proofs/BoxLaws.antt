@@ -7,7 +7,7 @@ use mathlib.Core.List.{List, [], ◌∷◌, ◌++◌, map}
 use Rattle.std.proofs.Math.ListN.{length, length-append, length-drop}
 use Rattle.numbers.specs.Numbers.{Bytes}
 use Rattle.numbers.proofs.Numbers.{bytes_take, bytes_drop}
-use Rattle.numbers.specs.Reading.{Result, ok, bad, after, raw, read_num}
+use Rattle.numbers.specs.Reading.{Reading, ok, bad, after, raw, read_num}
 use Rattle.numbers.specs.Places.{rest_at}
 use Rattle.numbers.specs.declared.Refusal.{Refusal}
 use Rattle.numbers.specs.declared.Refusal.TheVariants as R
@@ -41,19 +41,19 @@ plain_places (c ∷ cs) a =
 
 -- ---- read as plain ones
 
-abbrev items_of : Result (List Cell) → Result (List Item)
+abbrev items_of : Reading (List Cell) → Reading (List Item)
 items_of m = after m (λ cs r. ok (map item_of cs) r)
 
 one_plain : (f : Shape) (a : ℕ) (xs : List ℕ) → read_field (plain_of f) a xs ≡ after (read_cell f a xs) (λ c r. ok (item_of c) r)
 unfolding read_field read_cell
 one_plain (fixed w) a xs = go (read_num w xs)
   where
-    go : (m : Result ℕ) → after m (λ n r. ok (number w n) r) ≡ after (after m (λ n r. ok (amount w n) r)) (λ c r. ok (item_of c) r)
+    go : (m : Reading ℕ) → after m (λ n r. ok (number w n) r) ≡ after (after m (λ n r. ok (amount w n) r)) (λ c r. ok (item_of c) r)
     go (ok n r) = refl
     go (bad k at) = refl
 one_plain worded a xs = go (read_string a xs)
   where
-    go : (m : Result (List ℕ)) → after m (λ bs r. ok (string bs) r) ≡ after (after m (λ bs r. ok (words bs) r)) (λ c r. ok (item_of c) r)
+    go : (m : Reading (List ℕ)) → after m (λ bs r. ok (string bs) r) ≡ after (after m (λ bs r. ok (words bs) r)) (λ c r. ok (item_of c) r)
     go (ok bs r) = refl
     go (bad k at) = refl
 
@@ -62,11 +62,11 @@ unfolding read_fields read_cells
 plain_read [] a xs = refl
 plain_read (f ∷ fs) a xs = ap (λ m. after m (λ i r. after (read_fields (map plain_of fs) (a + length (item_bytes i)) r) (λ is s. ok (i ∷ is) s))) (one_plain f a xs) ∙ first (read_cell f a xs) (λ b r. plain_read fs b r)
   where
-    others : (c : Cell) (m : Result (List Cell)) → after (items_of m) (λ is s. ok (item_of c ∷ is) s) ≡ items_of (after m (λ cs s. ok (c ∷ cs) s))
+    others : (c : Cell) (m : Reading (List Cell)) → after (items_of m) (λ is s. ok (item_of c ∷ is) s) ≡ items_of (after m (λ cs s. ok (c ∷ cs) s))
     others c (ok cs s) = refl
     others c (bad k at) = refl
 
-    first : (m : Result Cell) → ((b : ℕ) (r : List ℕ) → read_fields (map plain_of fs) b r ≡ items_of (read_cells fs b r))
+    first : (m : Reading Cell) → ((b : ℕ) (r : List ℕ) → read_fields (map plain_of fs) b r ≡ items_of (read_cells fs b r))
         → after (after m (λ c r. ok (item_of c) r)) (λ i r. after (read_fields (map plain_of fs) (a + length (item_bytes i)) r) (λ is s. ok (i ∷ is) s))
         ≡ items_of (after m (λ c r. after (read_cells fs (a + length (cell_bytes c)) r) (λ cs s. ok (c ∷ cs) s)))
     first (ok c r) ih =
@@ -80,7 +80,7 @@ unfolding past_field value_at
 unvalued f s (Err w) e = refl
 unvalued f s (Ok a) {k} {at} e = go (read_field f a (drop a s)) e
   where
-    go : (m : Result Item) → rest_at (length s) m ≡ Err (k, at) → placed_in f (Ok a) m ≡ nothing f
+    go : (m : Reading Item) → rest_at (length s) m ≡ Err (k, at) → placed_in f (Ok a) m ≡ nothing f
     go (ok i r) d = absurd (let z : ◌≡◌ {A = ℕ} 0 1 = cc d in omega arith)
     go (bad j b) d = refl
 
@@ -90,7 +90,7 @@ box_is : (fs : List Shape) (s : List ℕ) {p : Place} {m end : ℕ} (B : Box fs 
 unfolding read_field
 box_is fs s {m = m} {end = end} B = go (read_num 2 (drop B.at s)) B.held
   where
-    go : (x : Result ℕ) → after x (λ n r. raw n r) ≡ ok B.bytes B.left
+    go : (x : Reading ℕ) → after x (λ n r. raw n r) ≡ ok B.bytes B.left
         → after x (λ n r. after (raw n r) (λ bs t. cond (agrees fs bs) (after (read_cells fs (B.at + 4) (drop 2 bs)) (λ cs u. ok (box cs) t)) (bad R.StatMalformed 0)))
         ≡ after (read_cells fs m (drop m (take end s))) (λ cs u. ok (box cs) B.left)
     go (ok n r) e = rw (e, B.agree, B.inner, B.start)
@@ -105,7 +105,7 @@ module _ {fs : List Shape} {s : List ℕ} {p q : Place} {end : ℕ} (O : Opened 
   unfolding value_at past_field
   box_read {n} h = start q refl
     where
-      there : (m : ℕ) → q ≡ Ok m → m ≤ end → (B : Box fs s p m end) → (x : Result (List Cell)) → read_cells fs m (drop m (take end s)) ≡ x → FieldRead (boxed fs) s p (block (map slot_of vs)) e
+      there : (m : ℕ) → q ≡ Ok m → m ≤ end → (B : Box fs s p m end) → (x : Reading (List Cell)) → read_cells fs m (drop m (take end s)) ≡ x → FieldRead (boxed fs) s p (block (map slot_of vs)) e
       there m d l B (ok cs u) f =
           let g = plain_read fs m (drop m (take end s)) ∙ ap items_of f in
           let A = fields_accepted (map plain_of fs) (take end s) m (bytes_take end s b) (rw short l) g in
@@ -139,7 +139,7 @@ module _ {fs : List Shape} {s : List ℕ} {p q : Place} {end : ℕ} (O : Opened 
       let r = why in
       record { value = sym (unvalued (boxed fs) s p r); next = h ∙ sym r }
     where
-      there : (m : ℕ) → q ≡ Ok m → m ≤ end → (B : Box fs s p m end) → (x : Result (List Cell)) → read_cells fs m (drop m (take end s)) ≡ x → past_field (boxed fs) s p ≡ Err (k, at)
+      there : (m : ℕ) → q ≡ Ok m → m ≤ end → (B : Box fs s p m end) → (x : Reading (List Cell)) → read_cells fs m (drop m (take end s)) ≡ x → past_field (boxed fs) s p ≡ Err (k, at)
       there m d l B (ok cs u) f =
           absurd
           (let g = fields_accepted (map plain_of fs) (take end s) m (bytes_take end s b) (rw short l) (plain_read fs m (drop m (take end s)) ∙ ap items_of f) in

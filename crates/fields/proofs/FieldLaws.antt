@@ -6,7 +6,7 @@ use Rattle.std.proofs.Math.Seq.{drop-append_seam}
 use Rattle.std.proofs.lemmas.Bool.{lt-leb}
 use Rattle.numbers.specs.Numbers.{Bytes}
 use Rattle.numbers.proofs.Numbers.{bytes_drop}
-use Rattle.numbers.specs.Reading.{Result, ok, bad, after, read_num}
+use Rattle.numbers.specs.Reading.{Reading, ok, bad, after, read_num}
 use Rattle.numbers.proofs.ReadingLaws.{or_else, after_inv}
 use Rattle.numbers.specs.Places.{rest_at, number_in, num_at, past_num, NumRead}
 use Rattle.numbers.proofs.PlaceLaws.{one_answer}
@@ -23,11 +23,11 @@ use Rattle.fields.specs.FieldLaws.{Accepted}
 
 -- ---- a number and a string are fields
 
-past_map : {A B : Type 0} (f : A → B) (n : ℕ) (m : Result A) → rest_at n m ≡ rest_at n (after m (λ x r. ok (f x) r))
+past_map : {A B : Type 0} (f : A → B) (n : ℕ) (m : Reading A) → rest_at n m ≡ rest_at n (after m (λ x r. ok (f x) r))
 past_map f n (ok x r) = refl
 past_map f n (bad k at) = refl
 
-num_placed : (w a : ℕ) (m : Result ℕ) → val (number_in m) ≡ placed_in (num w) (Ok a) (after m (λ n r. ok (number w n) r))
+num_placed : (w a : ℕ) (m : Reading ℕ) → val (number_in m) ≡ placed_in (num w) (Ok a) (after m (λ n r. ok (number w n) r))
 num_placed w a (ok x r) = refl
 num_placed w a (bad k at) = refl
 
@@ -39,7 +39,7 @@ number_field {w} {x} {s} {p = Ok a} b = record {
 }
 number_field {w} {x} {s} {p = Err f} b = record { value = ap val b.value; next = b.next }
 
-str_placed : (a : ℕ) (m : Result (List ℕ)) → span (start_in 2 (Ok a) m) (length (bytes_in m)) ≡ placed_in str (Ok a) (after m (λ bs r. ok (string bs) r))
+str_placed : (a : ℕ) (m : Reading (List ℕ)) → span (start_in 2 (Ok a) m) (length (bytes_in m)) ≡ placed_in str (Ok a) (after m (λ bs r. ok (string bs) r))
 str_placed a (ok bs r) = refl
 str_placed a (bad k at) = refl
 
@@ -54,10 +54,10 @@ string_field {x} {y} {s} {p = Err f} b = record { value = ap₂ span b.start b.l
 -- ---- the count of a vector
 
 -- what has a count that passes, and what has one that does not
-pub few : {A : Type 0} {n : ℕ} (m : Result A) → n ≤ 16 → counted n m ≡ m
+pub few : {A : Type 0} {n : ℕ} (m : Reading A) → n ≤ 16 → counted n m ≡ m
 few {n = n} m h = rw (le-leb n 16 h)
 
-pub many : {A : Type 0} {n : ℕ} (m : Result A) → 16 < n → counted n m ≡ bad R.TooManyElements 0
+pub many : {A : Type 0} {n : ℕ} (m : Reading A) → 16 < n → counted n m ≡ bad R.TooManyElements 0
 many {n = n} m h = rw (lt-leb n 16 h)
 
 pub count_over : {n a : ℕ} {p : Place} → p ≡ Ok a → 16 < n → CountCheck n p (Err (R.TooManyElements, 0))
@@ -167,7 +167,7 @@ fields_accepted (f ∷ fs) s a {is} {r} b h e =
     })))
 
 -- where the first of some items stands, it is the others that are refused
-pub others_bad : (i : Item) (m : Result (List Item)) {k : Refusal} {at : ℕ} → after m (λ is u. ok (i ∷ is) u) ≡ bad k at → m ≡ bad k at
+pub others_bad : (i : Item) (m : Reading (List Item)) {k : Refusal} {at : ℕ} → after m (λ is u. ok (i ∷ is) u) ≡ bad k at → m ≡ bad k at
 others_bad i (ok is u) c = absurd (let z : ◌≡◌ {A = ℕ} 0 1 = cc c in omega arith)
 others_bad i (bad j b) {k} {at} c = let f : j ≡ k = cc c in let g : b ≡ at = cc c in ap₂ bad f g
 
@@ -177,7 +177,7 @@ unfolding read_fields past_fields
 fields_refused [] s a b h e = absurd (let z : ◌≡◌ {A = ℕ} 0 1 = cc e in omega arith)
 fields_refused (f ∷ fs) s a {k} {at} b h e = go (read_field f a (drop a s)) refl e (λ n l c. fields_refused fs s n b l c)
   where
-    go : (m : Result Item) → read_field f a (drop a s) ≡ m → after m (λ i r. after (read_fields fs (a + length (item_bytes i)) r) (λ is u. ok (i ∷ is) u)) ≡ bad k at
+    go : (m : Reading Item) → read_field f a (drop a s) ≡ m → after m (λ i r. after (read_fields fs (a + length (item_bytes i)) r) (λ is u. ok (i ∷ is) u)) ≡ bad k at
         → ((n : ℕ) → n ≤ length s → read_fields fs n (drop n s) ≡ bad k at → past_fields fs s (Ok n) ≡ Err (k, at))
         → past_fields fs s (past_field f s (Ok a)) ≡ Err (k, at)
     go (ok i t) d c ih =

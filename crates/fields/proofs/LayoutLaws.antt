@@ -3,7 +3,7 @@ use Rattle.std.specs.Prelude.{ℕ, zero, suc, ◌+◌, ◌-◌, ◌*◌, ◌≤�
 use Rattle.std.proofs.Common.{arith, sym, ap, ap₂, ◌∙◌, append-nil, append_assoc, length-append, length-drop, take-append-drop, take_at, drop_at, length-take-le, le-leb, leb-true, eq-eqb, eqb-true}
 use Rattle.numbers.specs.Numbers.{Bytes, to_le, from_le}
 use Rattle.numbers.proofs.Numbers.{length_to_le, from_to, to_from, bytes_take, bytes_drop}
-use Rattle.numbers.specs.Reading.{Result, ok, bad, after, raw, read_num}
+use Rattle.numbers.specs.Reading.{Reading, ok, bad, after, raw, read_num}
 use Rattle.numbers.specs.ReadingLaws.{Reads, Took}
 use Rattle.numbers.proofs.ReadingLaws.{after_inv, cond_inv, reads_raw, reads_nil, reads_map, reads_then, reads_after, reads_cond, reads_num, took_then, took_map, took_raw, took_num}
 use Rattle.numbers.specs.declared.Refusal.TheVariants as R
@@ -21,7 +21,7 @@ reads_many a (b ∷ bs) (g, gs) =
     reads_after _ (reads_string a b g) (reads_map (λ r. b ∷ r) (reads_many (a + length (string_bytes b)) bs gs))
 
 -- the elements after a count that passes
-reads_few : {A : Type 0} {d : List ℕ → Result A} {x : List ℕ} {a : A} (n : ℕ) → n ≤ 16 → Reads d x a → Reads (λ r. counted n (d r)) x a
+reads_few : {A : Type 0} {d : List ℕ → Reading A} {x : List ℕ} {a : A} (n : ℕ) → n ≤ 16 → Reads d x a → Reads (λ r. counted n (d r)) x a
 reads_few n h e = reads_cond (bad R.TooManyElements 0) (le-leb n 16 h) e
 
 -- the fields of a box

@@ -9,7 +9,7 @@ use mathlib.Core.List.{List, ◌∷◌}
 use lib.ListN.{length, take, drop, get_or, length-drop, length-append}
 use lib.Seq.{length-take-le}
 use Rattle.numbers.proofs.Numbers.{length_to_le}
-use Rattle.numbers.specs.Reading.{Result, ok, bad, after}
+use Rattle.numbers.specs.Reading.{Reading, ok, bad, after}
 use Rattle.numbers.specs.Places.{rest_at, NumRead, Within}
 use Rattle.numbers.specs.PlaceLaws.{Held}
 use Rattle.numbers.proofs.PlaceLaws.{inside, outside, num_holds, num_refused}
@@ -33,7 +33,7 @@ unfolding read_many
 bad_name m s a zero f e = absurd (f refl)
 bad_name m s a (suc n) f e = rw e
 
-same_rest : (m : ℕ) (b : List ℕ) (r : Result (List (List ℕ))) → rest_at m (after r (λ bs s. ok (b ∷ bs) s)) ≡ rest_at m r
+same_rest : (m : ℕ) (b : List ℕ) (r : Reading (List (List ℕ))) → rest_at m (after r (λ bs s. ok (b ∷ bs) s)) ≡ rest_at m r
 same_rest m b (ok a r) = refl
 same_rest m b (bad k i) = refl
 

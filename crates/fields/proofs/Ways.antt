@@ -12,7 +12,7 @@ use lib.Dec.{leb}
 use borrow.Author.Tests.{le-leb, lt-leb}
 use Rattle.numbers.specs.Numbers.{Bytes}
 use Rattle.numbers.proofs.Numbers.{bytes_drop}
-use Rattle.numbers.specs.Reading.{Result, ok, bad, after, raw, read_num}
+use Rattle.numbers.specs.Reading.{Reading, ok, bad, after, raw, read_num}
 use Rattle.numbers.proofs.ReadingLaws.{or_else, raw_short}
 use Rattle.numbers.specs.Places.{Within, read_at, read_from, rest_at, number_in, num_at, past_num, NumRead}
 use Rattle.numbers.specs.PlaceLaws.{Held}
@@ -44,10 +44,10 @@ read_field_lem g e h = record { value = rw (e, g); next = rw e h }
 
 -- ---- a field that begins with a count of w bytes
 
-record Counted (f : Field) (w : ℕ) (g : ℕ → ℕ → List ℕ → Result Item) : Type 0 where
+record Counted (f : Field) (w : ℕ) (g : ℕ → ℕ → List ℕ → Reading Item) : Type 0 where
   pub is : (a : ℕ) (xs : List ℕ) → read_field f a xs ≡ after (read_num w xs) (g a)
 
-module _ {f : Field} {w : ℕ} {g : ℕ → ℕ → List ℕ → Result Item} where
+module _ {f : Field} {w : ℕ} {g : ℕ → ℕ → List ℕ → Reading Item} where
   counted_cut : Counted f w g → (s : List ℕ) (p : Place) {k : Refusal} {at : ℕ} → read_at (read_num w) s p ≡ bad k at → read_from (read_field f) s p ≡ bad k at
   counted_cut c s (Ok a) e = c.is a (drop a s) ∙ rw e
   counted_cut c s (Err f) {k} {at} e = let h : f.0 ≡ k = cc e in let i : f.1 ≡ at = cc e in ap₂ bad h i
@@ -115,16 +115,16 @@ count_holds {s} {p} {q} {n} {e} r f =
     let c = count_passed b f in
     record { small = c.0; held = num_holds (omega arith) a c.1 }
 
-record Vector (f : Field) (g : ℕ → ℕ → List ℕ → Result Item) : Type 0 where
+record Vector (f : Field) (g : ℕ → ℕ → List ℕ → Reading Item) : Type 0 where
   pub is : Counted f 2 (λ a n r. counted n (g a n r))
 
-module _ {f : Field} {g : ℕ → ℕ → List ℕ → Result Item} where
+module _ {f : Field} {g : ℕ → ℕ → List ℕ → Reading Item} where
   vector_refused : {s : List ℕ} {p q : Place} {n : ℕ} {k : Refusal} {at : ℕ} → Vector f g → CountRead s p n q → q ≡ Err (k, at)
       → FieldRead f s p (nothing f) q
   unfolding num_at past_num
   vector_refused {s} {p} {q} {n} {k} {at} c r e = refused_field (there p r.value (sym r.next ∙ e)) e
     where
-      go : (a : ℕ) (m : Result ℕ) → n ≡ number_in m → check_at (ok_count n) (rest_at (length s) m) ≡ Err (k, at) → after m (λ x t. counted x (g a x t)) ≡ bad k at
+      go : (a : ℕ) (m : Reading ℕ) → n ≡ number_in m → check_at (ok_count n) (rest_at (length s) m) ≡ Err (k, at) → after m (λ x t. counted x (g a x t)) ≡ bad k at
       go a (bad j b) v h = let x = refused_one h in ap₂ bad x.0 x.1
       go a (ok x t) v h =
           or_else x 16
@@ -178,11 +178,11 @@ vector_strs : Vector strs (λ a n r. after (read_many n (a + 2) r) (λ l s. ok (
 unfolding read_field
 vector_strs = record { is = record { is = λ a xs. refl } }
 
-rest_bad : {A : Type 0} (m : Result A) (n : ℕ) {k : Refusal} {at : ℕ} → rest_at n m ≡ Err (k, at) → m ≡ bad k at
+rest_bad : {A : Type 0} (m : Reading A) (n : ℕ) {k : Refusal} {at : ℕ} → rest_at n m ≡ Err (k, at) → m ≡ bad k at
 rest_bad (ok a r) n e = absurd (let z : ◌≡◌ {A = ℕ} 0 1 = cc e in omega arith)
 rest_bad (bad j b) n e = let f = refused_one e in ap₂ bad f.0 f.1
 
-rest_ok : {A X : Type 0} (m : Result A) (n : ℕ) {g : ℕ} → rest_at n m ≡ Ok g → ((a : A) (r : List ℕ) → m ≡ ok a r → n - length r ≡ g → X) → X
+rest_ok : {A X : Type 0} (m : Reading A) (n : ℕ) {g : ℕ} → rest_at n m ≡ Ok g → ((a : A) (r : List ℕ) → m ≡ ok a r → n - length r ≡ g → X) → X
 rest_ok (ok a r) n e f = f a r refl (cc e)
 rest_ok (bad k at) n e f = absurd (let z : ◌≡◌ {A = ℕ} 0 1 = cc e in omega arith)
 

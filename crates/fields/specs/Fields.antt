@@ -1,7 +1,7 @@
 -- Fields at places: what the readers' contracts cite.
 use Rattle.numbers.specs.Place.{Place}
 use Rattle.std.specs.Prelude.{ℕ, ◌≡◌, List, [], ◌∷◌, map, length, drop, Ok, Err}
-use Rattle.numbers.specs.Reading.{Result, ok, bad}
+use Rattle.numbers.specs.Reading.{Reading, ok, bad}
 use Rattle.numbers.specs.Places.{read_from, rest_at, num_at, past_num}
 use Rattle.strings.specs.Spans.{check_at}
 use Rattle.fields.specs.Layouts.{Shape, fixed, worded, Field, num, str, dat, strs, quids, boxed, Layout, Item, ok_count, read_many, read_field}
@@ -21,7 +21,7 @@ nothing quids = part 0 0 0
 nothing (boxed fs) = block (map no_slot fs)
 
 -- the value of what was read at a place
-abbrev pub placed_in : Field → Place → Result Item → Value
+abbrev pub placed_in : Field → Place → Reading Item → Value
 placed_in f (Ok a) (ok i r) = place a i
 placed_in f (Ok a) (bad k at) = nothing f
 placed_in f (Err e) m = nothing f

@@ -1,7 +1,7 @@
 -- The format as data: fields, layouts, items; how a layout is read, and how items are written.
 use Rattle.std.specs.Prelude.{ℕ, zero, suc, ◌+◌, ◌-◌, ◌*◌, ◌^◌, ◌≤◌, ◌<◌, ◌≡◌, Bool, true, false, cond, List, [], ◌∷◌, ◌++◌, map, length, take, drop, leb, eqb}
 use Rattle.numbers.specs.Numbers.{to_le, from_le}
-use Rattle.numbers.specs.Reading.{Result, ok, bad, after, raw, read_num}
+use Rattle.numbers.specs.Reading.{Reading, ok, bad, after, raw, read_num}
 use Rattle.numbers.specs.declared.Refusal.TheVariants as R
 use Rattle.strings.specs.Strings.{read_string, string_bytes, GoodText}
 
@@ -81,10 +81,10 @@ items_bytes (i ∷ is) = item_bytes i ++ items_bytes is
 -- ---- reading, of bytes that begin at position a
 
 -- a walk has at most sixteen elements (F1.9); the count is checked before any of them (F4.11, F4.12)
-abbrev pub counted : {A : Type 0} → ℕ → Result A → Result A
+abbrev pub counted : {A : Type 0} → ℕ → Reading A → Reading A
 counted n m = cond (leb n 16) m (bad R.TooManyElements 0)
 
-abbrev pub ok_count : ℕ → Result ℕ
+abbrev pub ok_count : ℕ → Reading ℕ
 ok_count n = counted n (ok n [])
 
 -- how many bytes data may have that is read (F1.9)
@@ -92,26 +92,26 @@ abbrev pub most : ℕ
 most = 33554432
 
 -- so many strings, one after the other (F4.11)
-unfoldable pub read_many : ℕ → ℕ → List ℕ → Result (List (List ℕ))
+unfoldable pub read_many : ℕ → ℕ → List ℕ → Reading (List (List ℕ))
 read_many zero a xs = ok [] xs
 read_many (suc n) a xs = after (read_string a xs) (λ b r. after (read_many n (a + length (string_bytes b)) r) (λ bs s. ok (b ∷ bs) s))
 
 -- the fields of a box, one after the other
-unfoldable pub read_cell : Shape → ℕ → List ℕ → Result Cell
+unfoldable pub read_cell : Shape → ℕ → List ℕ → Reading Cell
 read_cell (fixed w) a xs = after (read_num w xs) (λ n r. ok (amount w n) r)
 read_cell worded a xs = after (read_string a xs) (λ bs r. ok (words bs) r)
 
-unfoldable pub read_cells : List Shape → ℕ → List ℕ → Result (List Cell)
+unfoldable pub read_cells : List Shape → ℕ → List ℕ → Reading (List Cell)
 read_cells [] a xs = ok [] xs
 read_cells (f ∷ fs) a xs = after (read_cell f a xs) (λ c r. after (read_cells fs (a + length (cell_bytes c)) r) (λ cs s. ok (c ∷ cs) s))
 
 -- whether they end where the bytes do: the counts of the strings are followed, their text is not looked at (F14.3)
-unfoldable pub follow : List Shape → List ℕ → Result ℕ
+unfoldable pub follow : List Shape → List ℕ → Reading ℕ
 follow [] xs = ok 0 xs
 follow (fixed w ∷ fs) xs = after (read_num w xs) (λ n r. follow fs r)
 follow (worded ∷ fs) xs = after (read_num 2 xs) (λ n r. after (raw n r) (λ bs s. follow fs s))
 
-abbrev pub at_end : Result ℕ → Bool
+abbrev pub at_end : Reading ℕ → Bool
 at_end (ok n []) = true
 at_end (ok n (x ∷ r)) = false
 at_end (bad k at) = false
@@ -121,7 +121,7 @@ unfoldable pub agrees : List Shape → List ℕ → Bool
 agrees fs bs = cond (leb 2 (length bs)) (cond (eqb (from_le (take 2 bs)) (length bs - 2)) (at_end (follow fs (drop 2 bs))) false) false
 
 -- a field by its kind (F4.8 to F4.12, F14.3); data: count, limit, bytes; a vector: count, limit, elements
-unfoldable pub read_field : Field → ℕ → List ℕ → Result Item
+unfoldable pub read_field : Field → ℕ → List ℕ → Reading Item
 read_field (num w) a xs = after (read_num w xs) (λ n r. ok (number w n) r)
 read_field str a xs = after (read_string a xs) (λ bs r. ok (string bs) r)
 read_field dat a xs = after (read_num 4 xs) (λ n r. cond (leb n most) (after (raw n r) (λ bs s. ok (bytes bs) s)) (bad R.DataTooLong 0))
@@ -132,7 +132,7 @@ read_field (boxed fs) a xs =
     (λ n r. after (raw n r) (λ bs s. cond (agrees fs bs) (after (read_cells fs (a + 4) (drop 2 bs)) (λ cs u. ok (box cs) s)) (bad R.StatMalformed 0)))
 
 -- fields in order; the first that fails answers (F4.2)
-unfoldable pub read_fields : Layout → ℕ → List ℕ → Result (List Item)
+unfoldable pub read_fields : Layout → ℕ → List ℕ → Reading (List Item)
 read_fields [] a xs = ok [] xs
 read_fields (f ∷ fs) a xs = after (read_field f a xs) (λ i r. after (read_fields fs (a + length (item_bytes i)) r) (λ is s. ok (i ∷ is) s))
 

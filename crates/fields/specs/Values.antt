@@ -1,6 +1,6 @@
 -- Values: what a record holds of a field. Items show bytes; values say where they stand.
 use Rattle.std.specs.Prelude.{ℕ, ◌+◌, ◌*◌, cond, List, [], ◌∷◌, length, eqb, leb}
-use Rattle.numbers.specs.Reading.{Result, ok, bad, after}
+use Rattle.numbers.specs.Reading.{Reading, ok, bad, after}
 use Rattle.numbers.specs.Refusals.{number_of}
 use Rattle.numbers.specs.declared.Refusal.{Refusal}
 use Rattle.numbers.specs.declared.Refusal.TheVariants as R
@@ -87,7 +87,7 @@ places a (i ∷ is) = place a i ∷ places (a + length (item_bytes i)) is
 -- ---- what a value shows of the lent bytes, with the writer's refusals. The rest of an `ok` is not used, and is []
 
 -- the bytes of a vector's elements: the count first, then the span (F5.7)
-abbrev pub show_part : List ℕ → ℕ → ℕ → ℕ → Result (List ℕ)
+abbrev pub show_part : List ℕ → ℕ → ℕ → ℕ → Reading (List ℕ)
 show_part lent n x y = counted n (show_span lent x y)
 
 -- an element that the part cuts off is 14 (F5.7)
@@ -95,7 +95,7 @@ abbrev pub cut_off : Refusal → Refusal
 cut_off k = cond (eqb (number_of k) 1) R.PartMalformed k
 
 -- bytes left over are 14 (F5.7)
-abbrev pub whole_part : {A : Type 0} → Result A → Result A
+abbrev pub whole_part : {A : Type 0} → Reading A → Reading A
 whole_part (ok a []) = ok a []
 whole_part (ok a (x ∷ r)) = bad R.PartMalformed 0
 whole_part (bad k at) = bad (cut_off k) at
@@ -109,16 +109,16 @@ abbrev pub other_slots : List Slot → List Slot
 other_slots [] = []
 other_slots (v ∷ vs) = vs
 
-unfoldable pub show_cell : Shape → List ℕ → Slot → Result Cell
+unfoldable pub show_cell : Shape → List ℕ → Slot → Reading Cell
 show_cell (fixed w) lent v = ok (amount w (slot_num v)) []
 show_cell worded lent v = after (show_string lent (slot_start v) (slot_len v)) (λ bs r. ok (words bs) r)
 
-unfoldable pub show_cells : List Shape → List ℕ → List Slot → Result (List Cell)
+unfoldable pub show_cells : List Shape → List ℕ → List Slot → Reading (List Cell)
 show_cells [] lent vs = ok [] []
 show_cells (f ∷ fs) lent vs = after (show_cell f lent (first_slot vs)) (λ c r. after (show_cells fs lent (other_slots vs)) (λ cs s. ok (c ∷ cs) s))
 
 -- a field that is to be written (F5.5 to F5.9); of a box the strings, then 18 where its count would be above 65,535 (F14.4)
-unfoldable pub show : Field → List ℕ → Value → Result Item
+unfoldable pub show : Field → List ℕ → Value → Reading Item
 show (num w) lent v = ok (number w (num_of v)) []
 show str lent v = after (show_string lent (start_of v) (len_of v)) (λ bs r. ok (string bs) r)
 show dat lent v = after (show_span lent (start_of v) (len_of v)) (λ bs r. ok (bytes bs) r)
@@ -140,6 +140,6 @@ others_of [] = []
 others_of (v ∷ vs) = vs
 
 -- fields in order (F5.2)
-unfoldable pub shows : Layout → List ℕ → List Value → Result (List Item)
+unfoldable pub shows : Layout → List ℕ → List Value → Reading (List Item)
 shows [] lent vs = ok [] []
 shows (f ∷ fs) lent vs = after (show f lent (first_of vs)) (λ i r. after (shows fs lent (others_of vs)) (λ is s. ok (i ∷ is) s))

@@ -7,7 +7,7 @@ use Rattle.fields.specs.Values.{Slot, slot, text, Value, val, span, part, block,
 use Rattle.fields.specs.Fields.{values_at, past_fields}
 use Rattle.laying.specs.Laying.{written_out, written_past}
 use Rattle.layouts.specs.Tables.{Row, row}
-use Rattle.numbers.specs.Reading.{Result, bad}
+use Rattle.numbers.specs.Reading.{Reading, bad}
 use Rattle.numbers.specs.declared.Refusal.TheVariants as R
 
 -- ---- out of the values
@@ -93,7 +93,7 @@ pub record Skipped (n : ℕ) (s : List ℕ) (p q : Place) : Type 0 where
 
 -- ---- a body written from such a run of numbers, by the layout of the type's row: 3 where it has none
 
-abbrev pub shows_from : Option Layout → List ℕ → List ℕ → Result (List Item)
+abbrev pub shows_from : Option Layout → List ℕ → List ℕ → Reading (List Item)
 shows_from none lent ns = bad R.UnknownType 0
 shows_from (some l) lent ns = shows l lent (field_values l ns)
 

@@ -5,7 +5,7 @@ use Rattle.std.proofs.Math.Option.{Option, none, some}
 use Rattle.std.proofs.Math.Seq.{take-append-add}
 use Rattle.numbers.specs.Numbers.{Bytes, to_le}
 use Rattle.numbers.proofs.Numbers.{length_to_le, bytes_take}
-use Rattle.numbers.specs.Reading.{Result, ok, bad, read_num}
+use Rattle.numbers.specs.Reading.{Reading, ok, bad, read_num}
 use Rattle.numbers.proofs.ReadingLaws.{after_inv, reads_num, took_num}
 use Rattle.numbers.specs.declared.Refusal.{Refusal}
 use Rattle.numbers.specs.declared.Refusal.TheVariants as R
@@ -36,7 +36,7 @@ unfolding read_frame
 reads_frame rows size ty tag is y z w e =
     rw (reads_header size ty tag (items_bytes is ++ y) z w.sized w.typed w.tagged e, w.known, (reads_fields 7 is w.goods).back y)
 
-pub frame_inv : {X : Type 0} (rows : List Row) {p tag : ℕ} {a : Answer} (m : Result Header) → frame_of rows m ≡ framed p tag a
+pub frame_inv : {X : Type 0} (rows : List Row) {p tag : ℕ} {a : Answer} (m : Reading Header) → frame_of rows m ≡ framed p tag a
     → ((h : Header) (d : List ℕ) → m ≡ ok h d → h.tag ≡ tag → body_of (lookup rows h.ty) h.ty 7 d ≡ a → X) → X
 frame_inv rows (ok h d) e f = f h d refl (cc e) (cc e)
 frame_inv rows (bad k at) e f = absurd (let z : ◌≡◌ {A = ℕ} 0 1 = cc e in omega arith)
@@ -46,11 +46,11 @@ pub at_front : (rows : List Row) (s : List ℕ) {p tag : ℕ} {a : Answer} → r
 unfolding read_frame
 at_front rows s {p} {tag} {a} e = go (read_header s) e
   where
-    go : (m : Result Header) → frame_of rows m ≡ framed p tag a → p ≡ 0
+    go : (m : Reading Header) → frame_of rows m ≡ framed p tag a → p ≡ 0
     go (ok h d) f = let g : 0 ≡ p = cc f in omega arith
     go (bad k at) f = absurd (let z : ◌≡◌ {A = ℕ} 0 1 = cc f in omega arith)
 
-items_inv : {X : Type 0} (ty a : ℕ) {ty' used : ℕ} {vs : List Value} (m : Result (List Item)) → items_at ty a m ≡ accepted ty' vs used
+items_inv : {X : Type 0} (ty a : ℕ) {ty' used : ℕ} {vs : List Value} (m : Reading (List Item)) → items_at ty a m ≡ accepted ty' vs used
     → ((is : List Item) (r : List ℕ) → m ≡ ok is r → ty ≡ ty' → vs ≡ places a is → used ≡ a + length (items_bytes is) → X) → X
 items_inv ty a (ok is r) e f = f is r refl (cc e) (cc e) (cc e)
 items_inv ty a (bad k at) e f = absurd (let z : ◌≡◌ {A = ℕ} 0 1 = cc e in omega arith)
@@ -60,7 +60,7 @@ pub body_inv : {X : Type 0} (ty a : ℕ) {ty' used : ℕ} {vs : List Value} (o :
 body_inv ty a none d e f = absurd (let z : ◌≡◌ {A = ℕ} 0 1 = cc e in omega arith)
 body_inv ty a (some l) d e f = items_inv ty a (read_fields l a d) e (λ is r e1 e2 e3 e4. f l is r refl e1 e2 e3 e4)
 
-cond_no : {A : Type 0} (t : Bool) (n : Refusal) (m : Result A) {a : A} {r : List ℕ} → cond t (bad n 0) m ≡ ok a r → (t ≡ false) × (m ≡ ok a r)
+cond_no : {A : Type 0} (t : Bool) (n : Refusal) (m : Reading A) {a : A} {r : List ℕ} → cond t (bad n 0) m ≡ ok a r → (t ≡ false) × (m ≡ ok a r)
 cond_no true n m e = absurd (let z : ◌≡◌ {A = ℕ} 0 1 = cc e in omega arith)
 cond_no false n m e = (refl, e)
 

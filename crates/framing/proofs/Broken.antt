@@ -10,7 +10,7 @@ use Rattle.std.proofs.Math.ListN.{length, length-drop}
 use Rattle.std.proofs.Math.Seq.{drop-append_seam}
 use Rattle.numbers.specs.Numbers.{Bytes}
 use Rattle.numbers.proofs.Numbers.{bytes_take, bytes_drop}
-use Rattle.numbers.specs.Reading.{Result, ok, bad, after, raw, read_num}
+use Rattle.numbers.specs.Reading.{Reading, ok, bad, after, raw, read_num}
 use Rattle.numbers.proofs.ReadingLaws.{or_else, after_inv, took_num}
 use Rattle.numbers.specs.Refusals.{number_of}
 use Rattle.numbers.specs.declared.Refusal.{Refusal}
@@ -45,7 +45,7 @@ of_six = record { low = omega arith; high = omega arith }
 -- ---- one reader after another
 
 -- what is refused was so by the first reader or by the next
-pub bad_inv : {A B X : Type 0} {k : Refusal} {n : ℕ} (m : Result A) (g : A → List ℕ → Result B) → after m g ≡ bad k n → (m ≡ bad k n → X)
+pub bad_inv : {A B X : Type 0} {k : Refusal} {n : ℕ} (m : Reading A) (g : A → List ℕ → Reading B) → after m g ≡ bad k n → (m ≡ bad k n → X)
     → ((a : A) (r : List ℕ) → m ≡ ok a r → g a r ≡ bad k n → X) → X
 bad_inv (ok a r) g e f h = h a r refl e
 bad_inv {k = k} {n} (bad j i) g e f h = f (let x : j ≡ k = cc e in let y : i ≡ n = cc e in ap₂ bad x y)
@@ -157,7 +157,7 @@ module _ {k : Refusal} {n : ℕ} (o : OfText k) where
   data_no true m r e = bad_inv (raw m r) _ e (λ f. short_no o (raw_bad m r f)) (λ bs u f g. not_bad g)
   data_no false m r e = below o R.DataTooLong (omega arith) (cc e)
 
-  few : (t : Bool) (m : Result Item) → cond t m (bad R.TooManyElements 0) ≡ bad k n → m ≡ bad k n
+  few : (t : Bool) (m : Reading Item) → cond t m (bad R.TooManyElements 0) ≡ bad k n → m ≡ bad k n
   few true m e = e
   few false m e = absurd (above o R.TooManyElements (omega arith) (cc e))
 
@@ -224,7 +224,7 @@ module _ {k : Refusal} {n : ℕ} (o : OfText k) where
   body_text none ty a xs b e = absurd (below o R.UnknownType (omega arith) (cc e))
   body_text (some l) ty a xs b e = go (read_fields l a xs) refl e
     where
-      go : (m : Result (List Item)) → read_fields l a xs ≡ m → items_at ty a m ≡ refused k n → Text k n a xs
+      go : (m : Reading (List Item)) → read_fields l a xs ≡ m → items_at ty a m ≡ refused k n → Text k n a xs
       go (ok is r) f g = absurd (let z : ◌≡◌ {A = ℕ} 0 1 = cc g in omega arith)
       go (bad j i) f g = let x : j ≡ k = cc g in let y : i ≡ n = cc g in fields_text l a xs b (f ∙ ap₂ bad x y)
 

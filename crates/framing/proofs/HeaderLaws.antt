@@ -7,7 +7,7 @@ use Rattle.std.proofs.Math.Seq.{take-length}
 use borrow.Author.Tests.{lt-ltb, le-ltb}
 use Rattle.numbers.specs.Numbers.{Bytes, from_le}
 use Rattle.numbers.proofs.Numbers.{bytes_take}
-use Rattle.numbers.specs.Reading.{Result, ok, bad, after, raw, read_num}
+use Rattle.numbers.specs.Reading.{Reading, ok, bad, after, raw, read_num}
 use Rattle.numbers.proofs.ReadingLaws.{or_else}
 use Rattle.numbers.specs.Places.{read_at, NumRead}
 use Rattle.numbers.specs.PlaceLaws.{Held}
@@ -35,7 +35,7 @@ no_place w xs {k} {at} e = go (leb w (length xs)) e
     go true f = absurd (let z : ◌≡◌ {A = ℕ} 0 1 = cc f in omega arith)
     go false f = cc f
 
-bad_is : {A : Type 0} {m : Result A} {k : Refusal} {at : ℕ} → m ≡ bad k at → at ≡ 0 → m ≡ bad k 0
+bad_is : {A : Type 0} {m : Reading A} {k : Refusal} {at : ℕ} → m ≡ bad k at → at ≡ 0 → m ≡ bad k 0
 bad_is {k = k} e h = e ∙ ap (bad k) h
 
 -- ---- the type and the tag
@@ -53,7 +53,7 @@ tagged {b} {ty} {tag} {e} r1 r2 h =
     let v : read_num 1 (drop 4 b) ≡ ok ty (drop k.at b) = rw x j.reads in
     record { all = refl; seven = omega arith; reads = rw (v, k.reads, u) }
 
-unfoldable made : ℕ → ℕ → List ℕ → Result Header
+unfoldable made : ℕ → ℕ → List ℕ → Reading Header
 made ty tag d = ok (record { ty = ty; tag = tag }) d
 
 pub untagged : {b : List ℕ} {ty tag : ℕ} {a c : Place} {k : Refusal} {at : ℕ} → NumRead 1 b (Ok 4) ty a → NumRead 2 b a tag c → c ≡ Err (k, at) → read_type_tag (drop 4 b) ≡ bad k 0

@@ -10,7 +10,7 @@ use mathlib.Core.List.{List, [], ◌∷◌}
 use Rattle.std.proofs.Math.ListN.{length, take}
 use Rattle.numbers.specs.Numbers.{Bytes}
 use Rattle.numbers.proofs.Numbers.{bytes_take, bytes_drop}
-use Rattle.numbers.specs.Reading.{Result, ok, bad, after}
+use Rattle.numbers.specs.Reading.{Reading, ok, bad, after}
 use Rattle.numbers.proofs.ReadingLaws.{or_else}
 use Rattle.numbers.specs.Places.{past_put}
 use Rattle.numbers.specs.Refusals.{number_of}
@@ -55,7 +55,7 @@ module _ {k : Refusal} {n : ℕ} (t : OfText k) where
       go bs r false h l f = absurd (above t R.StringTooLong (omega arith) (cc f))
 
   -- the names of a part, which is what is left of them once its count and its span have passed
-  whole_bad : (m : Result (List (List ℕ))) → whole_part m ≡ bad k n → m ≡ bad k n
+  whole_bad : (m : Reading (List (List ℕ))) → whole_part m ≡ bad k n → m ≡ bad k n
   whole_bad (ok a []) e = not_bad e
   whole_bad (ok a (b ∷ r)) e = absurd (above t R.PartMalformed (omega arith) (cc e))
   whole_bad (bad j i) e =
@@ -134,7 +134,7 @@ module _ {k : Refusal} {n : ℕ} (t : OfText k) where
       (λ bs r g h. bad_inv (show f lent v) _ h (show_lent f lent v b) (λ it u w z. not_bad z))
 
   -- a frame that is refused so was so by its fields
-  past_bad : (ty tag : ℕ) (m : Result (List Item)) (o : List ℕ) → frame_past ty tag m o ≡ Err (k, n) → m ≡ bad k n
+  past_bad : (ty tag : ℕ) (m : Reading (List Item)) (o : List ℕ) → frame_past ty tag m o ≡ Err (k, n) → m ≡ bad k n
   unfolding frame_past past_put
   past_bad ty tag (bad j i) o e = cc e
   past_bad ty tag (ok is r) o e = absurd (go (ltb (7 + length (items_bytes is)) limit) (leb (0 + length (frame_bytes ty tag is)) (length o)) e)

@@ -7,7 +7,7 @@ use Rattle.std.proofs.Math.Option.{Option, none, some}
 use Rattle.std.proofs.lemmas.Bool.{lt-leb}
 use Rattle.numbers.specs.Numbers.{Bytes}
 use Rattle.numbers.proofs.Numbers.{bytes_take}
-use Rattle.numbers.specs.Reading.{Result, ok, bad, after, raw, read_num}
+use Rattle.numbers.specs.Reading.{Reading, ok, bad, after, raw, read_num}
 use Rattle.numbers.specs.Refusals.{number_of}
 use Rattle.numbers.specs.Places.{Within}
 use Rattle.numbers.proofs.PlaceLaws.{inside, outside}
@@ -84,12 +84,12 @@ pub from_body : (rows : List Row) (ty at : ℕ) (s : List ℕ) {q : Place} {a : 
 unfolding body_from
 from_body rows ty at s e f = ap (used_since at) (f ∙ ap (read_body rows ty s) e)
 
-then_raised : {A B : Type 0} (p : ℕ) (m m' : Result A) (k k' : A → List ℕ → Result B) → m' ≡ raised p m → ((a : A) (r : List ℕ) → k' a r ≡ raised p (k a r)) → after m' k' ≡ raised p (after m k)
+then_raised : {A B : Type 0} (p : ℕ) (m m' : Reading A) (k k' : A → List ℕ → Reading B) → m' ≡ raised p m → ((a : A) (r : List ℕ) → k' a r ≡ raised p (k a r)) → after m' k' ≡ raised p (after m k)
 then_raised p (ok a r) m' k k' e f = rw e (f a r)
 then_raised p (bad j at) m' k k' e f = rw e
 
 -- a refusal without a place, or what comes after a test
-tested_raised : {A : Type 0} (p : ℕ) (t : Bool) (m m' : Result A) (k : Refusal) → raise_place p k 0 ≡ 0 → m' ≡ raised p m → cond t m' (bad k 0) ≡ raised p (cond t m (bad k 0))
+tested_raised : {A : Type 0} (p : ℕ) (t : Bool) (m m' : Reading A) (k : Refusal) → raise_place p k 0 ≡ 0 → m' ≡ raised p m → cond t m' (bad k 0) ≡ raised p (cond t m (bad k 0))
 tested_raised p true m m' k z e = e
 tested_raised p false m m' k z e = ap (bad k) (sym z)
 
@@ -205,7 +205,7 @@ places_raised (i ∷ is) p a =
 
 -- ---- bodies and frames
 
-items_raised : (ty p : ℕ) (m : Result (List Item)) → used_since p (items_at ty (p + 7) (raised p m)) ≡ raise p (items_at ty 7 m)
+items_raised : (ty p : ℕ) (m : Reading (List Item)) → used_since p (items_at ty (p + 7) (raised p m)) ≡ raise p (items_at ty 7 m)
 items_raised ty p (ok is r) = ap₂ (λ vs n. accepted ty vs n) (places_raised is p 7) (omega arith)
 items_raised ty p (bad k at) = refl
 

@@ -5,7 +5,7 @@ use Rattle.std.proofs.Math.Option.{some}
 use Rattle.std.proofs.lemmas.Bool.{lt-leb}
 use Rattle.numbers.specs.Numbers.{Bytes}
 use Rattle.numbers.proofs.Numbers.{bytes_take, bytes_drop}
-use Rattle.numbers.specs.Reading.{Result, ok, bad, after}
+use Rattle.numbers.specs.Reading.{Reading, ok, bad, after}
 use Rattle.numbers.proofs.ReadingLaws.{or_else, after_inv, cond_inv}
 use Rattle.numbers.specs.Places.{over}
 use Rattle.numbers.specs.declared.Refusal.TheVariants as R
@@ -121,7 +121,7 @@ laid o ty tag n is u =
     let l : 0 + length (frame_bytes ty tag is) ≡ n = (let f = frame_length ty tag is in omega arith) in
     ap (λ m. head_bytes (7 + length (items_bytes is)) ty tag ++ items_bytes is ++ drop m o) l ∙ ap (λ m. head_bytes m ty tag ++ items_bytes is ++ drop n o) (sym u)
 
-pub wrote : (m : Result (List Item)) (ty tag : ℕ) {n : ℕ} {o o' : List ℕ} → o' ≡ frame_out ty tag m o → Ok n ≡ frame_past ty tag m o → Wrote m ty tag o o' n
+pub wrote : (m : Reading (List Item)) (ty tag : ℕ) {n : ℕ} {o o' : List ℕ} → o' ≡ frame_out ty tag m o → Ok n ≡ frame_past ty tag m o → Wrote m ty tag o o' n
 unfolding frame_out frame_past
 wrote (bad k at) ty tag x y = absurd (let z : ◌≡◌ {A = ℕ} 0 1 = cc y in omega arith)
 wrote (ok is r) ty tag {n} {o} x y =

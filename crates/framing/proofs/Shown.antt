@@ -7,7 +7,7 @@ use Rattle.std.proofs.Math.Option.{some}
 use Rattle.std.proofs.Math.Seq.{take-length}
 use Rattle.numbers.specs.Numbers.{Bytes}
 use Rattle.numbers.proofs.Numbers.{bytes_split}
-use Rattle.numbers.specs.Reading.{Result, ok}
+use Rattle.numbers.specs.Reading.{Reading, ok}
 use Rattle.fields.specs.Layouts.{Item, kind}
 use Rattle.fields.specs.Values.{Value, shows}
 use Rattle.layouts.specs.Tables.{Row, lookup}
@@ -53,7 +53,7 @@ module _ (ts rs : List Row) where
   same_lines (grown {old = old} {new = new} f g ty used vs w a l e) x x' b c =
       let p = bytes_split f old b in
       let q = bytes_split g new c in
-      ap₂ (λ (r : Result (List Item)) (z : List Record). shown (type_in f) (tag_in f) r ∷ z) (same_shown f g p.0 q.0 w a l x x' old new)
+      ap₂ (λ (r : Reading (List Item)) (z : List Record). shown (type_in f) (tag_in f) r ∷ z) (same_shown f g p.0 q.0 w a l x x' old new)
       (ap₂ (λ (z : List ℕ) n. records_in ts rs z (new_lines n e)) (further x' g new) (on x' g) ∙ same_lines e (x ++ f) (x' ++ g) p.1 q.1
       ∙ sym (ap₂ (λ (z : List ℕ) n. records_in ts rs z (old_lines n e)) (further x f old) (on x f)))
   same_lines (added {new = new} f s e) x x' b c =

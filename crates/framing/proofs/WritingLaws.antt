@@ -10,7 +10,7 @@ use Rattle.std.proofs.Math.ListN.{length}
 use borrow.Author.Tests.{le-leb, lt-leb, lt-ltb, le-ltb}
 use Rattle.numbers.specs.Numbers.{to_le}
 use Rattle.numbers.proofs.Numbers.{length_to_le}
-use Rattle.numbers.specs.Reading.{Result, ok, bad}
+use Rattle.numbers.specs.Reading.{Reading, ok, bad}
 use Rattle.numbers.proofs.ReadingLaws.{or_else}
 use Rattle.numbers.specs.Places.{over, put_at, past_put, Put}
 use Rattle.numbers.proofs.PlaceLaws.{put_then, length_over}
@@ -82,7 +82,7 @@ unfolding frame_bytes
 whole_frame o ty tag is h = sym (put_fits (frame_bytes ty tag is) o 0 h)
 
 module _ {fs : Layout} {ty tag : ℕ} {lent : List ℕ} {vs : List Value} {o o1 o2 : List ℕ} {e q : Place} (w : Written fs lent vs o (Ok 7) o1 e) (h : HeadPut ty tag e o1 o2 q) where
-  nothing : (k : Refusal) (at : ℕ) → e ≡ Err (k, at) → o1 ≡ o → (m : Result (List Item)) → shows fs lent vs ≡ m → o ≡ frame_out ty tag m o → Err (k, at) ≡ frame_past ty tag m o → FrameWritten fs ty tag lent vs o o2 q
+  nothing : (k : Refusal) (at : ℕ) → e ≡ Err (k, at) → o1 ≡ o → (m : Reading (List Item)) → shows fs lent vs ≡ m → o ≡ frame_out ty tag m o → Err (k, at) ≡ frame_past ty tag m o → FrameWritten fs ty tag lent vs o o2 q
   nothing k at f g m s x y = record {
     bytes = h.bytes ∙ ap (λ z. head_out ty tag z o1) f ∙ g ∙ x ∙ ap (λ z. frame_out ty tag z o) (sym s);
     next = h.next ∙ ap (λ z. head_past z o1) f ∙ y ∙ ap (λ z. frame_past ty tag z o) (sym s);
@@ -112,7 +112,7 @@ module _ {fs : Layout} {ty tag : ℕ} {lent : List ℕ} {vs : List Value} {o o1 
   unfolding frame_out frame_past
   frame_written = go (shows fs lent vs) refl w.bytes w.next
     where
-      go : (m : Result (List Item)) → shows fs lent vs ≡ m → o1 ≡ written_out (shows fs lent vs) o (Ok 7) → e ≡ written_past (shows fs lent vs) o (Ok 7) → FrameWritten fs ty tag lent vs o o2 q
+      go : (m : Reading (List Item)) → shows fs lent vs ≡ m → o1 ≡ written_out (shows fs lent vs) o (Ok 7) → e ≡ written_past (shows fs lent vs) o (Ok 7) → FrameWritten fs ty tag lent vs o o2 q
       go (bad k at) s x y = nothing k at (rw s at y) (rw s at x) (bad k at) s refl refl
       go (ok is r) s x y =
           let bs : List ℕ = items_bytes is in

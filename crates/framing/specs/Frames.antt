@@ -1,6 +1,6 @@
 -- Reading one frame (F4), over any table of types. A frame is a header and a body (F1.2).
 use Rattle.std.specs.Prelude.{ℕ, ◌-◌, cond, List, take, ltb}
-use Rattle.numbers.specs.Reading.{Result, ok, bad, after, read_num}
+use Rattle.numbers.specs.Reading.{Reading, ok, bad, after, read_num}
 use Rattle.numbers.specs.declared.Refusal.{Refusal}
 use Rattle.numbers.specs.declared.Refusal.TheVariants as R
 use Rattle.layouts.specs.Tables.{Row, lookup}
@@ -10,11 +10,11 @@ pub record Header : Type 0 where
   pub ty : ℕ
   pub tag : ℕ
 
-unfoldable pub read_type_tag : List ℕ → Result Header
+unfoldable pub read_type_tag : List ℕ → Reading Header
 read_type_tag b = after (read_num 1 b) (λ ty c. after (read_num 2 c) (λ tag d. ok (record { ty = ty; tag = tag }) d))
 
 -- size, not below 4, type, tag (F4.2), of the first size bytes as far as they are held (F4.1); the rest is the body
-unfoldable pub read_header : List ℕ → Result Header
+unfoldable pub read_header : List ℕ → Reading Header
 read_header s =
     after (read_num 4 s) (λ size r. cond (ltb size 4) (bad R.SizeBelowFour 0) (read_type_tag (take (size - 4) r)))
 
@@ -24,7 +24,7 @@ pub data Frame : Type 0 where
   framed : ℕ → ℕ → Answer → Frame
 
 -- the body by its type (F4.2). A single frame has position 0, and its spans count from its first byte, so the body begins at 7 (F4.16)
-abbrev pub frame_of : List Row → Result Header → Frame
+abbrev pub frame_of : List Row → Reading Header → Frame
 frame_of rows (bad k at) = headless k at
 frame_of rows (ok h d) = framed 0 h.tag (body_of (lookup rows h.ty) h.ty 7 d)
 

@@ -1,6 +1,6 @@
 -- Demand 3, of one frame and over any table: what is written reads back.
 use Rattle.std.specs.Prelude.{ℕ, suc, ◌+◌, ◌^◌, ◌<◌, ◌≡◌, List, [], ◌∷◌, ◌++◌, length, drop}
-use Rattle.numbers.specs.Reading.{Result, ok, after}
+use Rattle.numbers.specs.Reading.{Reading, ok, after}
 use Rattle.fields.specs.Layouts.{Shape, fixed, worded, Field, num, str, dat, strs, quids, boxed, Layout, Item, most, items_bytes}
 use Rattle.fields.specs.Values.{Slot, slot_num, first_slot, other_slots, slots_of, Value, num_of, len_of, first_of, others_of, shows}
 use Rattle.laying.specs.Laying.{limit}
@@ -33,7 +33,7 @@ Readable (f ∷ fs) vs = FitsField f (first_of vs) × Readable fs (others_of vs)
 -- ---- the frame
 
 -- what is known of a frame that was written of some items
-pub record Wrote (m : Result (List Item)) (ty tag : ℕ) (o o' : List ℕ) (n : ℕ) : Type 0 where
+pub record Wrote (m : Reading (List Item)) (ty tag : ℕ) (o o' : List ℕ) (n : ℕ) : Type 0 where
   pub items : List Item
   pub left : List ℕ
   pub shown : m ≡ ok items left

@@ -2,7 +2,7 @@
 use Rattle.std.specs.Prelude.{ℕ}
 use mathlib.Core.List.{List, [], ◌∷◌}
 use Rattle.std.proofs.Math.Option.{Option, none, some}
-use Rattle.numbers.specs.Reading.{Result}
+use Rattle.numbers.specs.Reading.{Reading}
 use Rattle.fields.specs.Layouts.{Layout, Item}
 use Rattle.fields.specs.Values.{shows}
 use Rattle.layouts.specs.Tables.{Row, lookup}
@@ -11,7 +11,7 @@ use Rattle.framing.specs.Stretch.{table_for, Listing, entry, ends, stops}
 
 -- what a sound frame shows, wherever it stands and whatever its tail: its type, its tag, and the numbers and bytes of its fields
 pub data Record : Type 0 where
-  shown : ℕ → ℕ → Result (List Item) → Record
+  shown : ℕ → ℕ → Reading (List Item) → Record
 
 -- the fields of a type; one that is unknown has none
 abbrev pub fields_of : Option Layout → Layout

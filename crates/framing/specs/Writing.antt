@@ -2,7 +2,7 @@
 use Rattle.numbers.specs.Place.{Place}
 use Rattle.std.specs.Prelude.{ℕ, ◌+◌, ◌≡◌, cond, List, ◌++◌, length, leb, ltb, Ok, Err}
 use Rattle.numbers.specs.Numbers.{to_le}
-use Rattle.numbers.specs.Reading.{Result, ok, bad}
+use Rattle.numbers.specs.Reading.{Reading, ok, bad}
 use Rattle.numbers.specs.Places.{put_at, past_put}
 use Rattle.numbers.specs.declared.Refusal.TheVariants as R
 use Rattle.fields.specs.Layouts.{Layout, Item, items_bytes}
@@ -17,11 +17,11 @@ head_bytes size ty tag = to_le 4 size ++ to_le 1 ty ++ to_le 2 tag
 unfoldable pub frame_bytes : ℕ → ℕ → List Item → List ℕ
 frame_bytes ty tag is = head_bytes (7 + length (items_bytes is)) ty tag ++ items_bytes is
 
-unfoldable pub frame_out : ℕ → ℕ → Result (List Item) → List ℕ → List ℕ
+unfoldable pub frame_out : ℕ → ℕ → Reading (List Item) → List ℕ → List ℕ
 frame_out ty tag (bad k at) o = o
 frame_out ty tag (ok is r) o = cond (ltb (7 + length (items_bytes is)) limit) (put_at (frame_bytes ty tag is) o (Ok 0)) o
 
-unfoldable pub frame_past : ℕ → ℕ → Result (List Item) → List ℕ → Place
+unfoldable pub frame_past : ℕ → ℕ → Reading (List Item) → List ℕ → Place
 frame_past ty tag (bad k at) o = Err (k, at)
 frame_past ty tag (ok is r) o = cond (ltb (7 + length (items_bytes is)) limit) (past_put (frame_bytes ty tag is) o (Ok 0)) (Err (R.FrameTooLong, 0))
 

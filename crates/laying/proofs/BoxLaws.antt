@@ -5,7 +5,7 @@ use Rattle.std.proofs.Common.{arith, sym, ap, ap₂, ◌∙◌, length-append, l
 use Rattle.std.proofs.lemmas.Bool.{lt-leb}
 use Rattle.numbers.specs.Numbers.{to_le}
 use Rattle.numbers.proofs.Numbers.{length_to_le}
-use Rattle.numbers.specs.Reading.{Result, ok, bad, after}
+use Rattle.numbers.specs.Reading.{Reading, ok, bad, after}
 use Rattle.numbers.proofs.ReadingLaws.{after_inv}
 use Rattle.numbers.specs.Places.{put_at, Put}
 use Rattle.numbers.proofs.PlaceLaws.{length_put}
@@ -21,7 +21,7 @@ use Rattle.laying.proofs.LayingLaws.{cells_size_lem}
 use Rattle.laying.proofs.WritingLaws.{check_passed, stays, failed}
 use Rattle.laying.specs.BoxLaws.{value_of}
 
-abbrev items_of : Result (List Cell) → Result (List Item)
+abbrev items_of : Reading (List Cell) → Reading (List Item)
 items_of m = after m (λ cs r. ok (map item_of cs) r)
 
 one_shown : (f : Shape) (lent : List ℕ) (v : Slot) → show (plain_of f) lent (value_of v) ≡ after (show_cell f lent v) (λ c r. ok (item_of c) r)
@@ -30,7 +30,7 @@ one_shown (fixed w) lent (slot n) = refl
 one_shown (fixed w) lent (text x y) = refl
 one_shown worded lent v = from v
   where
-    go : (m : Result (List ℕ)) → after m (λ bs r. ok (string bs) r) ≡ after (after m (λ bs r. ok (words bs) r)) (λ c r. ok (item_of c) r)
+    go : (m : Reading (List ℕ)) → after m (λ bs r. ok (string bs) r) ≡ after (after m (λ bs r. ok (words bs) r)) (λ c r. ok (item_of c) r)
     go (ok bs r) = refl
     go (bad k at) = refl
 
@@ -50,11 +50,11 @@ plain_shown : (fs : List Shape) (lent : List ℕ) (vs : List Slot) → shows (ma
 unfolding shows show_cells
 plain_shown [] lent vs = refl
 plain_shown (f ∷ fs) lent vs =
-    ap₂ (λ m (n : Result (List Item)). after m (λ i r. after n (λ is s. ok (i ∷ is) s))) (ap (show (plain_of f) lent) (first_value vs) ∙ one_shown f lent (first_slot vs))
+    ap₂ (λ m (n : Reading (List Item)). after m (λ i r. after n (λ is s. ok (i ∷ is) s))) (ap (show (plain_of f) lent) (first_value vs) ∙ one_shown f lent (first_slot vs))
     (ap (shows (map plain_of fs) lent) (other_values vs) ∙ plain_shown fs lent (other_slots vs))
     ∙ go (show_cell f lent (first_slot vs)) (show_cells fs lent (other_slots vs))
   where
-    go : (m : Result Cell) (n : Result (List Cell)) → after (after m (λ c r. ok (item_of c) r)) (λ i r. after (items_of n) (λ is s. ok (i ∷ is) s)) ≡ items_of (after m (λ c r. after n (λ cs s. ok (c ∷ cs) s)))
+    go : (m : Reading Cell) (n : Reading (List Cell)) → after (after m (λ c r. ok (item_of c) r)) (λ i r. after (items_of n) (λ is s. ok (i ∷ is) s)) ≡ items_of (after m (λ c r. after n (λ cs s. ok (c ∷ cs) s)))
     go (bad k at) n = refl
     go (ok c r) (bad k at) = refl
     go (ok c r) (ok cs s) = refl
@@ -87,7 +87,7 @@ box_length : (cs : List Cell) → length (item_bytes (box cs)) ≡ 4 + length (c
 unfolding item_bytes
 box_length cs = simp (length-append, length_to_le) (omega arith)
 
-abbrev box_of : Result (List Cell) → Result Item
+abbrev box_of : Reading (List Cell) → Reading Item
 box_of m = after m (λ cs r. cond (leb (2 + length (cells_bytes cs)) 65535) (ok (box cs) r) (bad R.StatMalformed 0))
 
 -- after its count and its size the fields, then whether it may be counted
@@ -104,7 +104,7 @@ box_measured {fs} {lent} {vs} {p} x y z = record {
     told n cs r true = ap (λ m. Ok (min (n + m) limit)) (sym (box_length cs))
     told n cs r false = refl
 
-    shown : (n : ℕ) (m : Result (List Cell)) → show_cells fs lent vs ≡ m
+    shown : (n : ℕ) (m : Reading (List Cell)) → show_cells fs lent vs ≡ m
         → countable_at (2 + cells_size fs vs) (check_fields (map plain_of fs) lent (map value_of vs) (advance 4 (Ok n))) ≡ advance (shown_size (box_of m)) (check_at (box_of m) (Ok n))
     shown n (bad k at) e = rw (failed (map plain_of fs) lent (map value_of vs) (min (n + 4) limit) (plain_shown fs lent vs ∙ ap items_of e))
     shown n (ok cs r) e =

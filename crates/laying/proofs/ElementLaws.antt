@@ -1,17 +1,18 @@
 -- What holds of the definitions in specs/ElementLaws.antt.
 use Rattle.numbers.specs.Place.{Place}
-use Rattle.std.specs.Prelude.{ℕ, zero, suc, ◌+◌, ◌-◌, ◌*◌, ◌≤◌, ◌<◌, ◌≡◌, refl, List, [], ◌∷◌, ◌++◌, length, take, drop, get_or, ltb, eqb, Ok, Err}
+use Rattle.std.specs.Prelude.{ℕ, zero, suc, ◌+◌, ◌*◌, ◌≤◌, ◌<◌, ◌≡◌, refl, List, [], ◌∷◌, ◌++◌, length, take, drop, get_or, ltb, eqb, Result, Ok, Err}
 use Rattle.std.proofs.Common.{arith, ap, ap₂, ◌∙◌, append_assoc, append-nil, length-append, drop-drop, length-take-le}
 use Rattle.std.proofs.Math.Path.{sym}
 use Rattle.std.proofs.Math.Seq.{drop-append_seam}
 use borrow.Author.Tests.{lt-ltb, le-ltb, ltb-true, eqb-true}
 use Rattle.numbers.specs.Numbers.{Bytes}
 use Rattle.numbers.proofs.Numbers.{bytes_take, bytes_drop}
-use Rattle.numbers.specs.Reading.{Result, ok, bad, after}
+use Rattle.numbers.specs.Reading.{Reading, ok, bad, after}
 use Rattle.numbers.proofs.ReadingLaws.{after_inv, cond_inv}
 use Rattle.numbers.specs.Places.{read_from}
-use Rattle.numbers.proofs.PlaceLaws.{one_answer}
-use Rattle.numbers.specs.declared.Refusal.{Refusal}
+use Rattle.numbers.proofs.PlaceLaws.{one_answer, refused_one}
+use Rattle.numbers.specs.declared.Fault.{Fault}
+use Rattle.strings.specs.declared.Span.{Span}
 use Rattle.numbers.specs.declared.Refusal.TheVariants as R
 use Rattle.strings.specs.Strings.{read_string, string_bytes, GoodText}
 use Rattle.strings.proofs.StringLaws.{reads_string}
@@ -24,36 +25,34 @@ use Rattle.fields.specs.Values.{Value, span, part, start_of, len_of, count_of, s
 use Rattle.fields.specs.Fields.{ManyRead}
 use Rattle.laying.specs.Laying.{PartCheck, ShowCheck}
 use Rattle.laying.specs.Elements.{element_in, asked_for, element_at, view_element, ElementAsked}
-use Rattle.laying.specs.declared.elements.Element.{Element as Answer}
-use Rattle.laying.specs.declared.elements.Element.TheVariants as E
 use Rattle.laying.specs.ElementLaws.{Element, Qid}
 
 -- ---- one answer
 
-pub element_one : {m : Result Value} (r r' : Answer) → view_element r ≡ m → view_element r' ≡ m → r ≡ r'
+pub element_one : {m : Reading Value} (r r' : Result Span Fault) → view_element r ≡ m → view_element r' ≡ m → r ≡ r'
 unfolding view_element
-element_one (E.Found s) (E.Found t) e f =
+element_one (Ok s) (Ok t) e f =
     let g = one_answer e f in
     let h : span s.start s.len ≡ span t.start t.len = cc g in
-    ap E.Found (ap₂ (λ x y. record { start = x; len = y }) (ap start_of h) (ap len_of h))
-element_one (E.Refused k at) (E.Refused j b) e f =
+    ap Ok (ap₂ {C = Span} (λ x y. record { start = x; len = y }) (ap start_of h) (ap len_of h))
+element_one (Err w) (Err u) e f =
     let g = one_answer e f in
-    let h : k ≡ j = cc g in
-    let i : at ≡ b = cc g in
-    ap₂ E.Refused h i
-element_one (E.Found s) (E.Refused k at) e f = absurd (let g = one_answer e f in let z : ◌≡◌ {A = ℕ} 0 1 = cc g in omega arith)
-element_one (E.Refused k at) (E.Found s) e f = absurd (let g = one_answer e f in let z : ◌≡◌ {A = ℕ} 0 1 = cc g in omega arith)
+    let h : w.0 ≡ u.0 = cc g in
+    let i : w.1 ≡ u.1 = cc g in
+    ap Err (ap₂ {C = Fault} (λ k n. (k, n)) h i)
+element_one (Ok s) (Err w) e f = absurd (let g = one_answer e f in let z : ◌≡◌ {A = ℕ} 0 1 = cc g in omega arith)
+element_one (Err w) (Ok s) e f = absurd (let g = one_answer e f in let z : ◌≡◌ {A = ℕ} 0 1 = cc g in omega arith)
 
 -- ---- 17, then 9, then 15
 
 module _ {lent : List ℕ} {c x y i : ℕ} {q : Place} where
-  pub asked_outside : {k : Refusal} {at : ℕ} → PartCheck lent c x y (Ok 0) q → q ≡ Err (k, at) → ElementAsked lent (part c x y) i q
+  pub asked_outside : {f : Fault} → PartCheck lent c x y (Ok 0) q → q ≡ Err f → ElementAsked lent (part c x y) i (Err f)
   unfolding asked_for
-  asked_outside s e = record { is = e ∙ sym (first_refuses (show_part lent c x y) _ (Ok 0) (sym s.is ∙ e)) }
+  asked_outside s e = record { is = sym (first_refuses (show_part lent c x y) _ (Ok 0) (sym s.is ∙ e)) }
 
-  pub asked_below : {a : ℕ} → PartCheck lent c x y (Ok 0) q → q ≡ Ok a → i < c → ElementAsked lent (part c x y) i q
+  pub asked_below : {a : ℕ} → PartCheck lent c x y (Ok 0) q → q ≡ Ok a → i < c → ElementAsked lent (part c x y) i (Ok a)
   unfolding asked_for
-  asked_below s e h = let p = part_passed s e in record { is = e ∙ sym p.place ∙ rw (p.shows, lt-ltb i c h) }
+  asked_below s e h = let p = part_passed s e in record { is = sym p.place ∙ rw (p.shows, lt-ltb i c h) }
 
   pub asked_past : {a : ℕ} → PartCheck lent c x y (Ok 0) q → q ≡ Ok a → c ≤ i → ElementAsked lent (part c x y) i (Err (R.NoSuchElement, 0))
   unfolding asked_for
@@ -61,14 +60,14 @@ module _ {lent : List ℕ} {c x y i : ℕ} {q : Place} where
 
 -- ---- any vector
 
-pub element_refused : {f : Field} {lent : List ℕ} {v : Value} {i : ℕ} {p q : Place} {k : Refusal} {at : ℕ} → ElementAsked lent v i p → ShowCheck f lent v p q → q ≡ Err (k, at)
-    → bad k at ≡ element_at f lent v i
+pub element_refused : {f : Field} {lent : List ℕ} {v : Value} {i : ℕ} {p q : Place} {e : Fault} → ElementAsked lent v i p → ShowCheck f lent v p q → q ≡ Err e
+    → bad e.0 e.1 ≡ element_at f lent v i
 unfolding element_at
-element_refused {f} {lent} {v} {i} {p} {q} {k} {at} a s e = go (asked_for lent v i) (show f lent v) (sym e ∙ s.is ∙ ap (check_at (show f lent v)) a.is)
+element_refused {f} {lent} {v} {i} {p} {q} {e} a s h = go (asked_for lent v i) (show f lent v) (sym (sym h ∙ s.is ∙ ap (check_at (show f lent v)) a.is))
   where
-    go : (m : Result (List ℕ)) (w : Result Item) → Err (k, at) ≡ check_at w (check_at m (Ok 0)) → bad k at ≡ after m (λ bs r. after w (λ it t. ok (element_in (start_of v) i it) []))
-    go (bad j b) w d = let g : k ≡ j = cc d in let h : at ≡ b = cc d in ap₂ bad g h
-    go (ok bs r) (bad j b) d = let g : k ≡ j = cc d in let h : at ≡ b = cc d in ap₂ bad g h
+    go : (m : Reading (List ℕ)) (w : Reading Item) → check_at w (check_at m (Ok 0)) ≡ Err e → bad e.0 e.1 ≡ after m (λ bs r. after w (λ it t. ok (element_in (start_of v) i it) []))
+    go (bad j b) w d = let g = refused_one d in ap₂ bad (sym g.0) (sym g.1)
+    go (ok bs r) (bad j b) d = let g = refused_one d in ap₂ bad (sym g.0) (sym g.1)
     go (ok bs r) (ok it t) d = absurd (let z : ◌≡◌ {A = ℕ} 0 1 = cc d in omega arith)
 
 pub asked_inv : (lent : List ℕ) (v : Value) (i : ℕ) {bs r : List ℕ} → asked_for lent v i ≡ ok bs r → i < count_of v

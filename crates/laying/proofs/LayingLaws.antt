@@ -5,7 +5,7 @@ use Rattle.std.proofs.Common.{arith, sym, ap, ap₂, ◌∙◌, append-nil, leng
 use Rattle.std.proofs.Math.Seq.{take-nil}
 use Rattle.numbers.specs.Numbers.{Bytes, to_le}
 use Rattle.numbers.proofs.Numbers.{length_to_le, bytes_take, bytes_drop}
-use Rattle.numbers.specs.Reading.{Result, ok, bad}
+use Rattle.numbers.specs.Reading.{Reading, ok, bad}
 use Rattle.numbers.proofs.ReadingLaws.{after_inv, cond_inv}
 use Rattle.numbers.specs.Places.{put_at, past_put, Put}
 use Rattle.numbers.proofs.PlaceLaws.{put_then, put_length}
@@ -13,7 +13,7 @@ use Rattle.numbers.specs.declared.Refusal.TheVariants as R
 use Rattle.strings.specs.Strings.{string_bytes}
 use Rattle.strings.specs.Spans.{show_span, show_string, SpanPut}
 use Rattle.strings.proofs.SpanLaws.{check_inv, shown_in, shown_length, span_inv, string_inv, passing}
-use Rattle.fields.specs.Layouts.{Shape, fixed, worded, Field, num, str, dat, strs, quids, boxed, Layout, q, Cell, amount, words, Item, number, string, bytes, strings, qids, box, read_many, many_bytes, cell_bytes, cells_bytes, item_bytes, items_bytes}
+use Rattle.fields.specs.Layouts.{Shape, fixed, worded, Field, num, str, dat, strs, quids, boxed, Layout, Cell, amount, words, Item, number, string, bytes, strings, qids, box, read_many, many_bytes, cell_bytes, cells_bytes, item_bytes, items_bytes}
 use Rattle.fields.proofs.LayoutLaws.{took_many}
 use Rattle.fields.specs.Values.{Slot, slot_num, slot_start, slot_len, first_slot, other_slots, slots_of, show_cell, show_cells, Value, val, num_of, start_of, len_of, count_of, show_part, whole_part, show, first_of, others_of, shows}
 use Rattle.laying.specs.Laying.{advance, check_field, check_fields, head_width, head_of, counted_field, past_counted, cell_size, cells_size, put_cell, past_put_cell, put_cells, past_put_cells, with_sizes, sized, put_field, past_put_field, put_fields, past_put_fields, FieldMeasured, Measured, PutAll, Advanced, PartCheck}
@@ -111,7 +111,7 @@ part_passed {lent} {n} {x} {y} {a} {p} c e =
 pub part_lies : {lent : List ℕ} {n x y a : ℕ} {p q : Place} → PartCheck lent n x y p q → q ≡ Ok a → x + y ≤ length lent
 part_lies c e = (part_passed c e).lies
 
-pub whole_inv : {A X : Type 0} (m : Result A) {a : A} {r : List ℕ} → whole_part m ≡ ok a r → (m ≡ ok a [] → X) → X
+pub whole_inv : {A X : Type 0} (m : Reading A) {a : A} {r : List ℕ} → whole_part m ≡ ok a r → (m ≡ ok a [] → X) → X
 whole_inv (ok a []) {a = b} e f = f (let g : a ≡ b = cc e in ap (λ x. ok x []) g)
 whole_inv (ok a (x ∷ r)) e f = absurd (let z : ◌≡◌ {A = ℕ} 0 1 = cc e in omega arith)
 whole_inv (bad k at) e f = absurd (let z : ◌≡◌ {A = ℕ} 0 1 = cc e in omega arith)

@@ -10,9 +10,10 @@ use lib.Seq.{length-take-le}
 use borrow.Author.Tests.{eq-eqb, ne_eqb, lt-ltb, le-ltb, le-leb, lt-leb}
 use Rattle.numbers.specs.Numbers.{Bytes, to_le}
 use Rattle.numbers.proofs.Numbers.{length_to_le, bytes_take, bytes_drop}
-use Rattle.numbers.specs.Reading.{Result, ok, bad, after}
+use Rattle.numbers.specs.Reading.{Reading, ok, bad, after}
 use Rattle.numbers.proofs.ReadingLaws.{or_else}
 use Rattle.numbers.specs.Places.{rest_at}
+use Rattle.numbers.specs.declared.Fault.{Fault}
 use Rattle.numbers.specs.declared.Refusal.{Refusal}
 use Rattle.numbers.specs.declared.Refusal.TheVariants as R
 use Rattle.strings.specs.Spans.{show_span, show_string, check_at, SpanCheck, StrCheck}
@@ -49,7 +50,7 @@ check_measured {f} {lent} {v} {p} {q} z c x y = record {
   is = y.is ∙ ap (advance (len_of v)) x.is ∙ advance_twice (head_width f) (len_of v) q ∙ ap (advance (head_width f + len_of v)) c.is ∙ go (show f lent v) refl p;
 }
   where
-    go : (m : Result Item) → show f lent v ≡ m → (p' : Place) → advance (head_width f + len_of v) (check_at m p') ≡ advance (shown_size m) (check_at m p')
+    go : (m : Reading Item) → show f lent v ≡ m → (p' : Place) → advance (head_width f + len_of v) (check_at m p') ≡ advance (shown_size m) (check_at m p')
     go m e (Err f) = refl
     go (ok i s) e (Ok n) = ap (λ k. Ok (min (n + k) limit)) (sym (z.is i s e))
     go (bad k at) e (Ok n) = refl
@@ -64,7 +65,7 @@ sized {f} {lent} {v} u b = record {
 
 -- ---- the checks
 
-checked_map : {A B : Type 0} (f : A → B) (m : Result A) (p : Place) → check_at m p ≡ check_at (after m (λ x r. ok (f x) r)) p
+checked_map : {A B : Type 0} (f : A → B) (m : Reading A) (p : Place) → check_at m p ≡ check_at (after m (λ x r. ok (f x) r)) p
 checked_map f m (Err e) = refl
 checked_map f (ok x r) (Ok n) = refl
 checked_map f (bad k at) (Ok n) = refl
@@ -78,24 +79,24 @@ module _ {lent : List ℕ} {x y : ℕ} {p q : Place} where
   unfolding show
   dat_check c = record { is = c.is ∙ checked_map bytes (show_span lent x y) p }
 
-  pub quids_outside : {n : ℕ} {k : Refusal} {at : ℕ} → PartCheck lent n x y p q → q ≡ Err (k, at) → ShowCheck quids lent (part n x y) p q
+  pub quids_outside : {n : ℕ} {f : Fault} → PartCheck lent n x y p q → q ≡ Err f → ShowCheck quids lent (part n x y) p (Err f)
   unfolding show
-  quids_outside {n} c e = record { is = e ∙ sym (first_refuses (show_part lent n x y) _ p (sym c.is ∙ e)) }
+  quids_outside {n} c e = record { is = sym (first_refuses (show_part lent n x y) _ p (sym c.is ∙ e)) }
 
-  pub quids_fine : {n a : ℕ} → PartCheck lent n x y p q → q ≡ Ok a → y ≡ 13 * n → ShowCheck quids lent (part n x y) p q
+  pub quids_fine : {n a : ℕ} → PartCheck lent n x y p q → q ≡ Ok a → y ≡ 13 * n → ShowCheck quids lent (part n x y) p (Ok a)
   unfolding show
-  quids_fine {n} c e h = let k = part_passed c e in record { is = e ∙ rw (k.place, k.shows, eq-eqb y (13 * n) h) }
+  quids_fine {n} c e h = let k = part_passed c e in record { is = rw (k.place, k.shows, eq-eqb y (13 * n) h) }
 
   pub quids_malformed : {n a : ℕ} → PartCheck lent n x y p q → q ≡ Ok a → (y ≡ 13 * n → ⊥) → ShowCheck quids lent (part n x y) p (Err (R.PartMalformed, 0))
   unfolding show
   quids_malformed {n} c e h = let k = part_passed c e in record { is = rw (k.place, k.shows, ne_eqb y (13 * n) h) }
 
-  pub strs_outside : {n : ℕ} {k : Refusal} {at : ℕ} → PartCheck lent n x y p q → q ≡ Err (k, at) → ShowCheck strs lent (part n x y) p q
+  pub strs_outside : {n : ℕ} {f : Fault} → PartCheck lent n x y p q → q ≡ Err f → ShowCheck strs lent (part n x y) p (Err f)
   unfolding show
-  strs_outside {n} c e = record { is = e ∙ sym (first_refuses (show_part lent n x y) _ p (sym c.is ∙ e)) }
+  strs_outside {n} c e = record { is = sym (first_refuses (show_part lent n x y) _ p (sym c.is ∙ e)) }
 
 -- the scan's end tells whether the strings fill the part
-fills : (n a x stop : ℕ) (bs : List ℕ) → length bs ≤ stop → Bytes bs → (m : Result (List (List ℕ))) → read_many n x bs ≡ m
+fills : (n a x stop : ℕ) (bs : List ℕ) → length bs ≤ stop → Bytes bs → (m : Reading (List (List ℕ))) → read_many n x bs ≡ m
     → filled_at (rest_at stop m) stop (Ok a) ≡ check_at (after (whole_part m) (λ l s. ok (strings l) s)) (Ok a)
 fills n a x stop bs g b (bad k at) e = refl
 fills n a x stop bs g b (ok l []) e = rw (eq-eqb (stop - 0) stop (omega arith))
@@ -104,7 +105,7 @@ fills n a x stop bs g b (ok l (y ∷ r)) e =
     let h : length bs ≡ length (many_bytes l) + suc (length r) = ap length t.whole ∙ length-append (many_bytes l) (y ∷ r) in
     rw (ne_eqb (stop - suc (length r)) stop (λ z. omega arith))
 
-pub strs_scanned : {lent : List ℕ} {n x y a : ℕ} {p q e r : Place} → Bytes lent → PartCheck lent n x y p q → q ≡ Ok a → ManyRead n (take (x + y) lent) x e → Filled e (x + y) q r
+pub strs_scanned : {lent : List ℕ} {n x y a : ℕ} {p q e r : Place} → Bytes lent → PartCheck lent n x y p q → q ≡ Ok a → ManyRead n (take (x + y) lent) x e → Filled e (x + y) (Ok a) r
     → ShowCheck strs lent (part n x y) p r
 unfolding show
 strs_scanned {lent} {n} {x} {y} {a} b c h m f =
@@ -112,14 +113,14 @@ strs_scanned {lent} {n} {x} {y} {a} b c h m f =
     let i : drop x (take (x + y) lent) ≡ take y (drop x lent) = drop_take x y lent in
     let l : length (take (x + y) lent) ≡ x + y = length-take-le (x + y) lent k.lies in
     let z = shown_length lent x y k.lies in
-    let g = rw (m.next, h, l, i) at f.is in
+    let g = rw (m.next, l, i) at f.is in
     record { is = g ∙ fills n a x (x + y) (take y (drop x lent)) (omega arith) (bytes_take y (drop x lent) (bytes_drop x lent b)) (read_many n x (take y (drop x lent))) refl ∙ rw (k.place, k.shows) }
 
 -- the count's check and the span's are the part's
 pub part_check : {lent : List ℕ} {n x y : ℕ} {p q r : Place} → CountCheck n p q → SpanCheck lent x y q r → PartCheck lent n x y p r
 part_check {lent} {n} {x} {y} {p} c s = record { is = s.is ∙ ap (check_at (show_span lent x y)) c.is ∙ go }
   where
-    stays : (k : Refusal) (m : Result (List ℕ)) (z : Place) → check_at m (check_at {A = ℕ} (bad k 0) z) ≡ check_at {A = List ℕ} (bad k 0) z
+    stays : (k : Refusal) (m : Reading (List ℕ)) (z : Place) → check_at m (check_at {A = ℕ} (bad k 0) z) ≡ check_at {A = List ℕ} (bad k 0) z
     stays k m (Ok a) = refl
     stays k m (Err f) = refl
 

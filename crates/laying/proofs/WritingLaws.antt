@@ -5,7 +5,7 @@ use Rattle.std.proofs.Common.{arith, sym, ap, ◌∙◌, length-append}
 use Rattle.std.proofs.Math.ListN.{length}
 use borrow.Author.Tests.{le-leb, lt-leb, lt-ltb, le-ltb}
 use Rattle.numbers.specs.Numbers.{Bytes, to_le}
-use Rattle.numbers.specs.Reading.{Result, ok, bad, after}
+use Rattle.numbers.specs.Reading.{Reading, ok, bad, after}
 use Rattle.numbers.proofs.ReadingLaws.{or_else, after_inv}
 use Rattle.numbers.specs.Places.{put_at, past_put, Put}
 use Rattle.numbers.proofs.PlaceLaws.{one_answer, length_put}
@@ -70,7 +70,7 @@ unfolding shows check_fields
 failed [] lent vs a e = absurd (let z : ◌≡◌ {A = ℕ} 0 1 = cc e in omega arith)
 failed (f ∷ fs) lent vs a {k} {at} e = go (show f lent (first_of vs)) refl e (λ n c. failed fs lent (others_of vs) n c)
   where
-    go : (m : Result Item) → show f lent (first_of vs) ≡ m → after m (λ i r. after (shows fs lent (others_of vs)) (λ is u. ok (i ∷ is) u)) ≡ bad k at
+    go : (m : Reading Item) → show f lent (first_of vs) ≡ m → after m (λ i r. after (shows fs lent (others_of vs)) (λ is u. ok (i ∷ is) u)) ≡ bad k at
         → ((n : ℕ) → shows fs lent (others_of vs) ≡ bad k at → check_fields fs lent (others_of vs) (Ok n) ≡ Err (k, at))
         → check_fields fs lent (others_of vs) (check_field f lent (first_of vs) (Ok a)) ≡ Err (k, at)
     go (ok i t) d c ih = rw (check_passed f lent (first_of vs) a d) (ih (min (a + length (item_bytes i)) limit) (others_bad i (shows fs lent (others_of vs)) c))
@@ -113,7 +113,7 @@ written_not : {fs : Layout} {lent o : List ℕ} {vs : List Value} {p e q : Place
     → Written fs lent vs o p o q
 written_not {fs} {lent} {o} {vs} {p} {e} {q} {k} {i} c s h = go p (s.is ∙ ap (λ x. settled_at x (length o)) c.is)
   where
-    at : (a : ℕ) → q ≡ settled_at (check_fields fs lent vs (Ok a)) (length o) → (m : Result (List Item)) → shows fs lent vs ≡ m → Written fs lent vs o (Ok a) o q
+    at : (a : ℕ) → q ≡ settled_at (check_fields fs lent vs (Ok a)) (length o) → (m : Reading (List Item)) → shows fs lent vs ≡ m → Written fs lent vs o (Ok a) o q
     at a d (bad j b) m = record { bytes = rw m; next = d ∙ rw (failed fs lent vs a m, m) }
     at a d (ok is r) m =
         let w = reaches fs lent vs a m in
@@ -134,7 +134,7 @@ written_put : {fs : Layout} {lent o o2 : List ℕ} {vs : List Value} {p e q r : 
 written_put {fs} {lent} {o} {o2} {vs} {p} {e} {q} {r} {n} b c s h l =
     rw (l.bytes, l.next) (go p (s.is ∙ ap (λ x. settled_at x (length o)) c.is))
   where
-    at : (a : ℕ) → q ≡ settled_at (check_fields fs lent vs (Ok a)) (length o) → (m : Result (List Item)) → shows fs lent vs ≡ m
+    at : (a : ℕ) → q ≡ settled_at (check_fields fs lent vs (Ok a)) (length o) → (m : Reading (List Item)) → shows fs lent vs ≡ m
         → Written fs lent vs o (Ok a) (put_fields fs lent vs o (Ok a)) (past_put_fields fs lent vs o (Ok a))
     at a d (bad j x) m = absurd (clash {k = j} {at = x} (d ∙ rw (failed fs lent vs a m)) h)
     at a d (ok is r) m =
@@ -195,7 +195,7 @@ written {fs} {lent} {o} {o2} {vs} {p} {e} {q} {r} b c s l = go (settled_at e (le
     go (Ok n) f = let g : q ≡ p = s.is ∙ ap (begun_at p) f in written_put b c (record { is = sym f }) refl (rw g at l)
     go (Err e) f =
         let g : q ≡ Err e = s.is ∙ ap (begun_at p) f in
-        let h : PutAll fs lent vs o (Err e) o2 r = rw g e.1 l in
+        let h : PutAll fs lent vs o (Err e) o2 r = rw g at l in
         let n = nothing_put fs lent vs o e.0 e.1 in
         rw (h.bytes ∙ n.0, h.next ∙ n.1) (written_not c (record { is = sym f }) refl)
 
@@ -207,7 +207,7 @@ written_length {fs} {lent} {o} {o'} {vs} {p} w = ap length w.bytes ∙ go (shows
     kept true bs a = length_put bs o (Ok a)
     kept false bs a = refl
 
-    go : (m : Result (List Item)) (p' : Place) → length (written_out m o p') ≡ length o
+    go : (m : Reading (List Item)) (p' : Place) → length (written_out m o p') ≡ length o
     go m (Err f) = refl
     go (bad k at) (Ok a) = refl
     go (ok is r) (Ok a) = kept (ltb (a + length (items_bytes is)) limit) (items_bytes is) a

@@ -2,7 +2,7 @@
 use Rattle.numbers.specs.Place.{Place}
 use Rattle.std.specs.Prelude.{ℕ, ◌+◌, min, ◌≡◌, cond, List, [], ◌∷◌, length, eqb, leb, ltb, Ok, Err}
 use Rattle.numbers.specs.Numbers.{to_le}
-use Rattle.numbers.specs.Reading.{Result, ok, bad}
+use Rattle.numbers.specs.Reading.{Reading, ok, bad}
 use Rattle.numbers.specs.Places.{put_at, past_put}
 use Rattle.numbers.specs.declared.Refusal.TheVariants as R
 use Rattle.strings.specs.Spans.{bytes_in, show_span, check_at}
@@ -20,7 +20,7 @@ advance n (Ok a) = Ok (min (a + n) limit)
 advance n (Err f) = Err f
 
 -- how long an item is that a value shows
-abbrev pub shown_size : Result Item → ℕ
+abbrev pub shown_size : Reading Item → ℕ
 shown_size (ok i r) = length (item_bytes i)
 shown_size (bad k at) = 0
 
@@ -173,12 +173,12 @@ pub record Filled (e : Place) (n : ℕ) (p q : Place) : Type 0 where
 
 -- ---- a whole layout written: its fields in order, then 10, then 11, and a refusal leaves the output as it was (F5.16)
 
-abbrev pub written_out : Result (List Item) → List ℕ → Place → List ℕ
+abbrev pub written_out : Reading (List Item) → List ℕ → Place → List ℕ
 written_out m o (Err f) = o
 written_out (bad k at) o (Ok a) = o
 written_out (ok is r) o (Ok a) = cond (ltb (a + length (items_bytes is)) limit) (put_at (items_bytes is) o (Ok a)) o
 
-abbrev pub written_past : Result (List Item) → List ℕ → Place → Place
+abbrev pub written_past : Reading (List Item) → List ℕ → Place → Place
 written_past m o (Err f) = Err f
 written_past (bad k at) o (Ok a) = Err (k, at)
 written_past (ok is r) o (Ok a) =

@@ -5,7 +5,7 @@ use Rattle.numbers.specs.Numbers.{to_le}
 use Rattle.numbers.specs.Reading.{ok}
 use Rattle.strings.specs.Spans.{show_span}
 use Rattle.fields.specs.Layouts.{Field, num, str, dat, strs, quids, boxed, Layout, Item, item_bytes}
-use Rattle.fields.specs.Values.{Value, start_of, len_of, show_part, others_of, shows}
+use Rattle.fields.specs.Values.{Value, start_of, len_of, show_part, others_of}
 use Rattle.laying.specs.Laying.{head_width, head_of}
 
 -- numbers of these widths, whatever they are, in front of a layout: one sum measures them

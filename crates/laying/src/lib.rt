@@ -14,21 +14,18 @@ use fields::Part;
 use numbers::{Fault, Place, Refusal};
 use strings::Span;
 
+// One more than the largest frame has bytes (F1.3).
+const LIMIT: usize = 4294967296;
+
 // The place `n` bytes on; past the largest frame every place is the limit, so that no sum wraps.
 pub fn advanced(p: Place, n: usize) -> Place
     ensures { Advanced n p result }
 {
-    let Ok(at) = p else {
-        return p;
-    };
-    if 4294967296 <= at {
-        return Ok(4294967296);
+    let at = p?;
+    if LIMIT <= at || LIMIT - at <= n {
+        return Ok(LIMIT);
     }
-    if 4294967296 - at <= n {
-        return Ok(4294967296);
-    }
-    let next = at + n;
-    Ok(next)
+    Ok(at + n)
 }
 
 // A string at a place, checked: 9, 7, 5, 6; then the place after its count and its text.
@@ -52,12 +49,8 @@ fn filled(end: Place, stop: usize, p: Place) -> Place
     ensures { Filled end stop p result }
 {
     match end {
-        Ok(n) => {
-            if n == stop {
-                return p;
-            }
-            Err(Fault(Refusal::PartMalformed, 0))
-        }
+        Ok(n) if n == stop => p,
+        Ok(_) => Err(Fault(Refusal::PartMalformed, 0)),
         Err(Fault(k, n)) => Err(Fault(cut_off(k), n)),
     }
 }
@@ -65,10 +58,10 @@ fn filled(end: Place, stop: usize, p: Place) -> Place
 fn cut_off(k: Refusal) -> Refusal
     ensures { result ≡ cut_off k }
 {
-    if numbers::number(k) == 1 {
-        return Refusal::PartMalformed;
+    match k {
+        Refusal::Short => Refusal::PartMalformed,
+        _ => k,
     }
-    k
 }
 
 // The part that a vector is written from, or asked for an element: 17, then 9.
@@ -76,82 +69,65 @@ fn check_part(lent: &[u8], v: Part, p: Place) -> Place
     ensures { PartCheck lent.now v.count v.elements.start v.elements.len p result }
 {
     let q = fields::check_count(v.count as usize, p);
-    let elements = v.elements;
-    strings::check_span(lent, elements, q)
+    strings::check_span(lent, v.elements, q)
 }
 
 // The elements of a vector of strings that is to be written: the place itself; or 17, then 9, then the first failing one's 14, 5 or 6, then 14.
 pub fn check_names(lent: &[u8], v: Part, p: Place) -> Place
     ensures { ShowCheck strs lent.now (part v.count v.elements.start v.elements.len) p result }
 {
-    let elements = v.elements;
-    let q = check_part(lent, v, p);
-    let Ok(_) = q else {
-        return q;
-    };
-    let start = elements.start;
-    let stop = start + elements.len;
-    let end = fields::scan(&lent[..stop], start, v.count);
-    filled(end, stop, q)
+    let at = check_part(lent, v, p)?;
+    let stop = v.elements.start + v.elements.len;
+    let end = fields::scan(&lent[..stop], v.elements.start, v.count);
+    filled(end, stop, Ok(at))
 }
 
 // The elements of a vector of qids that is to be written: the place itself; or 17, then 9, then 14 unless they are 13 bytes each.
 pub fn check_qids(lent: &[u8], v: Part, p: Place) -> Place
     ensures { ShowCheck quids lent.now (part v.count v.elements.start v.elements.len) p result }
 {
-    let elements = v.elements;
-    let q = check_part(lent, v, p);
-    let Ok(_) = q else {
-        return q;
-    };
-    if elements.len == 13 * (v.count as usize) {
-        return q;
+    let at = check_part(lent, v, p)?;
+    if v.elements.len != 13 * (v.count as usize) {
+        return Err(Fault(Refusal::PartMalformed, 0));
     }
-    Err(Fault(Refusal::PartMalformed, 0))
+    Ok(at)
 }
 
 // A vector of strings at a place, checked; then the place after its count and its elements.
 pub fn measure_names(lent: &[u8], v: Part, p: Place) -> Place
     ensures { FieldMeasured strs lent.now (part v.count v.elements.start v.elements.len) p result }
 {
-    let elements = v.elements;
     let q = check_names(lent, v, p);
-    advanced(advanced(q, 2), elements.len)
+    advanced(advanced(q, 2), v.elements.len)
 }
 
 // A vector of qids at a place, checked; then the place after its count and its elements.
 pub fn measure_qids(lent: &[u8], v: Part, p: Place) -> Place
     ensures { FieldMeasured quids lent.now (part v.count v.elements.start v.elements.len) p result }
 {
-    let elements = v.elements;
     let q = check_qids(lent, v, p);
-    advanced(advanced(q, 2), elements.len)
+    advanced(advanced(q, 2), v.elements.len)
 }
 
 // What the end that measuring found means in an output of `len` bytes: 10, then 11, or the bytes may be put.
 pub fn settled(end: Place, len: usize) -> Place
     ensures { Settled end len result }
 {
-    let Ok(n) = end else {
-        return end;
-    };
-    if 4294967296 <= n {
+    let n = end?;
+    if LIMIT <= n {
         return Err(Fault(Refusal::FrameTooLong, 0));
     }
     if len < n {
         return Err(Fault(Refusal::NoRoom, 0));
     }
-    end
+    Ok(n)
 }
 
 // Where putting begins: where measuring did, or nowhere if that found a reason to refuse.
 pub fn begun(p: Place, end: Place, len: usize) -> Place
     ensures { Begun p end len result }
 {
-    let q = settled(end, len);
-    let Ok(_) = q else {
-        return q;
-    };
+    settled(end, len)?;
     p
 }
 
@@ -169,20 +145,18 @@ pub fn write_data(out: &mut [u8], p: Place, lent: &[u8], v: Span) -> Place
 pub fn write_names(out: &mut [u8], p: Place, lent: &[u8], v: Part) -> Place
     ensures { Written (strs ∷ []) lent.now (part v.count v.elements.start v.elements.len ∷ []) out.old p out.new result }
 {
-    let elements = v.elements;
     let end = measure_names(lent, v, p);
     let start = begun(p, end, out.len());
     let q = numbers::put_u16(out, start, v.count);
-    strings::put_bytes(out, q, lent, elements)
+    strings::put_bytes(out, q, lent, v.elements)
 }
 
 // A vector of qids written at a place: what `check_qids` refuses, then 10, then 11; a refusal leaves the output as it was.
 pub fn write_qids(out: &mut [u8], p: Place, lent: &[u8], v: Part) -> Place
     ensures { Written (quids ∷ []) lent.now (part v.count v.elements.start v.elements.len ∷ []) out.old p out.new result }
 {
-    let elements = v.elements;
     let end = measure_qids(lent, v, p);
     let start = begun(p, end, out.len());
     let q = numbers::put_u16(out, start, v.count);
-    strings::put_bytes(out, q, lent, elements)
+    strings::put_bytes(out, q, lent, v.elements)
 }

@@ -4,7 +4,7 @@ use Rattle.std.specs.Prelude.{ℕ, ◌≤◌, ◌≡◌, refl, List, [], ◌∷�
 use Rattle.std.proofs.Common.{sym, ap₂, ne_eqb}
 use Rattle.std.proofs.Math.Option.{Option, none, some}
 use Rattle.numbers.specs.Numbers.{Bytes}
-use Rattle.numbers.specs.Reading.{Result, ok, bad}
+use Rattle.numbers.specs.Reading.{Reading, ok, bad}
 use Rattle.numbers.specs.declared.Refusal.TheVariants as R
 use Rattle.fields.specs.Layouts.{Layout, Item, read_fields}
 use Rattle.fields.specs.Values.{Value}
@@ -30,7 +30,7 @@ unknown_body rs ty s p h = rw (no_row rs (Unit {0}) ty h).0
 pub body_is : (rs : List Row) (ty : ℕ) (s : List ℕ) (a : ℕ) → Bytes s → a ≤ length s → read_body rs ty s (Ok a) ≡ body_of (lookup rs ty) ty a (drop a s)
 body_is rs ty s a b h = go (lookup rs ty)
   where
-    read : (l : Layout) (m : Result (List Item)) → read_fields l a (drop a s) ≡ m → finish_at ty (values_at l s (Ok a)) (past_fields l s (Ok a)) ≡ items_at ty a m
+    read : (l : Layout) (m : Reading (List Item)) → read_fields l a (drop a s) ≡ m → finish_at ty (values_at l s (Ok a)) (past_fields l s (Ok a)) ≡ items_at ty a m
     read l (ok is r) e = let k = fields_accepted l s a b h e in rw (k.values, k.next)
     read l (bad k at) e = rw (fields_refused l s a b h e)
 

@@ -2,7 +2,7 @@
 use Rattle.numbers.specs.Place.{Place}
 use Rattle.std.specs.Prelude.{ℕ, ◌+◌, List, length, Ok, Err}
 use Rattle.std.proofs.Math.Option.{Option, none, some}
-use Rattle.numbers.specs.Reading.{Result, ok, bad}
+use Rattle.numbers.specs.Reading.{Reading, ok, bad}
 use Rattle.numbers.specs.declared.Refusal.{Refusal}
 use Rattle.numbers.specs.declared.Refusal.TheVariants as R
 use Rattle.fields.specs.Layouts.{Layout, Item, read_fields, items_bytes}
@@ -20,7 +20,7 @@ finish_at ty vs (Ok n) = accepted ty vs n
 finish_at ty vs (Err f) = refused f.0 f.1
 
 -- the definition, of the bytes xs that begin at position a: 3 for an unknown type, else the fields in order (F4.2); the values are where the items stand (F4.16)
-abbrev pub items_at : ℕ → ℕ → Result (List Item) → Answer
+abbrev pub items_at : ℕ → ℕ → Reading (List Item) → Answer
 items_at ty a (ok is r) = accepted ty (places a is) (a + length (items_bytes is))
 items_at ty a (bad k at) = refused k at
 

@@ -7,7 +7,7 @@ use Rattle.std.proofs.Math.Seq.{drop-append-add, drop-append_seam}
 use Rattle.std.proofs.lemmas.Bool.{lt-leb}
 use Rattle.numbers.specs.Numbers.{Bytes, from_le}
 use Rattle.numbers.proofs.Numbers.{from_bound, bytes_take, bytes_drop}
-use Rattle.numbers.specs.Reading.{Result, ok, bad, after, raw, read_num}
+use Rattle.numbers.specs.Reading.{Reading, ok, bad, after, raw, read_num}
 use Rattle.numbers.specs.ReadingLaws.{Reads, Took}
 use Rattle.numbers.proofs.ReadingLaws.{or_else, raw_short}
 use Rattle.numbers.specs.Places.{Tells, Within, read_at, rest_at, number_in, num_at, past_num, NumRead, over, put_at, past_put, Put}
@@ -104,7 +104,7 @@ pub num_refused : {w x : ℕ} {s : List ℕ} {p q : Place} {k : Refusal} {j : �
 unfolding past_num
 num_refused {w} {x} {s} {p} {q} {k} {j} r h = record { reads = go (read_at (read_num w) s p) (sym r.next ∙ h) }
   where
-    go : (m : Result ℕ) → rest_at (length s) m ≡ Err (k, j) → m ≡ bad k j
+    go : (m : Reading ℕ) → rest_at (length s) m ≡ Err (k, j) → m ≡ bad k j
     go (ok a r) e = absurd (let z : ◌≡◌ {A = ℕ} 0 1 = cc e in omega arith)
     go (bad i n) e = let f = refused_one e in rw (f.0, f.1) refl
 
@@ -196,7 +196,7 @@ drop_over : (o : List ℕ) (a : ℕ) (bs : List ℕ) → a + length bs ≤ lengt
 drop_over o a bs h = rw append_assoc (drop_at (take a o) (bs ++ drop (a + length bs) o) a (length-take-le a o (omega arith)))
 
 -- whatever reader takes exactly bs reads it back where it was put, and leaves what stood after
-pub put_read : {A : Type 0} {d : List ℕ → Result A} {bs : List ℕ} {v : A} → Reads d bs v → (o : List ℕ) (a : ℕ) → a + length bs ≤ length o
+pub put_read : {A : Type 0} {d : List ℕ → Reading A} {bs : List ℕ} {v : A} → Reads d bs v → (o : List ℕ) (a : ℕ) → a + length bs ≤ length o
     → d (drop a (over o a bs)) ≡ ok v (drop (a + length bs) o)
 put_read {bs = bs} R o a h = rw (drop_over o a bs h) (R.back (drop (a + length bs) o))
 

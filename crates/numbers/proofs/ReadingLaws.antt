@@ -7,7 +7,7 @@ use Rattle.std.proofs.lemmas.List.{take-append-le}
 use Rattle.std.proofs.lemmas.Bool.{lt-leb}
 use Rattle.numbers.specs.Numbers.{Bytes, from_le, to_le}
 use Rattle.numbers.proofs.Numbers.{length_to_le, from_to, to_from, from_bound, bytes_split}
-use Rattle.numbers.specs.Reading.{Result, ok, bad, after, raw, read_num}
+use Rattle.numbers.specs.Reading.{Reading, ok, bad, after, raw, read_num}
 use Rattle.numbers.specs.declared.Refusal.{Refusal}
 use Rattle.numbers.specs.declared.Refusal.TheVariants.{Short}
 use Rattle.numbers.specs.ReadingLaws.{Reads, Took}
@@ -17,17 +17,17 @@ pub or_else {ℓ} : {X : Type ℓ} (a b : ℕ) → (a ≤ b → X) → (b < a �
 or_else a b f g = elim (dec_le a b) [ yes h ↦ f h | no h ↦ g (lt_of_not-le h) ]
 
 -- an accepted run came through both readers; what they read is handed to a continuation, so that it is a variable there
-pub after_inv : {A B X : Type 0} (m : Result A) (k : A → List ℕ → Result B) {b : B} {r : List ℕ} → after m k ≡ ok b r
+pub after_inv : {A B X : Type 0} (m : Reading A) (k : A → List ℕ → Reading B) {b : B} {r : List ℕ} → after m k ≡ ok b r
     → ((a : A) (s : List ℕ) → m ≡ ok a s → k a s ≡ ok b r → X) → X
 after_inv (ok a s) k e f = f a s refl e
 after_inv (bad n m) k e f = absurd (let z : ◌≡◌ {A = ℕ} 0 1 = cc in omega arith)
 
 -- an accepted run passed its test
-pub cond_inv : {A : Type 0} (t : Bool) (m : Result A) (n : Refusal) (j : ℕ) {a : A} {r : List ℕ} → cond t m (bad n j) ≡ ok a r → (t ≡ true) × (m ≡ ok a r)
+pub cond_inv : {A : Type 0} (t : Bool) (m : Reading A) (n : Refusal) (j : ℕ) {a : A} {r : List ℕ} → cond t m (bad n j) ≡ ok a r → (t ≡ true) × (m ≡ ok a r)
 cond_inv true m n j e = (refl, e)
 cond_inv false m n j e = absurd (let z : ◌≡◌ {A = ℕ} 0 1 = cc in omega arith)
 
-pub reads_nil : {A : Type 0} (d : List ℕ → Result A) (a : A) → ((r : List ℕ) → d r ≡ ok a r) → Reads d [] a
+pub reads_nil : {A : Type 0} (d : List ℕ → Reading A) (a : A) → ((r : List ℕ) → d r ≡ ok a r) → Reads d [] a
 reads_nil d a e = record { back = e; cut = λ j h. absurd (not-suc-le-zero h) }
 
 raw_back : (bs r : List ℕ) → raw (length bs) (bs ++ r) ≡ ok bs r
@@ -46,7 +46,7 @@ reads_raw n bs h = record {
 }
 
 -- x and y cut short: the cut is in x, and x is refused; or x is read, and y is cut
-pub cutting : {X A : Type 0} {d : List ℕ → Result A} {x : List ℕ} {a : A} → Reads d x a → (y : List ℕ) (j : ℕ) → j < length (x ++ y)
+pub cutting : {X A : Type 0} {d : List ℕ → Reading A} {x : List ℕ} {a : A} → Reads d x a → (y : List ℕ) (j : ℕ) → j < length (x ++ y)
     → (d (take j (x ++ y)) ≡ bad Short 0 → X) → ((m : ℕ) → m < length y → d (take j (x ++ y)) ≡ ok a (take m y) → X) → X
 cutting {x = x} R y j h f g =
     or_else (length x) j (λ l. g (j - length x) (let q = length-append x y in omega arith) (rw (cong l) (R.back (take (j - length x) y))))
@@ -55,14 +55,14 @@ cutting {x = x} R y j h f g =
     cong : length x ≤ j → take j (x ++ y) ≡ x ++ take (j - length x) y
     cong l = ap (λ k. take k (x ++ y)) (sym (add-sub_of_le l)) ∙ take-append-add x y (j - length x)
 
-module _ {A B : Type 0} {d : List ℕ → Result A} {x : List ℕ} {a : A} where
-  pub reads_then : {b : B} (k : A → List ℕ → Result B) → ((r : List ℕ) → k a r ≡ ok b r) → Reads d x a → Reads (λ xs. after (d xs) k) x b
+module _ {A B : Type 0} {d : List ℕ → Reading A} {x : List ℕ} {a : A} where
+  pub reads_then : {b : B} (k : A → List ℕ → Reading B) → ((r : List ℕ) → k a r ≡ ok b r) → Reads d x a → Reads (λ xs. after (d xs) k) x b
   reads_then k e R = record { back = λ r. rw (R.back r) (e r); cut = λ j h. rw (R.cut j h) }
 
   pub reads_map : (f : A → B) → Reads d x a → Reads (λ xs. after (d xs) (λ y r. ok (f y) r)) x (f a)
   reads_map f R = reads_then (λ y r. ok (f y) r) (λ r. refl) R
 
-  pub reads_after : {y : List ℕ} {b : B} (k : A → List ℕ → Result B) → Reads d x a → Reads (k a) y b → Reads (λ xs. after (d xs) k) (x ++ y) b
+  pub reads_after : {y : List ℕ} {b : B} (k : A → List ℕ → Reading B) → Reads d x a → Reads (k a) y b → Reads (λ xs. after (d xs) k) (x ++ y) b
   reads_after {y} {b} k R S = record { back = back; cut = cut }
     where
       back : (r : List ℕ) → after (d (x ++ y ++ r)) k ≡ ok b r
@@ -71,7 +71,7 @@ module _ {A B : Type 0} {d : List ℕ → Result A} {x : List ℕ} {a : A} where
       cut : (j : ℕ) → j < length (x ++ y) → after (d (take j (x ++ y))) k ≡ bad Short 0
       cut j h = cutting R y j h (λ e. rw e) (λ m l e. rw e (S.cut m l))
 
-pub reads_cond : {A : Type 0} {d : List ℕ → Result A} {x : List ℕ} {a : A} {t : Bool} (e : Result A) → t ≡ true → Reads d x a
+pub reads_cond : {A : Type 0} {d : List ℕ → Reading A} {x : List ℕ} {a : A} {t : Bool} (e : Reading A) → t ≡ true → Reads d x a
     → Reads (λ xs. cond t (d xs) e) x a
 reads_cond e h R = record { back = λ r. rw h (R.back r); cut = λ j k. rw h (R.cut j k) }
 

@@ -1,7 +1,7 @@
 -- At a place: what is read from there on of a slice, and what is put there of an output. What the contracts cite.
 use Rattle.numbers.specs.Place.{Place}
 use Rattle.std.specs.Prelude.{ℕ, ◌+◌, ◌-◌, ◌≤◌, ◌<◌, ◌≡◌, Bool, true, false, cond, List, ◌++◌, length, take, drop, leb, Ok, Err}
-use Rattle.numbers.specs.Reading.{Result, ok, bad, read_num}
+use Rattle.numbers.specs.Reading.{Reading, ok, bad, read_num}
 use Rattle.numbers.specs.declared.Refusal.TheVariants as R
 
 -- a test's answer: the first fact where it is true, the second where it is false
@@ -16,22 +16,22 @@ pub record Within (at n len : ℕ) (r : Bool) : Type 0 where
 -- ---- reading
 
 -- a reader at a place of s: it takes the bytes from there on. A refused place stays refused
-abbrev pub read_at : {A : Type 0} → (List ℕ → Result A) → List ℕ → Place → Result A
+abbrev pub read_at : {A : Type 0} → (List ℕ → Reading A) → List ℕ → Place → Reading A
 read_at d s (Ok a) = d (drop a s)
 read_at d s (Err f) = bad f.0 f.1
 
 -- one that is told the position too, from which it counts
-abbrev pub read_from : {A : Type 0} → (ℕ → List ℕ → Result A) → List ℕ → Place → Result A
+abbrev pub read_from : {A : Type 0} → (ℕ → List ℕ → Reading A) → List ℕ → Place → Reading A
 read_from d s (Ok a) = d a (drop a s)
 read_from d s (Err f) = bad f.0 f.1
 
 -- the place where the rest of n bytes begins
-abbrev pub rest_at : {A : Type 0} → ℕ → Result A → Place
+abbrev pub rest_at : {A : Type 0} → ℕ → Reading A → Place
 rest_at l (ok a r) = Ok (l - length r)
 rest_at l (bad k n) = Err (k, n)
 
 -- the number, 0 where there is none
-abbrev pub number_in : Result ℕ → ℕ
+abbrev pub number_in : Reading ℕ → ℕ
 number_in (ok x r) = x
 number_in (bad k n) = 0
 

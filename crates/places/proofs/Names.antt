@@ -11,7 +11,7 @@ use Rattle.std.proofs.Math.Dec.{ltb}
 use borrow.Author.Tests.{ltb-true}
 use Rattle.numbers.specs.Numbers.{Bytes, to_le}
 use Rattle.numbers.proofs.Numbers.{length_to_le, bytes_drop}
-use Rattle.numbers.specs.Reading.{Result, ok, bad}
+use Rattle.numbers.specs.Reading.{Reading, ok, bad}
 use Rattle.numbers.proofs.ReadingLaws.{or_else}
 use Rattle.numbers.specs.Places.{rest_at}
 use Rattle.numbers.specs.declared.Refusal.TheVariants as R
@@ -37,7 +37,7 @@ unfolding past_str str_start str_len
 string_inside s b (Err f) {e} h = absurd (let z : ◌≡◌ {A = ℕ} 0 1 = cc in omega arith)
 string_inside s b (Ok a) {e} h = go (read_string a (drop a s)) refl h
   where
-    go : (m : Result (List ℕ)) → read_string a (drop a s) ≡ m → rest_at (length s) m ≡ Ok e → start_in 2 (Ok a) m + length (bytes_in m) ≤ length s
+    go : (m : Reading (List ℕ)) → read_string a (drop a s) ≡ m → rest_at (length s) m ≡ Ok e → start_in 2 (Ok a) m + length (bytes_in m) ≤ length s
     go (bad k j) f g = absurd (let z : ◌≡◌ {A = ℕ} 0 1 = cc in omega arith)
     go (ok bs r) f g =
         let t = took_string a (drop a s) (bytes_drop a s b) f in

@@ -10,7 +10,7 @@ use Rattle.std.proofs.Math.ListN.{get_or}
 use Rattle.std.proofs.Math.Dec.{ltb}
 use borrow.Author.Tests.{ltb-true, lt-ltb, le-ltb, le-leb, lt-leb}
 use Rattle.numbers.specs.Numbers.{to_le}
-use Rattle.numbers.specs.Reading.{Result, ok, bad}
+use Rattle.numbers.specs.Reading.{Reading, ok, bad}
 use Rattle.numbers.proofs.ReadingLaws.{or_else}
 use Rattle.numbers.specs.Places.{over, put_at, past_put, Put}
 use Rattle.numbers.proofs.PlaceLaws.{over_then, length_over}
@@ -100,7 +100,7 @@ span_put : {s o o' : List ℕ} {x y a : ℕ} {p q : Place} → SpanPut s x y o p
 unfolding put_at
 span_put {s} {o} {o'} {x} {y} {a} w e h = w.put.bytes ∙ rw e (go (show_span s x y) h)
   where
-    go : (m : Result (List ℕ)) → a + length (bytes_in m) ≤ length o → put_at (bytes_in m) o (check_at m (Ok a)) ≡ over o a (bytes_in m)
+    go : (m : Reading (List ℕ)) → a + length (bytes_in m) ≤ length o → put_at (bytes_in m) o (check_at m (Ok a)) ≡ over o a (bytes_in m)
     go (ok bs r) g = rw (le-leb (a + length bs) (length o) g)
     go (bad k j) g = sym (over_none o a)
 

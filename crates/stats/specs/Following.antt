@@ -7,7 +7,7 @@ use Rattle.std.proofs.Math.ListN.{length-drop}
 use Rattle.std.proofs.Math.Seq.{drop-drop}
 use borrow.Author.Tests.{le-leb}
 use Rattle.numbers.specs.Numbers.{from_le}
-use Rattle.numbers.specs.Reading.{Result, ok, bad, after, raw, read_num}
+use Rattle.numbers.specs.Reading.{Reading, ok, bad, after, raw, read_num}
 use Rattle.numbers.proofs.ReadingLaws.{or_else, after_inv, raw_short}
 use Rattle.numbers.specs.Places.{Within, read_at, rest_at, NumRead}
 use Rattle.numbers.proofs.PlaceLaws.{inside, outside, short_num, held_num, num_holds, num_refused}
@@ -63,18 +63,18 @@ unfolding follow
 follow_append [] gs xs = refl
 follow_append (fixed w ∷ fs) gs xs = go (read_num w xs) (λ r. follow_append fs gs r)
   where
-    go : (m : Result ℕ) → ((r : List ℕ) → follow (fs ++ gs) r ≡ after (follow fs r) (λ n t. follow gs t))
+    go : (m : Reading ℕ) → ((r : List ℕ) → follow (fs ++ gs) r ≡ after (follow fs r) (λ n t. follow gs t))
         → after m (λ n r. follow (fs ++ gs) r) ≡ after (after m (λ n r. follow fs r)) (λ n r. follow gs r)
     go (ok n r) ih = ih r
     go (bad k at) ih = refl
 follow_append (worded ∷ fs) gs xs = go (read_num 2 xs) (λ r. follow_append fs gs r)
   where
-    inner : (m : Result (List ℕ)) → ((r : List ℕ) → follow (fs ++ gs) r ≡ after (follow fs r) (λ n t. follow gs t))
+    inner : (m : Reading (List ℕ)) → ((r : List ℕ) → follow (fs ++ gs) r ≡ after (follow fs r) (λ n t. follow gs t))
         → after m (λ bs r. follow (fs ++ gs) r) ≡ after (after m (λ bs r. follow fs r)) (λ n r. follow gs r)
     inner (ok bs r) ih = ih r
     inner (bad k at) ih = refl
 
-    go : (m : Result ℕ) → ((r : List ℕ) → follow (fs ++ gs) r ≡ after (follow fs r) (λ n t. follow gs t))
+    go : (m : Reading ℕ) → ((r : List ℕ) → follow (fs ++ gs) r ≡ after (follow fs r) (λ n t. follow gs t))
         → after m (λ n r. after (raw n r) (λ bs t. follow (fs ++ gs) t)) ≡ after (after m (λ n r. after (raw n r) (λ bs t. follow fs t))) (λ n r. follow gs r)
     go (ok n r) ih = inner (raw n r) ih
     go (bad k at) ih = refl
@@ -82,7 +82,7 @@ follow_append (worded ∷ fs) gs xs = go (read_num 2 xs) (λ r. follow_append fs
 pub then_follow : {fs gs : List Shape} {s : List ℕ} {p q r : Place} → Followed fs s p q → Followed gs s q r → Followed (fs ++ gs) s p r
 then_follow {fs} {gs} {s} {p} x y = record { is = y.is ∙ ap (λ z. rest_at (length s) (read_at (follow gs) s z)) x.is ∙ from p }
   where
-    at : (a : ℕ) (m : Result ℕ) → follow fs (drop a s) ≡ m → rest_at (length s) (read_at (follow gs) s (rest_at (length s) m)) ≡ rest_at (length s) (after m (λ n r. follow gs r))
+    at : (a : ℕ) (m : Reading ℕ) → follow fs (drop a s) ≡ m → rest_at (length s) (read_at (follow gs) s (rest_at (length s) m)) ≡ rest_at (length s) (after m (λ n r. follow gs r))
     at a (ok n t) e = ap (λ (z : List ℕ). rest_at (length s) (follow gs z)) (at_suffix a s t (follow_suffix fs (drop a s) e))
     at a (bad k i) e = refl
 

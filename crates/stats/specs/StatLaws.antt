@@ -8,7 +8,7 @@ use Rattle.std.proofs.Math.ListN.{length-drop}
 use Rattle.std.proofs.Math.Seq.{drop-drop}
 use borrow.Author.Tests.{le-leb, lt-leb, eq-eqb, ne_eqb}
 use Rattle.numbers.specs.Numbers.{from_le, to_le}
-use Rattle.numbers.specs.Reading.{Result, ok, bad, after, raw, read_num}
+use Rattle.numbers.specs.Reading.{Reading, ok, bad, after, raw, read_num}
 use Rattle.numbers.proofs.ReadingLaws.{or_else, raw_short}
 use Rattle.numbers.specs.Places.{Within, read_at, rest_at, NumRead, Put}
 use Rattle.numbers.specs.PlaceLaws.{Held}
@@ -85,14 +85,14 @@ module _ (fs : List Shape) {s : List ℕ} {start x : ℕ} {p : Place} (l : start
       pub agree_refused : {k : Refusal} {at : ℕ} → q ≡ Err (k, at) → false ≡ agrees fs (drop start s)
       agree_refused {k} {at} h = sym (told ∙ go (follow fs (drop first s)) (sym f.is ∙ h))
         where
-          go : (m : Result ℕ) → rest_at (length s) m ≡ Err (k, at) → at_end m ≡ false
+          go : (m : Reading ℕ) → rest_at (length s) m ≡ Err (k, at) → at_end m ≡ false
           go (ok a t) g = absurd (let z : ◌≡◌ {A = ℕ} 0 1 = cc g in omega arith)
           go (bad j b) g = refl
 
       pub agree_end : {end : ℕ} {t : Bool} → q ≡ Ok end → t ≡ eqb end (length s) → t ≡ agrees fs (drop start s)
       agree_end {end} {t} h u = u ∙ sym (told ∙ go (follow fs (drop first s)) refl (sym f.is ∙ h))
         where
-          go : (m : Result ℕ) → follow fs (drop first s) ≡ m → rest_at (length s) m ≡ Ok end → at_end m ≡ eqb end (length s)
+          go : (m : Reading ℕ) → follow fs (drop first s) ≡ m → rest_at (length s) m ≡ Ok end → at_end m ≡ eqb end (length s)
           go (ok a []) i g = let w : length s - 0 ≡ end = cc g in sym (eq-eqb end (length s) (omega arith))
           go (ok a (y ∷ ys)) i g =
               let w : length s - length (y ∷ ys) ≡ end = cc g in

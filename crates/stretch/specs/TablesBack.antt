@@ -4,7 +4,7 @@ use Rattle.std.proofs.Common.{arith, sym, ap, ap₂, ◌∙◌, append_assoc, ap
 use Rattle.std.proofs.Math.Option.{some}
 use Rattle.std.proofs.lemmas.Bool.{lt-leb}
 use Rattle.numbers.specs.Numbers.{to_le}
-use Rattle.numbers.specs.Reading.{Result, ok, after}
+use Rattle.numbers.specs.Reading.{Reading, ok, after}
 use Rattle.numbers.proofs.ReadingLaws.{or_else, after_inv}
 use Rattle.numbers.specs.declared.Refusal.TheVariants as R
 use Rattle.strings.specs.Strings.{string_bytes}
@@ -29,7 +29,7 @@ use Rattle.framing.specs.ReadBack.{Wrote}
 use Rattle.framing.proofs.ReadBack.{good_text, wrote}
 
 -- what a table that was written had: no more elements than a walk may
-in_table : (k : ℕ) (m : Result (List Item)) {ty tag n : ℕ} {o o' : List ℕ} → TableWritten ty tag (counted k m) o o' (Ok n) → (k ≤ 16) × Wrote m ty tag o o' n
+in_table : (k : ℕ) (m : Reading (List Item)) {ty tag n : ℕ} {o o' : List ℕ} → TableWritten ty tag (counted k m) o o' (Ok n) → (k ≤ 16) × Wrote m ty tag o o' n
 unfolding frame_past
 in_table k m {ty} {tag} w =
     or_else k 16
@@ -41,7 +41,7 @@ record FrameBack (rows : List Row) (ty tag n : ℕ) (o' : List ℕ) (ks : List I
   pub reads : read_frame rows o' ≡ framed 0 tag (accepted ty (places 7 ks) n)
   pub after : shows (map kind ks) o' (places 7 ks) ≡ ok ks []
 
-frame_back : {rows : List Row} {m : Result (List Item)} {ty tag n : ℕ} {o o' : List ℕ} {ks : List Item} (W : Wrote m ty tag o o' n) → items_bytes W.items ≡ items_bytes ks → Stands rows n ty tag ks
+frame_back : {rows : List Row} {m : Reading (List Item)} {ty tag n : ℕ} {o o' : List ℕ} {ks : List Item} (W : Wrote m ty tag o o' n) → items_bytes W.items ≡ items_bytes ks → Stands rows n ty tag ks
     → FrameBack rows ty tag n o' ks
 frame_back {rows} {m} {ty} {tag} {n} {o} {o'} {ks} W i s =
     let u = W.size in
@@ -123,7 +123,7 @@ walk_bytes fid newfid l =
 pub twalk_back : {rows : List Row} {tag fid newfid n : ℕ} {lent o o' : List ℕ} (t : List (List ℕ)) → lookup rows 110 ≡ some layout_twalk → tag < 256 ^ 2 → fid < 256 ^ 4 → newfid < 256 ^ 4 → TwalkWritten tag fid newfid lent t o o' (Ok n)
     → TwalkBack rows tag fid newfid lent t o' n
 twalk_back {rows} {tag} {fid} {newfid} {n} {lent} {o} {o'} t k g x y w =
-    let m : Result (List Item) = shows (walk_fields t) lent (walk_values fid newfid (length t) t) in
+    let m : Reading (List Item) = shows (walk_fields t) lent (walk_values fid newfid (length t) t) in
     let p = in_table (length t) m w.is in
     let W = p.1 in
     let h = p.0 in

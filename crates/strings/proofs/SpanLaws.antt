@@ -5,7 +5,7 @@ use Rattle.numbers.specs.Place.{Place}
 use Rattle.std.specs.Prelude.{ℕ, ◌+◌, ◌≤◌, ◌<◌, ◌≡◌, refl, Bool, true, false, cond, List, [], length, take, drop, leb, Ok, Err}
 use Rattle.std.proofs.Common.{arith, sym, ap₂, ◌∙◌, length-drop, length-take-le, drop-drop, le-leb, leb-true}
 use Rattle.std.proofs.lemmas.Bool.{lt-leb}
-use Rattle.numbers.specs.Reading.{Result, ok, bad, after, raw, read_num}
+use Rattle.numbers.specs.Reading.{Reading, ok, bad, after, raw, read_num}
 use Rattle.numbers.proofs.ReadingLaws.{or_else, after_inv, cond_inv, raw_short}
 use Rattle.numbers.specs.Places.{read_at, read_from}
 use Rattle.numbers.specs.PlaceLaws.{Held}
@@ -28,7 +28,7 @@ pub shown_length : (lent : List ℕ) (x y : ℕ) → x + y ≤ length lent → l
 shown_length lent x y h = length-take-le y (drop x lent) (simp length-drop (omega arith))
 
 -- a check that is passed had something to show, at that place
-pub check_inv : {A X : Type 0} (m : Result A) (p : Place) {a : ℕ} → check_at m p ≡ Ok a → ((v : A) (r : List ℕ) → m ≡ ok v r → p ≡ Ok a → X) → X
+pub check_inv : {A X : Type 0} (m : Reading A) (p : Place) {a : ℕ} → check_at m p ≡ Ok a → ((v : A) (r : List ℕ) → m ≡ ok v r → p ≡ Ok a → X) → X
 check_inv m (Err w) e f = absurd (let z : ◌≡◌ {A = ℕ} 0 1 = cc e in omega arith)
 check_inv (ok v r) (Ok n) e f = f v r refl e
 check_inv (bad k at) (Ok n) e f = absurd (let z : ◌≡◌ {A = ℕ} 0 1 = cc e in omega arith)
@@ -46,7 +46,7 @@ pub span_lies : {lent : List ℕ} {x y a : ℕ} {p q : Place} → SpanCheck lent
 span_lies c e = (passed c e).lies
 
 -- what a first check refuses, the whole does
-pub first_refuses : {A B : Type 0} (m : Result A) (k : A → List ℕ → Result B) (p : Place) {g : Fault} → check_at m p ≡ Err g → check_at (after m k) p ≡ Err g
+pub first_refuses : {A B : Type 0} (m : Reading A) (k : A → List ℕ → Reading B) (p : Place) {g : Fault} → check_at m p ≡ Err g → check_at (after m k) p ≡ Err g
 first_refuses m k (Err f) e = e
 first_refuses (ok a r) k (Ok n) e = absurd (let z : ◌≡◌ {A = ℕ} 0 1 = cc e in omega arith)
 first_refuses (bad i b) k (Ok n) e = e

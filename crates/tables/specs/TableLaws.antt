@@ -8,7 +8,7 @@ use Rattle.numbers.specs.Numbers.{Bytes, to_le}
 use Rattle.numbers.specs.Places.{Put}
 use Rattle.numbers.proofs.PlaceLaws.{one_answer}
 use Rattle.numbers.specs.declared.Refusal.{Refusal}
-use Rattle.numbers.specs.Reading.{Result}
+use Rattle.numbers.specs.Reading.{Reading}
 use Rattle.strings.specs.Spans.{SpanPut}
 use Rattle.fields.specs.Fields.{CountCheck}
 use Rattle.fields.proofs.FieldLaws.{count_passed, count_refused}
@@ -86,5 +86,5 @@ module _ {tag fid newfid : ℕ} {lent : List ℕ} {t : List (List ℕ)} {o : Lis
 
 -- ---- one answer
 
-pub table_one : {ty tag : ℕ} {m : Result (List Item)} {o o1 o2 : List ℕ} {q q' : Place} → TableWritten ty tag m o o1 q → TableWritten ty tag m o o2 q' → (o1 ≡ o2) × (q ≡ q')
+pub table_one : {ty tag : ℕ} {m : Reading (List Item)} {o o1 o2 : List ℕ} {q q' : Place} → TableWritten ty tag m o o1 q → TableWritten ty tag m o o2 q' → (o1 ≡ o2) × (q ≡ q')
 table_one a b = (one_answer a.bytes b.bytes, one_answer a.next b.next)

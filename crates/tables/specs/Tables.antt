@@ -1,14 +1,14 @@
 -- Walks written from lent tables: a Twalk from spans of names (F5.14), an Rwalk from qids (F5.15).
 use Rattle.numbers.specs.Place.{Place}
 use Rattle.std.specs.Prelude.{ℕ, ◌≡◌, List, [], ◌∷◌, map, length, get_or}
-use Rattle.numbers.specs.Reading.{Result, ok}
+use Rattle.numbers.specs.Reading.{Reading, ok}
 use Rattle.fields.specs.Layouts.{num, str, Layout, Item, number, counted}
 use Rattle.fields.specs.Values.{Value, val, span, shows}
 use Rattle.layouts.specs.declared.qids.Qid.{Qid}
 use Rattle.framing.specs.Writing.{frame_out, frame_past}
 
 -- a frame made of what a table gives, or refused with it: a table's count comes before any element
-pub record TableWritten (ty tag : ℕ) (m : Result (List Item)) (o o' : List ℕ) (q : Place) : Type 0 where
+pub record TableWritten (ty tag : ℕ) (m : Reading (List Item)) (o o' : List ℕ) (q : Place) : Type 0 where
   pub bytes : o' ≡ frame_out ty tag m o
   pub next : q ≡ frame_past ty tag m o
 

@@ -5,7 +5,7 @@ use Rattle.std.proofs.Math.Path.{sym, ap}
 use Rattle.std.proofs.Math.Option.{some}
 use Rattle.std.proofs.Math.ListN.{length}
 use Rattle.numbers.specs.Numbers.{from_le}
-use Rattle.numbers.specs.Reading.{Result, ok, bad, after, raw, read_num}
+use Rattle.numbers.specs.Reading.{Reading, ok, bad, after, raw, read_num}
 use Rattle.numbers.proofs.ReadingLaws.{after_inv, cond_inv}
 use Rattle.numbers.specs.declared.Refusal.TheVariants as R
 use Rattle.fields.specs.Layouts.{Shape, boxed, Layout, Item, follow, at_end, agrees, read_field, read_fields, items_bytes}
@@ -22,7 +22,7 @@ no_way : {X : Type 0} → ◌≡◌ {A = Bool} false true → X
 no_way e = absurd (let z : ◌≡◌ {A = ℕ} 0 1 = cc e in omega arith)
 
 -- where some fields end, there are no more
-ended : (gs : List Shape) → at_end (follow gs []) ≡ false → (m : Result ℕ) → at_end m ≡ true → at_end (after m (λ n r. follow gs r)) ≡ false
+ended : (gs : List Shape) → at_end (follow gs []) ≡ false → (m : Reading ℕ) → at_end m ≡ true → at_end (after m (λ n r. follow gs r)) ≡ false
 ended gs g (ok n []) e = g
 ended gs g (ok n (x ∷ r)) e = no_way e
 ended gs g (bad k at) e = no_way e

@@ -7,7 +7,7 @@ use Rattle.std.proofs.Math.Option.{some}
 use Rattle.std.proofs.Math.ListN.{length, length-append}
 use Rattle.numbers.specs.Numbers.{Bytes, to_le, from_le}
 use Rattle.numbers.proofs.Numbers.{length_to_le, from_to}
-use Rattle.numbers.specs.Reading.{Result, ok, bad, after, read_num}
+use Rattle.numbers.specs.Reading.{Reading, ok, bad, after, read_num}
 use Rattle.numbers.proofs.ReadingLaws.{after_inv, raw_short}
 use Rattle.numbers.specs.declared.Refusal.TheVariants as R
 use Rattle.strings.specs.Strings.{read_string, string_bytes}
@@ -42,7 +42,7 @@ more_places (j ∷ is) i a =
     let l = length-append (item_bytes j) (items_bytes is) in
     ap (λ (z : List Value). place a j ∷ z) (more_places is i (a + length (item_bytes j)) ∙ ap (λ n. places (a + length (item_bytes j)) is ++ (place n i ∷ [])) (omega arith))
 
-abbrev pub lastly : Field → ℕ → List Item → List ℕ → Result (List Item)
+abbrev pub lastly : Field → ℕ → List Item → List ℕ → Reading (List Item)
 lastly f n is r = after (read_field f n r) (λ i t. ok (is ++ (i ∷ [])) t)
 
 pub more_read : (l : Layout) (f : Field) (a : ℕ) (xs : List ℕ) → read_fields (l ++ (f ∷ [])) a xs ≡ after (read_fields l a xs) (λ is r. lastly f (a + length (items_bytes is)) is r)
@@ -50,18 +50,18 @@ unfolding read_fields items_bytes
 more_read [] f a xs = ap (λ n. after (read_field f n xs) (λ i t. ok (i ∷ []) t)) (omega arith)
 more_read (g ∷ l) f a xs = first (read_field g a xs) (λ b r. more_read l f b r)
   where
-    last : (j : Item) (is : List Item) (m : Result Item) → after (after m (λ i t. ok (is ++ (i ∷ [])) t)) (λ js s. ok (j ∷ js) s) ≡ after m (λ i t. ok (j ∷ (is ++ (i ∷ []))) t)
+    last : (j : Item) (is : List Item) (m : Reading Item) → after (after m (λ i t. ok (is ++ (i ∷ [])) t)) (λ js s. ok (j ∷ js) s) ≡ after m (λ i t. ok (j ∷ (is ++ (i ∷ []))) t)
     last j is (ok i t) = refl
     last j is (bad k at) = refl
 
-    others : (j : Item) (m : Result (List Item)) → after (after m (λ is r. lastly f (a + length (item_bytes j) + length (items_bytes is)) is r)) (λ js s. ok (j ∷ js) s)
+    others : (j : Item) (m : Reading (List Item)) → after (after m (λ is r. lastly f (a + length (item_bytes j) + length (items_bytes is)) is r)) (λ js s. ok (j ∷ js) s)
         ≡ after (after m (λ is s. ok (j ∷ is) s)) (λ is r. lastly f (a + length (items_bytes is)) is r)
     others j (ok is r) =
         let l = length-append (item_bytes j) (items_bytes is) in
         last j is (read_field f (a + length (item_bytes j) + length (items_bytes is)) r) ∙ ap (λ n. after (read_field f n r) (λ i t. ok (j ∷ (is ++ (i ∷ []))) t)) (omega arith)
     others j (bad k at) = refl
 
-    first : (m : Result Item) → ((b : ℕ) (r : List ℕ) → read_fields (l ++ (f ∷ [])) b r ≡ after (read_fields l b r) (λ is t. lastly f (b + length (items_bytes is)) is t))
+    first : (m : Reading Item) → ((b : ℕ) (r : List ℕ) → read_fields (l ++ (f ∷ [])) b r ≡ after (read_fields l b r) (λ is t. lastly f (b + length (items_bytes is)) is t))
         → after m (λ j r. after (read_fields (l ++ (f ∷ [])) (a + length (item_bytes j)) r) (λ js s. ok (j ∷ js) s))
         ≡ after (after m (λ j r. after (read_fields l (a + length (item_bytes j)) r) (λ js s. ok (j ∷ js) s))) (λ is r. lastly f (a + length (items_bytes is)) is r)
     first (ok j r) ih =
@@ -70,7 +70,7 @@ more_read (g ∷ l) f a xs = first (read_field g a xs) (λ b r. more_read l f b 
     first (bad k at) ih = refl
 
 -- the answer, once the others are accepted: the last field's value after theirs, or its refusal
-abbrev pub last_of : ℕ → List Value → ℕ → Result Item → Answer
+abbrev pub last_of : ℕ → List Value → ℕ → Reading Item → Answer
 last_of ty vs n (ok i r) = accepted ty (vs ++ (place n i ∷ [])) (n + length (item_bytes i))
 last_of ty vs n (bad k at) = refused k at
 
@@ -78,7 +78,7 @@ body_more : (l : Layout) (f : Field) (ty a : ℕ) (xs : List ℕ) {is : List Ite
     → body_of (some (l ++ (f ∷ []))) ty a xs ≡ last_of ty (places a is) (a + length (items_bytes is)) (read_field f (a + length (items_bytes is)) r)
 body_more l f ty a xs {is} {r} e = ap (items_at ty a) (more_read l f a xs ∙ ap (λ m. after m (λ js t. lastly f (a + length (items_bytes js)) js t)) e) ∙ go (read_field f (a + length (items_bytes is)) r)
   where
-    go : (m : Result Item) → items_at ty a (after m (λ i t. ok (is ++ (i ∷ [])) t)) ≡ last_of ty (places a is) (a + length (items_bytes is)) m
+    go : (m : Reading Item) → items_at ty a (after m (λ i t. ok (is ++ (i ∷ [])) t)) ≡ last_of ty (places a is) (a + length (items_bytes is)) m
     go (ok i t) = ap₂ (accepted ty) (more_places is i a) (let l = more_bytes is i in omega arith)
     go (bad k at) = refl
 
