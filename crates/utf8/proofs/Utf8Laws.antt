@@ -1,26 +1,19 @@
 -- What holds of the definitions in specs/Utf8Laws.antt.
-use Rattle.std.specs.Prelude.{ℕ, zero, suc, ◌+◌, ◌≤◌, ◌<◌, ◌≡◌, refl, Bool, true, false, cond, ◌&&◌, List, [], ◌∷◌, length, drop, get_or, leb}
+use Rattle.std.specs.Prelude.{ℕ, zero, suc, ◌+◌, ◌≤◌, ◌<◌, ◌≡◌, refl, Bool, true, false, cond, List, [], ◌∷◌, length, drop, get_or, leb}
 use Rattle.std.proofs.Common.{arith, sym, ap, ◌∙◌, length-drop, drop_of_length-le, drop-cons, drop-drop, add-one}
 use Rattle.std.proofs.Math.Decide.{dec_le}
 use Rattle.std.proofs.Math.Dec.{leb-zero}
+use Rattle.std.proofs.lemmas.Bool.{and_parts}
 use borrow.Author.Tests.{le-leb, leb-true, ne_eqb, eq-eqb}
 use Rattle.utf8.specs.Utf8.{Range, ◌to◌, in_range, rows, fits, char_in, char, CharAt, chars, utf8, no_zero}
 use Rattle.utf8.specs.Utf8Laws.{least_of, greatest_of}
 
 -- ---- a character is there
 
-both_true : (a b : Bool) → (a && b) ≡ true → b ≡ true
-both_true true b e = e
-both_true false b e = absurd (let y : ◌≡◌ {A = ℕ} 0 1 = cc in omega arith)
-
-both_first : (a b : Bool) → (a && b) ≡ true → a ≡ true
-both_first true b e = refl
-both_first false b e = absurd (let y : ◌≡◌ {A = ℕ} 0 1 = cc in omega arith)
-
 pub fits_length : (rs : List Range) (bs : List ℕ) → fits rs bs ≡ true → length rs ≤ length bs
 fits_length [] bs e = omega arith
-fits_length (r ∷ rs) [] e = absurd (let y : ◌≡◌ {A = ℕ} 0 1 = cc in omega arith)
-fits_length (r ∷ rs) (b ∷ bs) e = let h = fits_length rs bs (both_true (in_range r b) (fits rs bs) e) in omega arith
+fits_length (r ∷ rs) [] e = cc
+fits_length (r ∷ rs) (b ∷ bs) e = let h = fits_length rs bs ((and_parts (in_range r b) (fits rs bs) e).1) in omega arith
 
 char_in_length : (rs : List (List Range)) (bs : List ℕ) → char_in rs bs ≤ length bs
 char_in_length [] bs = omega arith
@@ -42,10 +35,10 @@ skip zero bs h = refl
 skip (suc k) [] h = absurd (omega arith)
 skip (suc k) (b ∷ bs) h = skip k bs (omega arith)
 
-abbrev next : ℕ → List ℕ → Bool
+abbrev pub next : ℕ → List ℕ → Bool
 next n bs = elim n [ zero ↦ false | suc k ↦ chars k bs ]
 
-chars_cons : (b : ℕ) (bs : List ℕ) → chars 0 (b ∷ bs) ≡ next (char (b ∷ bs)) bs
+pub chars_cons : (b : ℕ) (bs : List ℕ) → chars 0 (b ∷ bs) ≡ next (char (b ∷ bs)) bs
 unfolding chars
 chars_cons b bs = refl
 
@@ -59,8 +52,8 @@ one_char (b ∷ bs) (suc k) e h =
 
 -- ---- the loop over the characters of s, i bytes on
 
-pub char_in_lem : {s : List ℕ} {i k : ℕ} → CharAt s i k → i ≤ length s → i + k ≤ length s
-char_in_lem {s} {i} {k} a h =
+pub char_in_lem : (s : List ℕ) (i k : ℕ) → i < length s → CharAt s i k → i + k ≤ length s
+char_in_lem s i k h a =
     let l = char_length (drop i s) in
     let d = length-drop i s in
     let e = a.is in
@@ -106,10 +99,10 @@ full_text (b ∷ bs) h =
 -- ---- a plain byte: one character, and not zero
 
 plain_low : (b : ℕ) {t : Bool} → t ≡ in_range (1 to 127) b → t ≡ true → 1 ≤ b
-plain_low b e h = leb-true 1 b (both_first (leb 1 b) (leb b 127) (sym e ∙ h))
+plain_low b e h = leb-true 1 b ((and_parts (leb 1 b) (leb b 127) (sym e ∙ h)).0)
 
 plain_high : (b : ℕ) {t : Bool} → t ≡ in_range (1 to 127) b → t ≡ true → b ≤ 127
-plain_high b e h = leb-true b 127 (both_true (leb 1 b) (leb b 127) (sym e ∙ h))
+plain_high b e h = leb-true b 127 ((and_parts (leb 1 b) (leb b 127) (sym e ∙ h)).1)
 
 module _ (s : List ℕ) (i : ℕ) {t x : Bool} (l : i < length s) (e : t ≡ in_range (1 to 127) (get_or s i 0)) (h : t ≡ true) where
   pub plain_turn : utf8 (drop i s) ≡ x → utf8 (drop (i + 1) s) ≡ x
