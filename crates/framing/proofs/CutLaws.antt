@@ -1,6 +1,6 @@
 -- What each way of cutting a stretch at a position answers, over plain variables.
 use Rattle.numbers.specs.Place.{Place}
-use Rattle.std.specs.Prelude.{ℕ, ◌+◌, ◌-◌, ◌≤◌, ◌<◌, ◌≡◌, refl, Bool, true, false, List, length, take, drop, Ok, Err}
+use Rattle.std.specs.Prelude.{ℕ, ◌+◌, ◌-◌, ◌≤◌, ◌<◌, ◌≡◌, refl, Bool, true, false, List, length, take, drop, Ok, Err, Result, Option, Some, None}
 use Rattle.std.proofs.Common.{arith, sym, ap, ◌∙◌, length-take-le, take_all, take-take}
 use Rattle.std.proofs.Math.ListN.{length-drop}
 use Rattle.std.proofs.Math.Seq.{take-length}
@@ -22,7 +22,6 @@ use Rattle.framing.specs.Stretch.{type_in, tag_in, table_for, answer_of, tail_in
 use Rattle.framing.specs.Headers.{Headed}
 use Rattle.framing.specs.Cuts.{between, WholeAt, CutAt}
 use Rattle.framing.specs.declared.Cut.{Cut}
-use Rattle.framing.specs.declared.Cut.TheVariants as C
 
 -- ---- numbers that are held
 
@@ -118,7 +117,7 @@ frame_same e1 e2 e3 e4 e5 e6 e7 = rw (e1, e2, e3, e4, e5, e6, e7)
 
 -- what the size, the type and the tag that are read there make of it
 pub whole_cut : {s : List ℕ} {p x e ty tag : ℕ} {q q' q'' : Place} {t : Bool} → NumRead 4 s (Ok p) x q → q ≡ Ok e → 7 ≤ x → Within p x (length s) t → t ≡ true
-    → NumRead 1 (between p (p + x) s) (Ok 4) ty q' → NumRead 2 (between p (p + x) s) (Ok 5) tag q'' → CutAt s p (C.Whole ty tag (p + x))
+    → NumRead 1 (between p (p + x) s) (Ok 4) ty q' → NumRead 2 (between p (p + x) s) (Ok 5) tag q'' → CutAt s p (Ok (Some (record { ty = ty; tag = tag; next = p + x })))
 unfolding CutAt
 whole_cut {s} {p} {x} r e h w g a b =
     let n : p + x - p ≡ x = omega arith in
@@ -162,22 +161,22 @@ answer_there {s} {p} {ty} {tag} {e} ts rs b w =
 -- ---- the ways of a cut
 
 module _ (s : List ℕ) (p : ℕ) where
-  pub ends_there : ((ts rs : List Row) → end p ≡ frame_at ts rs s p) → CutAt s p C.End
+  pub ends_there : ((ts rs : List Row) → end p ≡ frame_at ts rs s p) → CutAt s p (Ok None)
   unfolding CutAt
   ends_there e = e
 
-  pub stops_there : {k : Refusal} → ((ts rs : List Row) → stop k p ≡ frame_at ts rs s p) → CutAt s p (C.Refused k)
+  pub stops_there : {k : Refusal} → ((ts rs : List Row) → stop k p ≡ frame_at ts rs s p) → CutAt s p (Err k)
   unfolding CutAt
   stops_there e = e
 
-  pub cut_whole : {g : Cut} {ty tag e : ℕ} → CutAt s p g → g ≡ C.Whole ty tag e → WholeAt s p ty tag e
+  pub cut_whole : {g : Result (Option Cut) Refusal} {c : Cut} → CutAt s p g → g ≡ Ok (Some c) → WholeAt s p c.ty c.tag c.next
   unfolding CutAt
   cut_whole h e = rw e at h
 
-  pub cut_end : {g : Cut} → CutAt s p g → g ≡ C.End → (ts rs : List Row) → end p ≡ frame_at ts rs s p
+  pub cut_end : {g : Result (Option Cut) Refusal} → CutAt s p g → g ≡ Ok None → (ts rs : List Row) → end p ≡ frame_at ts rs s p
   unfolding CutAt
   cut_end h e = rw e at h
 
-  pub cut_stop : {g : Cut} {k : Refusal} → CutAt s p g → g ≡ C.Refused k → (ts rs : List Row) → stop k p ≡ frame_at ts rs s p
+  pub cut_stop : {g : Result (Option Cut) Refusal} {k : Refusal} → CutAt s p g → g ≡ Err k → (ts rs : List Row) → stop k p ≡ frame_at ts rs s p
   unfolding CutAt
   cut_stop h e = rw e at h

@@ -1,6 +1,6 @@
 -- The header's ways, and a frame read at places as the definition reads it.
 use Rattle.numbers.specs.Place.{Place}
-use Rattle.std.specs.Prelude.{ℕ, ◌+◌, ◌-◌, ◌≤◌, ◌<◌, min, ◌≡◌, refl, Bool, true, false, cond, List, length, take, drop, leb, Ok, Err}
+use Rattle.std.specs.Prelude.{ℕ, ◌+◌, ◌-◌, ◌≤◌, ◌<◌, min, ◌≡◌, refl, Bool, true, false, cond, List, length, take, drop, leb, Ok, Err, Result}
 use Rattle.std.proofs.Common.{arith, sym, ap, ◌∙◌, length-drop, length-take-le, take_all}
 use Rattle.std.proofs.Math.Nat.{min-eq_left, min-eq_right}
 use Rattle.std.proofs.Math.Seq.{take-length}
@@ -10,7 +10,6 @@ use Rattle.numbers.proofs.Numbers.{bytes_take}
 use Rattle.numbers.specs.Reading.{Reading, ok, bad, after, raw, read_num}
 use Rattle.numbers.proofs.ReadingLaws.{or_else}
 use Rattle.numbers.specs.Places.{read_at, NumRead}
-use Rattle.numbers.specs.PlaceLaws.{Held}
 use Rattle.numbers.proofs.PlaceLaws.{num_holds, num_refused}
 use Rattle.numbers.specs.declared.Refusal.{Refusal}
 use Rattle.numbers.specs.declared.Refusal.TheVariants as R
@@ -21,9 +20,8 @@ use Rattle.layouts.proofs.BodyLaws.{body_is}
 use Rattle.framing.specs.Frames.{Header, read_type_tag, read_header, headless, framed, read_frame}
 use Rattle.framing.specs.Headers.{Headed, HeadIs, Tagged, TypeTag}
 use Rattle.framing.specs.declared.Head.{Head}
-use Rattle.framing.specs.declared.Head.TheVariants as H
 
-at_is : {m n : ℕ} → Ok m ≡ Ok n → m ≡ n
+at_is : {m n : ℕ} → ◌≡◌ {A = Place} (Ok m) (Ok n) → m ≡ n
 at_is e = cc
 
 -- a number is refused with no place
@@ -113,10 +111,10 @@ module _ {s : List ℕ} {x e n : ℕ} {q : Place} (r : NumRead 4 s (Ok 0) x q) (
   pub header_cut : {k : Refusal} → read_type_tag (drop 4 (take n s)) ≡ bad k 0 → read_header s ≡ bad k 0
   header_cut f = header_is ∙ f
 
-  pub head_on : (g : Head) → TypeTag (take n s) g → HeadIs s g
+  pub head_on : (g : Result Head Refusal) → TypeTag (take n s) g → HeadIs s g
   unfolding TypeTag HeadIs
-  head_on (H.Held k ty tag) t = header_held t
-  head_on (H.Refused k) t = header_cut t
+  head_on (Ok h) t = header_held t
+  head_on (Err k) t = header_cut t
 
 -- ---- the frame
 
@@ -131,6 +129,6 @@ pub frame_headless : (s : List ℕ) {k : Refusal} (rs : List Row) → read_heade
 unfolding read_frame
 frame_headless s rs e = rw e
 
-pub head_yes : (s : List ℕ) {g : Head} {n ty tag : ℕ} → HeadIs s g → g ≡ H.Held n ty tag → Headed s n ty tag
+pub head_yes : (s : List ℕ) {g : Result Head Refusal} {h : Head} → HeadIs s g → g ≡ Ok h → Headed s h.len h.ty h.tag
 unfolding HeadIs
 head_yes s h e = rw e at h

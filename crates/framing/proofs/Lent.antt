@@ -1,5 +1,6 @@
 -- Where a frame that is written, or an element that is asked for, is refused with 5 or 6, a text among the lent bytes breaks at that place, counted
 -- from the first of them (F2.7).
+use Rattle.numbers.proofs.PlaceLaws.{refused_one}
 use Rattle.numbers.specs.Place.{Place}
 use Rattle.std.specs.Prelude.{ℕ, ◌+◌, ◌*◌, ◌≤◌, Bool, drop, leb, ltb, eqb, Ok, Err}
 use native.Mathlib.Omega.{arith}
@@ -136,13 +137,13 @@ module _ {k : Refusal} {n : ℕ} (t : OfText k) where
   -- a frame that is refused so was so by its fields
   past_bad : (ty tag : ℕ) (m : Reading (List Item)) (o : List ℕ) → frame_past ty tag m o ≡ Err (k, n) → m ≡ bad k n
   unfolding frame_past past_put
-  past_bad ty tag (bad j i) o e = cc e
+  past_bad ty tag (bad j i) o e = let f = refused_one e in ap₂ bad f.0 f.1
   past_bad ty tag (ok is r) o e = absurd (go (ltb (7 + length (items_bytes is)) limit) (leb (0 + length (frame_bytes ty tag is)) (length o)) e)
     where
-      go : (u w : Bool) → cond u (cond w (Ok (0 + length (frame_bytes ty tag is))) (Err (R.NoRoom, 0))) (Err (R.FrameTooLong, 0)) ≡ Err (k, n) → ⊥
+      go : (u w : Bool) → cond {A = Place} u (cond w (Ok (0 + length (frame_bytes ty tag is))) (Err (R.NoRoom, 0))) (Err (R.FrameTooLong, 0)) ≡ Err (k, n) → ⊥
       go true true f = let z : ◌≡◌ {A = ℕ} 0 1 = cc f in omega arith
-      go true false f = above t R.NoRoom (omega arith) (cc f)
-      go false w f = above t R.FrameTooLong (omega arith) (cc f)
+      go true false f = above t R.NoRoom (omega arith) (refused_one f).0
+      go false w f = above t R.FrameTooLong (omega arith) (refused_one f).0
 
 module _ {fs : Layout} {ty tag n : ℕ} {lent : List ℕ} {vs : List Value} {o o' : List ℕ} {q : Place} (b : Bytes lent) (w : FrameWritten fs ty tag lent vs o o' q) where
   pub written_five : q ≡ Err (R.NotUtf8, n) → NotUtf8In lent n

@@ -1,5 +1,5 @@
 -- What holds of the definitions in specs/ListingLaws.antt.
-use Prim.Native.Nat.{ℕ, zero, suc, pred, ◌+◌, ◌-◌, ◌≤◌, ◌<◌}
+use Prim.Native.Nat.{ℕ, zero, suc, pred, ◌+◌, ◌≤◌, ◌<◌}
 use native.Mathlib.Omega.{arith}
 use Rattle.std.proofs.Common.{add-zero, ◌∙◌, length-drop, drop-drop}
 use Rattle.std.proofs.Math.Path.{◌≡◌, sym, ap}

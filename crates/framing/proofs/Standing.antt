@@ -1,5 +1,5 @@
--- What holds of the definitions in specs/Standing.antt.
-use Rattle.std.specs.Prelude.{ℕ, ◌+◌, ◌-◌, ◌≤◌, min, ◌≡◌, List, length, take, drop}
+-- A frame that stands at a position, by its header; over any table.
+use Rattle.std.specs.Prelude.{ℕ, ◌+◌, ◌-◌, ◌≤◌, min, ◌≡◌, List, length, take, drop, Result, Ok, Err}
 use Rattle.std.proofs.Common.{arith, sym, ◌∙◌, length-drop, drop_of_length-le, take_all}
 use Rattle.std.proofs.Math.Nat.{min-eq_left, min-eq_right}
 use Rattle.std.proofs.Math.Path.{ap}
@@ -15,14 +15,6 @@ use Rattle.framing.proofs.RaisedLaws.{frame_there}
 use Rattle.framing.specs.Headers.{HeadIs}
 use Rattle.framing.proofs.HeaderLaws.{frame_headless, head_yes}
 use Rattle.framing.specs.declared.Head.{Head}
-use Rattle.framing.specs.declared.Head.TheVariants as H
-use Rattle.framing.specs.Standing.{Why}
-
-pub why_not : {h : Head} {n ty tag : ℕ} (k : Refusal) → h ≡ H.Held n ty tag → Why h k
-why_not k e = record { is = λ j f. absurd (let d = sym e ∙ f in let z : ◌≡◌ {A = ℕ} 0 1 = cc d in omega arith) }
-
-pub why_so : {h : Head} {k : Refusal} → h ≡ H.Refused k → Why h k
-why_so e = record { is = λ j f. (let d = sym e ∙ f in cc d) }
 
 -- a position past the end is the end
 same_bytes : (s : List ℕ) (p : ℕ) {at : ℕ} → at ≡ min p (length s) → drop at s ≡ drop p s
@@ -35,7 +27,7 @@ to_the_end : (s : List ℕ) (at : ℕ) → take (length s - at) (drop at s) ≡ 
 to_the_end s at = take_all (length s - at) (drop at s) (simp length-drop (omega arith))
 
 -- how the frame's own bytes lie in those that are held
-pub own_held : (s : List ℕ) (p : ℕ) {at n ty tag : ℕ} {g : Head} → at ≡ min p (length s) → HeadIs (take (length s - at) (drop at s)) g → g ≡ H.Held n ty tag → (7 ≤ n) × (at + n ≤ length s)
+pub own_held : (s : List ℕ) (p : ℕ) {at : ℕ} {g : Result Head Refusal} {x : Head} → at ≡ min p (length s) → HeadIs (take (length s - at) (drop at s)) g → g ≡ Ok x → (7 ≤ x.len) × (at + x.len ≤ length s)
 own_held s p {at} m h e =
     let y = head_yes (drop at s) (rw (to_the_end s at) at h) e in
     let a = y.seven in
@@ -43,15 +35,15 @@ own_held s p {at} m h e =
     let d = length-drop at s in
     (a, omega arith)
 
-module _ (s : List ℕ) (p : ℕ) {at : ℕ} (m : at ≡ min p (length s)) (g : Head) (h : HeadIs (take (length s - at) (drop at s)) g) where
-  pub no_header : (rows : List Row) {j k : Refusal} → g ≡ H.Refused j → Why g k → headless k 0 ≡ read_frame_at rows s p
+module _ (s : List ℕ) (p : ℕ) {at : ℕ} (m : at ≡ min p (length s)) (g : Result Head Refusal) (h : HeadIs (take (length s - at) (drop at s)) g) where
+  pub no_header : (rows : List Row) {k : Refusal} → g ≡ Err k → headless k 0 ≡ read_frame_at rows s p
   unfolding HeadIs read_frame_at
-  no_header rows {j} {k} e w =
-      let f : read_header (drop at s) ≡ bad k 0 = rw (e, to_the_end s at) at h ∙ ap (λ i. bad i 0) (sym (w.is j e)) in
+  no_header rows {k} e =
+      let f : read_header (drop at s) ≡ bad k 0 = rw (e, to_the_end s at) at h in
       ap (raise_frame p) (frame_headless (drop at s) rows f ∙ ap (read_frame rows) (same_bytes s p m))
 
-  pub header_there : (rows : List Row) {n ty tag : ℕ} → Bytes s → g ≡ H.Held n ty tag → framed at tag (body_from rows ty (take (at + n) s) at) ≡ read_frame_at rows s p
-  header_there rows {n} {ty} {tag} b e =
+  pub header_there : (rows : List Row) {x : Head} → Bytes s → g ≡ Ok x → framed at x.tag (body_from rows x.ty (take (at + x.len) s) at) ≡ read_frame_at rows s p
+  header_there rows {x} b e =
       let y = own_held s p m h e in
       let a = y.0 in
       let c = y.1 in

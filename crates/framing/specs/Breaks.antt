@@ -2,7 +2,6 @@
 -- a zero byte stands there and none before it.
 use Rattle.std.specs.Prelude.{ℕ, ◌+◌, ◌-◌, ◌≤◌, ◌<◌, ◌≡◌, true, false, List, length, take, get_or}
 use Rattle.utf8.specs.Utf8.{utf8}
-use Rattle.utf8.proofs.Longest.{longest}
 
 -- the text bs begins at a and breaks at n
 pub record NotUtf8At (a : ℕ) (bs : List ℕ) (n : ℕ) : Type 0 where

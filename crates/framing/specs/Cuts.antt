@@ -1,10 +1,10 @@
 -- What the answer says where a stretch is cut at a position.
-use Rattle.std.specs.Prelude.{ℕ, ◌+◌, ◌-◌, ◌≤◌, ◌≡◌, List, length, take, drop}
+use Rattle.std.specs.Prelude.{ℕ, ◌+◌, ◌-◌, ◌≤◌, ◌≡◌, List, length, take, drop, Result, Ok, Err, Option, Some, None}
 use Rattle.layouts.specs.Tables.{Row}
 use Rattle.framing.specs.Local.{size_in}
 use Rattle.framing.specs.Stretch.{type_in, tag_in, end, stop, listed_frame, frame_at}
+use Rattle.numbers.specs.declared.Refusal.{Refusal}
 use Rattle.framing.specs.declared.Cut.{Cut}
-use Rattle.framing.specs.declared.Cut.TheVariants as C
 
 -- the bytes from a position to the next
 abbrev pub between : ℕ → ℕ → List ℕ → List ℕ
@@ -20,7 +20,7 @@ pub record WholeAt (s : List ℕ) (p k g e : ℕ) : Type 0 where
   pub is : (ts rs : List Row) → listed_frame ts rs p (between p e s) ≡ frame_at ts rs s p
 
 -- how a stretch is cut at a position, whatever the tables: no body is looked at
-unfoldable pub CutAt : List ℕ → ℕ → Cut → Type 0
-CutAt s p (C.Whole ty tag e) = WholeAt s p ty tag e
-CutAt s p C.End = (ts rs : List Row) → end p ≡ frame_at ts rs s p
-CutAt s p (C.Refused k) = (ts rs : List Row) → stop k p ≡ frame_at ts rs s p
+unfoldable pub CutAt : List ℕ → ℕ → Result (Option Cut) Refusal → Type 0
+CutAt s p (Ok (Some c)) = WholeAt s p c.ty c.tag c.next
+CutAt s p (Ok None) = (ts rs : List Row) → end p ≡ frame_at ts rs s p
+CutAt s p (Err k) = (ts rs : List Row) → stop k p ≡ frame_at ts rs s p

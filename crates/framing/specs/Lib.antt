@@ -19,4 +19,3 @@ pub mod Damage
 pub mod DamageLaws
 pub mod Limits
 pub mod Dialects
-pub mod Standing

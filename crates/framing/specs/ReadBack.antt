@@ -1,6 +1,6 @@
 -- Demand 3, of one frame and over any table: what is written reads back.
 use Rattle.std.specs.Prelude.{ℕ, suc, ◌+◌, ◌^◌, ◌<◌, ◌≡◌, List, [], ◌∷◌, ◌++◌, length, drop}
-use Rattle.numbers.specs.Reading.{Reading, ok, after}
+use Rattle.numbers.specs.Reading.{Reading, ok}
 use Rattle.fields.specs.Layouts.{Shape, fixed, worded, Field, num, str, dat, strs, quids, boxed, Layout, Item, most, items_bytes}
 use Rattle.fields.specs.Values.{Slot, slot_num, first_slot, other_slots, slots_of, Value, num_of, len_of, first_of, others_of, shows}
 use Rattle.laying.specs.Laying.{limit}

@@ -1,5 +1,5 @@
 -- Demand 3, of one frame and over any table: a stripped frame gives the same record, and is written back byte for byte; a cut one is refused as short.
-use Rattle.std.specs.Prelude.{ℕ, ◌+◌, cond, ltb}
+use Rattle.std.specs.Prelude.{ℕ, cond, ltb}
 use mathlib.Core.List.{List, ◌++◌}
 use Rattle.std.proofs.Math.ListN.{take, drop}
 use Rattle.numbers.specs.Numbers.{to_le}

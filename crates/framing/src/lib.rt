@@ -20,70 +20,56 @@ const HEADER: usize = BODY;
 // A size counts its own four bytes.
 const LEAST_SIZE: u32 = 4;
 
-// A header: how many bytes of the slice are the frame's, its type and its tag; or why it can't be read.
+// A header: how many bytes of the slice are the frame's, its type and its tag.
 #[derive(Clone, Copy)]
-pub enum Head {
-    Held(usize, u8, u16),
-    Refused(Refusal),
-}
-
-// How many bytes of those that are held are the frame's own.
-fn own(size: u32, held: usize) -> usize
-    ensures { result ≡ min size held }
-{
-    numbers::min(size as usize, held)
+pub struct Head {
+    pub len: usize,
+    pub ty: u8,
+    pub tag: u16,
 }
 
 // After the size: the type and the tag, of the frame's own bytes.
-fn type_and_tag(held: &[u8]) -> Head
+fn type_and_tag(held: &[u8]) -> Result<Head, Refusal>
     ensures { TypeTag held.now result }
 {
-    let t = numbers::read_u8(held, Ok(4));
-    let a = t.next;
-    let g = numbers::read_u16(held, a);
-    let b = g.next;
-    match b {
-        Ok(_) => Head::Held(held.len(), t.value, g.value),
-        Err(Fault(k, _)) => Head::Refused(k),
-    }
+    let ty = numbers::read_u8(held, Ok(4));
+    let tag = numbers::read_u16(held, ty.next);
+    tag.next?;
+    Ok(Head {
+        len: held.len(),
+        ty: ty.value,
+        tag: tag.value,
+    })
 }
 
 // size[4]; size 0 to 3 refused; type; tag.
-pub fn read_header(s: &[u8]) -> Head
+pub fn read_header(s: &[u8]) -> Result<Head, Refusal>
     ensures { HeadIs s.now result }
 {
     let size = numbers::read_u32(s, Ok(0));
-    let a = size.next;
-    match a {
-        Ok(_) => {
-            if size.value < LEAST_SIZE {
-                return Head::Refused(Refusal::SizeBelowFour);
-            }
-            let limit = own(size.value, s.len());
-            type_and_tag(&s[..limit])
-        }
-        Err(Fault(k, _)) => Head::Refused(k),
+    size.next?;
+    if size.value < LEAST_SIZE {
+        return Err(Refusal::SizeBelowFour);
     }
+    let own = (size.value as usize).min(s.len());
+    type_and_tag(&s[..own])
 }
 
 // Where the body begins of a frame that stands from `at` to the end of the bytes; 1 where they end before.
 pub fn body_at(s: &[u8], at: usize) -> Place
     ensures { result ≡ body_place (length s.now) at }
 {
-    if numbers::within(at, BODY, s.len()) {
-        return Ok(at + BODY);
+    if !numbers::within(at, BODY, s.len()) {
+        return Err(Fault(Refusal::Short, 0));
     }
-    Err(Fault(Refusal::Short, 0))
+    Ok(at + BODY)
 }
 
 // How many bytes of the frame at `at` are used where its fields end: they are no position. A refusal stays as it is.
 pub fn used(at: usize, end: Place) -> Place
     ensures { result ≡ since at end }
 {
-    let Ok(n) = end else {
-        return end;
-    };
-    Ok(numbers::saturating_sub(n, at))
+    Ok(end?.saturating_sub(at))
 }
 
 // The header in front of a body that ends at `end`: 11 where there is no room for it, and nothing is put where the body was refused. Size
@@ -91,51 +77,52 @@ pub fn used(at: usize, end: Place) -> Place
 pub fn put_header(out: &mut [u8], end: Place, ty: u8, tag: u16) -> Place
     ensures { HeadPut ty tag end out.old out.new result }
 {
-    let Ok(n) = end else {
-        return end;
-    };
+    let n = end?;
     if out.len() < HEADER {
         return Err(Fault(Refusal::NoRoom, 0));
     }
-    let a = numbers::put_num(out, Ok(0), n as u64, 4);
-    let b = numbers::put_u8(out, a, ty);
-    numbers::put_u16(out, b, tag);
+    let after_size = numbers::put_num(out, Ok(0), n as u64, 4);
+    let after_type = numbers::put_u8(out, after_size, ty);
+    let _ = numbers::put_u16(out, after_type, tag);
     Ok(n)
 }
 
-// How a stretch is cut at a position: a whole frame, told by its type, its tag and the next position; the end; or 12, 13. Its body is
-// not looked at.
+// A whole frame of a stretch: its type, its tag and the next position.
 #[derive(Clone, Copy)]
-pub enum Cut {
-    Whole(u8, u16, usize),
-    End,
-    Refused(Refusal),
+pub struct Cut {
+    pub ty: u8,
+    pub tag: u16,
+    pub next: usize,
 }
 
-pub fn cut_at(bytes: &[u8], position: usize) -> Cut
+// How a stretch is cut at a position: a whole frame, whose body is not looked at; none at the end; or 12, 13.
+pub fn cut_at(bytes: &[u8], position: usize) -> Result<Option<Cut>, Refusal>
     ensures { CutAt bytes.now position result }
 {
     if bytes.len() < position {
-        return Cut::Refused(Refusal::StretchCut);
+        return Err(Refusal::StretchCut);
     }
     if bytes.len() == position {
-        return Cut::End;
+        return Ok(None);
     }
     let size = numbers::read_u32(bytes, Ok(position));
-    let a = size.next;
-    let Ok(_) = a else {
-        return Cut::Refused(Refusal::StretchCut);
+    let Ok(_) = size.next else {
+        return Err(Refusal::StretchCut);
     };
     if size.value < 7 {
-        return Cut::Refused(Refusal::StretchSize);
+        return Err(Refusal::StretchSize);
     }
     let len = size.value as usize;
-    if numbers::within(position, len, bytes.len()) {
-        let next = position + len;
-        let frame = &bytes[position..next];
-        let ty = numbers::read_u8(frame, Ok(4));
-        let tag = numbers::read_u16(frame, Ok(5));
-        return Cut::Whole(ty.value, tag.value, next);
+    if !numbers::within(position, len, bytes.len()) {
+        return Err(Refusal::StretchCut);
     }
-    Cut::Refused(Refusal::StretchCut)
+    let next = position + len;
+    let frame = &bytes[position..next];
+    let ty = numbers::read_u8(frame, Ok(4));
+    let tag = numbers::read_u16(frame, Ok(5));
+    Ok(Some(Cut {
+        ty: ty.value,
+        tag: tag.value,
+        next,
+    }))
 }

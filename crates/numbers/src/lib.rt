@@ -50,6 +50,15 @@ pub fn number(k: Refusal) -> u8
 #[derive(Clone, Copy, Debug, PartialEq, Eq)]
 pub struct Fault(pub Refusal, pub usize);
 
+// The refusal alone, for who knows the place.
+impl From<Fault> for Refusal {
+    ghost from_gives = { λ f k. k ≡ f.0 };
+
+    fn from(f: Fault) -> Refusal {
+        f.0
+    }
+}
+
 // Where a reading or a writing stands: at a position, or refused. It goes through the fields by value, so that a record's reader is one
 // straight line: whatever is asked at a refused place answers the same refusal.
 pub type Place = Result<usize, Fault>;

@@ -15,10 +15,10 @@ returns-in_default c = stops_there _ _ (λ ts rs. at_cut ts rs _ _ (omega arith)
 pub returns-then-size-lt7 : goal.returns-then-size-lt7
 returns-then-size-lt7 c = stops_there _ _ (λ ts rs. at_small ts rs _ _ c.read_u32-size.ensures c.in-Ok.is c.if-size-lt7.true)
 
-pub returns-then-within : goal.returns-then-within
-returns-then-within c =
-    whole_cut c.read_u32-size.ensures c.in-Ok.is c.if-size-lt7.false c.within.ensures c.if-within.true c.read_u8-ty.ensures c.read_u16-tag.ensures
+pub returns-then-not-within : goal.returns-then-not-within
+returns-then-not-within c =
+    stops_there _ _ (λ ts rs. at_long ts rs _ _ c.read_u32-size.ensures c.in-Ok.is c.if-size-lt7.false c.within.ensures c.if-not-within.true)
 
 pub returns : goal.returns
 returns c =
-    stops_there _ _ (λ ts rs. at_long ts rs _ _ c.read_u32-size.ensures c.in-Ok.is c.if-size-lt7.false c.within.ensures c.if-within.false)
+    whole_cut c.read_u32-size.ensures c.in-Ok.is c.if-size-lt7.false c.within.ensures c.if-not-within.false c.read_u8-ty.ensures c.read_u16-tag.ensures

@@ -1,13 +1,13 @@
--- The frame's bytes hold both, or they end before.
+-- The frame's bytes end before both, or hold them.
+use Rattle.std.proofs.lemmas.Result.{err_from_is_err_and}
 use Rattle.framing.specs.Headers.{TypeTag}
 use Rattle.framing.proofs.HeaderLaws.{tagged, untagged}
 use Rattle.framing.proofs.type_and_tag.Goals as goal
 
-pub returns-in-Ok : goal.returns-in-Ok
+pub returns-in_err-tag : goal.returns-in_err-tag
 unfolding TypeTag
-returns-in-Ok c = tagged c.read_u8-t.ensures c.read_u16-g.ensures c.in-Ok.is
+returns-in_err-tag c = let e = err_from_is_err_and c.from_residual.result c.from_residual.ensures.1 in rw (e.1, e.2) (untagged c.read_u8-ty.ensures c.read_u16-tag.ensures c.in_err-tag.was)
 
-pub returns-in-Refused : goal.returns-in-Refused
+pub returns : goal.returns
 unfolding TypeTag
-returns-in-Refused c =
-    untagged c.read_u8-t.ensures c.read_u16-g.ensures c.in-Refused.is
+returns c = tagged c.read_u8-ty.ensures c.read_u16-tag.ensures c.in_ok-tag.was
