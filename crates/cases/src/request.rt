@@ -8,11 +8,11 @@ use requests::Tbody;
 fn body(out: &mut [u8], ty: u8, p: Place, s: &[u8]) -> Place {
     let b = requests::read_tmessage(s, ty, p);
     match b {
-        Tbody::Message(m, end) => {
+        Ok((m, end)) => {
             questions::at(0, end);
             requests::write_tmessage(out, p, s, m)
         }
-        Tbody::Refused(k, n) => Err(Fault(k, n)),
+        Err(Fault(k, n)) => Err(Fault(k, n)),
     }
 }
 
@@ -24,8 +24,8 @@ fn frame(s: &[u8], ty: u8, out: &mut [u8]) -> Place {
             let tag = f.tag;
             let msg = f.msg;
             match msg {
-                Tbody::Message(_, used) => questions::head(0, ty, tag.0, true, used),
-                Tbody::Refused(k, _) => questions::head(numbers::number(k), 0, tag.0, true, 0),
+                Ok((_, used)) => questions::head(0, ty, tag.0, true, used),
+                Err(Fault(k, _)) => questions::head(numbers::number(k), 0, tag.0, true, 0),
             }
             frames::write_tframe(out, s, f)
         }

@@ -20,19 +20,17 @@ pub struct Tread {
 pub fn read_tread(s: &[u8], p: Place) -> Read<Tread>
     ensures { Fields layout_tread s.now p (tread result.value) result.next }
 {
-    let r1 = numbers::read_u32(s, p);
-    let p1 = r1.next;
-    let fid = Fid(r1.value);
-    let r2 = numbers::read_u64(s, p1);
-    let p2 = r2.next;
-    let r3 = numbers::read_u32(s, p2);
-    let p3 = r3.next;
-    let value = Tread {
-        fid,
-        offset: r2.value,
-        count: r3.value,
-    };
-    Read { value, next: p3 }
+    let fid = numbers::read_u32(s, p);
+    let offset = numbers::read_u64(s, fid.next);
+    let count = numbers::read_u32(s, offset.next);
+    Read {
+        value: Tread {
+            fid: Fid(fid.value),
+            offset: offset.value,
+            count: count.value,
+        },
+        next: count.next,
+    }
 }
 
 pub fn write_tread(out: &mut [u8], p: Place, lent: &[u8], m: Tread) -> Place
@@ -40,8 +38,7 @@ pub fn write_tread(out: &mut [u8], p: Place, lent: &[u8], m: Tread) -> Place
 {
     let end = laying::advanced(p, 16);
     let start = laying::begun(p, end, out.len());
-    let fid = m.fid;
-    let q1 = numbers::put_u32(out, start, fid.0);
+    let q1 = numbers::put_u32(out, start, m.fid.0);
     let q2 = numbers::put_u64(out, q1, m.offset);
     numbers::put_u32(out, q2, m.count)
 }
@@ -54,21 +51,20 @@ pub struct Rread {
 pub fn read_rread(s: &[u8], p: Place) -> Read<Rread>
     ensures { Fields layout_rread s.now p (rread result.value) result.next }
 {
-    let r1 = fields::read_data(s, p);
-    let p1 = r1.next;
-    let data = r1.value;
-    let value = Rread { data };
-    Read { value, next: p1 }
+    let data = fields::read_data(s, p);
+    Read {
+        value: Rread { data: data.value },
+        next: data.next,
+    }
 }
 
 pub fn write_rread(out: &mut [u8], p: Place, lent: &[u8], m: Rread) -> Place
     ensures { Written layout_rread lent.now (rread m) out.old p out.new result }
 {
-    let data = m.data;
-    let end = laying::measure_data(lent, data, p);
+    let end = laying::measure_data(lent, m.data, p);
     let start = laying::begun(p, end, out.len());
-    let q1 = numbers::put_num(out, start, data.len as u64, 4);
-    strings::put_bytes(out, q1, lent, data)
+    let q1 = numbers::put_num(out, start, m.data.len as u64, 4);
+    strings::put_bytes(out, q1, lent, m.data)
 }
 
 #[derive(Clone, Copy)]
@@ -81,34 +77,29 @@ pub struct Twrite {
 pub fn read_twrite(s: &[u8], p: Place) -> Read<Twrite>
     ensures { Fields layout_twrite s.now p (twrite result.value) result.next }
 {
-    let r1 = numbers::read_u32(s, p);
-    let p1 = r1.next;
-    let fid = Fid(r1.value);
-    let r2 = numbers::read_u64(s, p1);
-    let p2 = r2.next;
-    let r3 = fields::read_data(s, p2);
-    let p3 = r3.next;
-    let data = r3.value;
-    let value = Twrite {
-        fid,
-        offset: r2.value,
-        data,
-    };
-    Read { value, next: p3 }
+    let fid = numbers::read_u32(s, p);
+    let offset = numbers::read_u64(s, fid.next);
+    let data = fields::read_data(s, offset.next);
+    Read {
+        value: Twrite {
+            fid: Fid(fid.value),
+            offset: offset.value,
+            data: data.value,
+        },
+        next: data.next,
+    }
 }
 
 pub fn write_twrite(out: &mut [u8], p: Place, lent: &[u8], m: Twrite) -> Place
     ensures { Written layout_twrite lent.now (twrite m) out.old p out.new result }
 {
     let p1 = laying::advanced(p, 12);
-    let data = m.data;
-    let end = laying::measure_data(lent, data, p1);
+    let end = laying::measure_data(lent, m.data, p1);
     let start = laying::begun(p, end, out.len());
-    let fid = m.fid;
-    let q1 = numbers::put_u32(out, start, fid.0);
+    let q1 = numbers::put_u32(out, start, m.fid.0);
     let q2 = numbers::put_u64(out, q1, m.offset);
-    let q3 = numbers::put_num(out, q2, data.len as u64, 4);
-    strings::put_bytes(out, q3, lent, data)
+    let q3 = numbers::put_num(out, q2, m.data.len as u64, 4);
+    strings::put_bytes(out, q3, lent, m.data)
 }
 
 #[derive(Clone, Copy)]
@@ -119,10 +110,11 @@ pub struct Rwrite {
 pub fn read_rwrite(s: &[u8], p: Place) -> Read<Rwrite>
     ensures { Fields layout_rwrite s.now p (rwrite result.value) result.next }
 {
-    let r1 = numbers::read_u32(s, p);
-    let p1 = r1.next;
-    let value = Rwrite { count: r1.value };
-    Read { value, next: p1 }
+    let count = numbers::read_u32(s, p);
+    Read {
+        value: Rwrite { count: count.value },
+        next: count.next,
+    }
 }
 
 pub fn write_rwrite(out: &mut [u8], p: Place, lent: &[u8], m: Rwrite) -> Place
@@ -141,11 +133,13 @@ pub struct Tremove {
 pub fn read_tremove(s: &[u8], p: Place) -> Read<Tremove>
     ensures { Fields layout_tremove s.now p (tremove result.value) result.next }
 {
-    let r1 = numbers::read_u32(s, p);
-    let p1 = r1.next;
-    let fid = Fid(r1.value);
-    let value = Tremove { fid };
-    Read { value, next: p1 }
+    let fid = numbers::read_u32(s, p);
+    Read {
+        value: Tremove {
+            fid: Fid(fid.value),
+        },
+        next: fid.next,
+    }
 }
 
 pub fn write_tremove(out: &mut [u8], p: Place, lent: &[u8], m: Tremove) -> Place
@@ -153,6 +147,5 @@ pub fn write_tremove(out: &mut [u8], p: Place, lent: &[u8], m: Tremove) -> Place
 {
     let end = laying::advanced(p, 4);
     let start = laying::begun(p, end, out.len());
-    let fid = m.fid;
-    numbers::put_u32(out, start, fid.0)
+    numbers::put_u32(out, start, m.fid.0)
 }

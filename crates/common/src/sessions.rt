@@ -21,28 +21,26 @@ pub struct Tversion {
 pub fn read_tversion(s: &[u8], p: Place) -> Read<Tversion>
     ensures { Fields layout_tversion s.now p (tversion result.value) result.next }
 {
-    let r1 = numbers::read_u32(s, p);
-    let p1 = r1.next;
-    let r2 = strings::read_str(s, p1);
-    let p2 = r2.next;
-    let version = r2.value;
-    let value = Tversion {
-        msize: r1.value,
-        version,
-    };
-    Read { value, next: p2 }
+    let msize = numbers::read_u32(s, p);
+    let version = strings::read_str(s, msize.next);
+    Read {
+        value: Tversion {
+            msize: msize.value,
+            version: version.value,
+        },
+        next: version.next,
+    }
 }
 
 pub fn write_tversion(out: &mut [u8], p: Place, lent: &[u8], m: Tversion) -> Place
     ensures { Written layout_tversion lent.now (tversion m) out.old p out.new result }
 {
     let p1 = laying::advanced(p, 4);
-    let version = m.version;
-    let end = laying::measure_str(lent, version, p1);
+    let end = laying::measure_str(lent, m.version, p1);
     let start = laying::begun(p, end, out.len());
     let q1 = numbers::put_u32(out, start, m.msize);
-    let q2 = numbers::put_num(out, q1, version.len as u64, 2);
-    strings::put_bytes(out, q2, lent, version)
+    let q2 = numbers::put_num(out, q1, m.version.len as u64, 2);
+    strings::put_bytes(out, q2, lent, m.version)
 }
 
 #[derive(Clone, Copy)]
@@ -54,28 +52,26 @@ pub struct Rversion {
 pub fn read_rversion(s: &[u8], p: Place) -> Read<Rversion>
     ensures { Fields layout_rversion s.now p (rversion result.value) result.next }
 {
-    let r1 = numbers::read_u32(s, p);
-    let p1 = r1.next;
-    let r2 = strings::read_str(s, p1);
-    let p2 = r2.next;
-    let version = r2.value;
-    let value = Rversion {
-        msize: r1.value,
-        version,
-    };
-    Read { value, next: p2 }
+    let msize = numbers::read_u32(s, p);
+    let version = strings::read_str(s, msize.next);
+    Read {
+        value: Rversion {
+            msize: msize.value,
+            version: version.value,
+        },
+        next: version.next,
+    }
 }
 
 pub fn write_rversion(out: &mut [u8], p: Place, lent: &[u8], m: Rversion) -> Place
     ensures { Written layout_rversion lent.now (rversion m) out.old p out.new result }
 {
     let p1 = laying::advanced(p, 4);
-    let version = m.version;
-    let end = laying::measure_str(lent, version, p1);
+    let end = laying::measure_str(lent, m.version, p1);
     let start = laying::begun(p, end, out.len());
     let q1 = numbers::put_u32(out, start, m.msize);
-    let q2 = numbers::put_num(out, q1, version.len as u64, 2);
-    strings::put_bytes(out, q2, lent, version)
+    let q2 = numbers::put_num(out, q1, m.version.len as u64, 2);
+    strings::put_bytes(out, q2, lent, m.version)
 }
 
 #[derive(Clone, Copy)]
@@ -86,11 +82,11 @@ pub struct Rauth {
 pub fn read_rauth(s: &[u8], p: Place) -> Read<Rauth>
     ensures { Fields layout_rauth s.now p (rauth result.value) result.next }
 {
-    let r1 = qids::read_qid(s, p);
-    let p1 = r1.next;
-    let aqid = r1.value;
-    let value = Rauth { aqid };
-    Read { value, next: p1 }
+    let aqid = qids::read_qid(s, p);
+    Read {
+        value: Rauth { aqid: aqid.value },
+        next: aqid.next,
+    }
 }
 
 pub fn write_rauth(out: &mut [u8], p: Place, lent: &[u8], m: Rauth) -> Place
@@ -98,10 +94,9 @@ pub fn write_rauth(out: &mut [u8], p: Place, lent: &[u8], m: Rauth) -> Place
 {
     let end = laying::advanced(p, 13);
     let start = laying::begun(p, end, out.len());
-    let aqid = m.aqid;
-    let q1 = numbers::put_u8(out, start, aqid.ty);
-    let q2 = numbers::put_u32(out, q1, aqid.version);
-    numbers::put_u64(out, q2, aqid.path)
+    let q1 = numbers::put_u8(out, start, m.aqid.ty);
+    let q2 = numbers::put_u32(out, q1, m.aqid.version);
+    numbers::put_u64(out, q2, m.aqid.path)
 }
 
 #[derive(Clone, Copy)]
@@ -112,11 +107,11 @@ pub struct Rattach {
 pub fn read_rattach(s: &[u8], p: Place) -> Read<Rattach>
     ensures { Fields layout_rattach s.now p (rattach result.value) result.next }
 {
-    let r1 = qids::read_qid(s, p);
-    let p1 = r1.next;
-    let qid = r1.value;
-    let value = Rattach { qid };
-    Read { value, next: p1 }
+    let qid = qids::read_qid(s, p);
+    Read {
+        value: Rattach { qid: qid.value },
+        next: qid.next,
+    }
 }
 
 pub fn write_rattach(out: &mut [u8], p: Place, lent: &[u8], m: Rattach) -> Place
@@ -124,10 +119,9 @@ pub fn write_rattach(out: &mut [u8], p: Place, lent: &[u8], m: Rattach) -> Place
 {
     let end = laying::advanced(p, 13);
     let start = laying::begun(p, end, out.len());
-    let qid = m.qid;
-    let q1 = numbers::put_u8(out, start, qid.ty);
-    let q2 = numbers::put_u32(out, q1, qid.version);
-    numbers::put_u64(out, q2, qid.path)
+    let q1 = numbers::put_u8(out, start, m.qid.ty);
+    let q2 = numbers::put_u32(out, q1, m.qid.version);
+    numbers::put_u64(out, q2, m.qid.path)
 }
 
 #[derive(Clone, Copy)]
@@ -138,11 +132,13 @@ pub struct Tflush {
 pub fn read_tflush(s: &[u8], p: Place) -> Read<Tflush>
     ensures { Fields layout_tflush s.now p (tflush result.value) result.next }
 {
-    let r1 = numbers::read_u16(s, p);
-    let p1 = r1.next;
-    let oldtag = Tag(r1.value);
-    let value = Tflush { oldtag };
-    Read { value, next: p1 }
+    let oldtag = numbers::read_u16(s, p);
+    Read {
+        value: Tflush {
+            oldtag: Tag(oldtag.value),
+        },
+        next: oldtag.next,
+    }
 }
 
 pub fn write_tflush(out: &mut [u8], p: Place, lent: &[u8], m: Tflush) -> Place
@@ -150,8 +146,7 @@ pub fn write_tflush(out: &mut [u8], p: Place, lent: &[u8], m: Tflush) -> Place
 {
     let end = laying::advanced(p, 2);
     let start = laying::begun(p, end, out.len());
-    let oldtag = m.oldtag;
-    numbers::put_u16(out, start, oldtag.0)
+    numbers::put_u16(out, start, m.oldtag.0)
 }
 
 #[derive(Clone, Copy)]
@@ -162,11 +157,13 @@ pub struct Tclunk {
 pub fn read_tclunk(s: &[u8], p: Place) -> Read<Tclunk>
     ensures { Fields layout_tclunk s.now p (tclunk result.value) result.next }
 {
-    let r1 = numbers::read_u32(s, p);
-    let p1 = r1.next;
-    let fid = Fid(r1.value);
-    let value = Tclunk { fid };
-    Read { value, next: p1 }
+    let fid = numbers::read_u32(s, p);
+    Read {
+        value: Tclunk {
+            fid: Fid(fid.value),
+        },
+        next: fid.next,
+    }
 }
 
 pub fn write_tclunk(out: &mut [u8], p: Place, lent: &[u8], m: Tclunk) -> Place
@@ -174,6 +171,5 @@ pub fn write_tclunk(out: &mut [u8], p: Place, lent: &[u8], m: Tclunk) -> Place
 {
     let end = laying::advanced(p, 4);
     let start = laying::begun(p, end, out.len());
-    let fid = m.fid;
-    numbers::put_u32(out, start, fid.0)
+    numbers::put_u32(out, start, m.fid.0)
 }

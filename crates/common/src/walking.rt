@@ -20,37 +20,29 @@ pub struct Twalk {
 pub fn read_twalk(s: &[u8], p: Place) -> Read<Twalk>
     ensures { Fields layout_twalk s.now p (twalk result.value) result.next }
 {
-    let r1 = numbers::read_u32(s, p);
-    let p1 = r1.next;
-    let fid = Fid(r1.value);
-    let r2 = numbers::read_u32(s, p1);
-    let p2 = r2.next;
-    let newfid = Fid(r2.value);
-    let r3 = fields::read_names(s, p2);
-    let p3 = r3.next;
-    let wnames = r3.value;
-    let value = Twalk {
-        fid,
-        newfid,
-        wnames,
-    };
-    Read { value, next: p3 }
+    let fid = numbers::read_u32(s, p);
+    let newfid = numbers::read_u32(s, fid.next);
+    let wnames = fields::read_names(s, newfid.next);
+    Read {
+        value: Twalk {
+            fid: Fid(fid.value),
+            newfid: Fid(newfid.value),
+            wnames: wnames.value,
+        },
+        next: wnames.next,
+    }
 }
 
 pub fn write_twalk(out: &mut [u8], p: Place, lent: &[u8], m: Twalk) -> Place
     ensures { Written layout_twalk lent.now (twalk m) out.old p out.new result }
 {
     let p1 = laying::advanced(p, 8);
-    let wnames = m.wnames;
-    let end = laying::measure_names(lent, wnames, p1);
+    let end = laying::measure_names(lent, m.wnames, p1);
     let start = laying::begun(p, end, out.len());
-    let fid = m.fid;
-    let q1 = numbers::put_u32(out, start, fid.0);
-    let newfid = m.newfid;
-    let q2 = numbers::put_u32(out, q1, newfid.0);
-    let q3 = numbers::put_u16(out, q2, wnames.count);
-    let elements = wnames.elements;
-    strings::put_bytes(out, q3, lent, elements)
+    let q1 = numbers::put_u32(out, start, m.fid.0);
+    let q2 = numbers::put_u32(out, q1, m.newfid.0);
+    let q3 = numbers::put_u16(out, q2, m.wnames.count);
+    strings::put_bytes(out, q3, lent, m.wnames.elements)
 }
 
 #[derive(Clone, Copy)]
@@ -61,20 +53,18 @@ pub struct Rwalk {
 pub fn read_rwalk(s: &[u8], p: Place) -> Read<Rwalk>
     ensures { Fields layout_rwalk s.now p (rwalk result.value) result.next }
 {
-    let r1 = fields::read_qids(s, p);
-    let p1 = r1.next;
-    let wqids = r1.value;
-    let value = Rwalk { wqids };
-    Read { value, next: p1 }
+    let wqids = fields::read_qids(s, p);
+    Read {
+        value: Rwalk { wqids: wqids.value },
+        next: wqids.next,
+    }
 }
 
 pub fn write_rwalk(out: &mut [u8], p: Place, lent: &[u8], m: Rwalk) -> Place
     ensures { Written layout_rwalk lent.now (rwalk m) out.old p out.new result }
 {
-    let wqids = m.wqids;
-    let end = laying::measure_qids(lent, wqids, p);
+    let end = laying::measure_qids(lent, m.wqids, p);
     let start = laying::begun(p, end, out.len());
-    let q1 = numbers::put_u16(out, start, wqids.count);
-    let elements = wqids.elements;
-    strings::put_bytes(out, q1, lent, elements)
+    let q1 = numbers::put_u16(out, start, m.wqids.count);
+    strings::put_bytes(out, q1, lent, m.wqids.elements)
 }

@@ -1,4 +1,5 @@
 -- For each way through the code: what the definition says there.
+use Rattle.std.specs.Prelude.{Ok, Err}
 use Prim.Native.Nat.{ℕ, ◌%◌}
 use mathlib.Core.Path.{◌≡◌, refl, ◌∙◌}
 use mathlib.Core.Bool.{true, false}
@@ -14,17 +15,13 @@ use Rattle.messages.specs.declared.files.Tlcreate.{Tlcreate}
 use Rattle.messages.specs.declared.sessions.Tattach.{Tattach}
 use Rattle.metadata.specs.Records.{txattrwalk}
 use Rattle.metadata.specs.declared.attributes.Txattrwalk.{Txattrwalk}
-use Rattle.requests.specs.Views.{type_t, values_t, view_t}
+use Rattle.requests.specs.Views.{type_t, values_t, view_t, Tbody}
 use Rattle.requests.specs.declared.Tmessage.{Tmessage}
 use Rattle.requests.specs.declared.Tmessage.TheVariants as M
-use Rattle.requests.specs.declared.Tbody.{Tbody}
-use Rattle.requests.specs.declared.Tbody.TheVariants as T
 use Rattle.common.specs.declared.walking.Rwalk.{Rwalk}
-use Rattle.replies.specs.Views.{type_r, values_r, view_r}
+use Rattle.replies.specs.Views.{type_r, values_r, view_r, Rbody}
 use Rattle.replies.specs.declared.Rmessage.{Rmessage}
 use Rattle.replies.specs.declared.Rmessage.TheVariants as N
-use Rattle.replies.specs.declared.Rbody.{Rbody}
-use Rattle.replies.specs.declared.Rbody.TheVariants as Q
 use Rattle.stretch.specs.Views.{view_body}
 use Rattle.stretch.specs.declared.Body.{Body}
 use Rattle.stretch.specs.declared.Body.TheVariants as B
@@ -135,19 +132,19 @@ odd N.UnlinkAt = refl
 odd (N.Lerror m) = refl
 
 module _ {c : Body} where
-  pub a_request : {b : Tbody} {m : Tmessage} {n : ℕ} {r : Request} → c ≡ B.Request b → b ≡ T.Message m n → r ≡ asked_by (type_t m) (values_t m) → W.Asks r ≡ what_in (view_body c)
+  pub a_request : {b : Tbody} {m : Tmessage} {n : ℕ} {r : Request} → c ≡ B.Request b → b ≡ Ok (m, n) → r ≡ asked_by (type_t m) (values_t m) → W.Asks r ≡ what_in (view_body c)
   unfolding view_body view_t
   a_request {m = m} e f h = rw (e, f, even m, h)
 
-  pub no_request : {b : Tbody} {k : Refusal} {at : ℕ} → c ≡ B.Request b → b ≡ T.Refused k at → W.Refused k ≡ what_in (view_body c)
+  pub no_request : {b : Tbody} {k : Refusal} {at : ℕ} → c ≡ B.Request b → b ≡ Err (k, at) → W.Refused k ≡ what_in (view_body c)
   unfolding view_body view_t
   no_request e f = rw (e, f)
 
-  pub a_reply : {b : Rbody} {m : Rmessage} {n q : ℕ} → c ≡ B.Reply b → b ≡ Q.Message m n → q ≡ qids_in (values_r m) → W.Answers q ≡ what_in (view_body c)
+  pub a_reply : {b : Rbody} {m : Rmessage} {n q : ℕ} → c ≡ B.Reply b → b ≡ Ok (m, n) → q ≡ qids_in (values_r m) → W.Answers q ≡ what_in (view_body c)
   unfolding view_body view_r
   a_reply {m = m} e f h = rw (e, f, odd m, h)
 
-  pub no_reply : {b : Rbody} {k : Refusal} {at : ℕ} → c ≡ B.Reply b → b ≡ Q.Refused k at → W.Refused k ≡ what_in (view_body c)
+  pub no_reply : {b : Rbody} {k : Refusal} {at : ℕ} → c ≡ B.Reply b → b ≡ Err (k, at) → W.Refused k ≡ what_in (view_body c)
   unfolding view_body view_r
   no_reply e f = rw (e, f)
 

@@ -12,6 +12,7 @@ ghost use Rattle.stretch.specs.Views.{view_body};
 ghost use Rattle.session.specs.Rules.{none};
 ghost use Rattle.events.specs.Events.{asks, unless_same, unless_none, asked_by, qids_in, what_in, event_of};
 
+use numbers::Fault;
 use common::sessions::Tflush;
 use common::walking::Twalk;
 use layouts::ids::Fid;
@@ -185,12 +186,12 @@ fn what_in(body: Body) -> What
 {
     match body {
         Body::Request(b) => match b {
-            Tbody::Message(m, _) => What::Asks(asked_by(m)),
-            Tbody::Refused(k, _) => What::Refused(k),
+            Ok((m, _)) => What::Asks(asked_by(m)),
+            Err(Fault(k, _)) => What::Refused(k),
         },
         Body::Reply(b) => match b {
-            Rbody::Message(m, _) => What::Answers(qids_in(m)),
-            Rbody::Refused(k, _) => What::Refused(k),
+            Ok((m, _)) => What::Answers(qids_in(m)),
+            Err(Fault(k, _)) => What::Refused(k),
         },
     }
 }

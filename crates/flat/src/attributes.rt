@@ -17,15 +17,15 @@ use strings::Span;
 pub fn flat_tstatfs(m: Tstatfs, values: &mut [u64; WIDTH_T])
     ensures { values.new ≡ stored values.old 0 (flat_values (tstatfs m)) }
 {
-    let fid = m.fid;
-    values[0] = fid.0 as u64;
+    values[0] = m.fid.0 as u64;
 }
 
 pub fn tstatfs_of(v: [u64; WIDTH_T]) -> Tstatfs
     ensures { tstatfs result ≡ field_values layout_tstatfs v }
 {
-    let fid = Fid((v[0] % U32) as u32);
-    Tstatfs { fid }
+    Tstatfs {
+        fid: Fid((v[0] % U32) as u32),
+    }
 }
 
 pub fn flat_rstatfs(m: Rstatfs, values: &mut [u64; WIDTH_R])
@@ -61,17 +61,15 @@ pub fn rstatfs_of(v: [u64; WIDTH_R]) -> Rstatfs
 pub fn flat_tgetattr(m: Tgetattr, values: &mut [u64; WIDTH_T])
     ensures { values.new ≡ stored values.old 0 (flat_values (tgetattr m)) }
 {
-    let fid = m.fid;
-    values[0] = fid.0 as u64;
+    values[0] = m.fid.0 as u64;
     values[1] = m.request_mask;
 }
 
 pub fn tgetattr_of(v: [u64; WIDTH_T]) -> Tgetattr
     ensures { tgetattr result ≡ field_values layout_tgetattr v }
 {
-    let fid = Fid((v[0] % U32) as u32);
     Tgetattr {
-        fid,
+        fid: Fid((v[0] % U32) as u32),
         request_mask: v[1],
     }
 }
@@ -79,15 +77,13 @@ pub fn tgetattr_of(v: [u64; WIDTH_T]) -> Tgetattr
 pub fn flat_rgetattr(m: Rgetattr, values: &mut [u64; WIDTH_R])
     ensures { values.new ≡ stored values.old 0 (flat_values (rgetattr m)) }
 {
-    let qid = m.qid;
-    let gid = m.gid;
     values[0] = m.valid;
-    values[1] = qid.ty as u64;
-    values[2] = qid.version as u64;
-    values[3] = qid.path;
+    values[1] = m.qid.ty as u64;
+    values[2] = m.qid.version as u64;
+    values[3] = m.qid.path;
     values[4] = m.mode as u64;
     values[5] = m.uid as u64;
-    values[6] = gid.0 as u64;
+    values[6] = m.gid.0 as u64;
     values[7] = m.nlink;
     values[8] = m.rdev;
     values[9] = m.size;
@@ -108,18 +104,16 @@ pub fn flat_rgetattr(m: Rgetattr, values: &mut [u64; WIDTH_R])
 pub fn rgetattr_of(v: [u64; WIDTH_R]) -> Rgetattr
     ensures { rgetattr result ≡ field_values layout_rgetattr v }
 {
-    let qid = Qid {
-        ty: (v[1] % U8) as u8,
-        version: (v[2] % U32) as u32,
-        path: v[3],
-    };
-    let gid = Gid((v[6] % U32) as u32);
     Rgetattr {
         valid: v[0],
-        qid,
+        qid: Qid {
+            ty: (v[1] % U8) as u8,
+            version: (v[2] % U32) as u32,
+            path: v[3],
+        },
         mode: (v[4] % U32) as u32,
         uid: (v[5] % U32) as u32,
-        gid,
+        gid: Gid((v[6] % U32) as u32),
         nlink: v[7],
         rdev: v[8],
         size: v[9],
@@ -141,13 +135,11 @@ pub fn rgetattr_of(v: [u64; WIDTH_R]) -> Rgetattr
 pub fn flat_tsetattr(m: Tsetattr, values: &mut [u64; WIDTH_T])
     ensures { values.new ≡ stored values.old 0 (flat_values (tsetattr m)) }
 {
-    let fid = m.fid;
-    let gid = m.gid;
-    values[0] = fid.0 as u64;
+    values[0] = m.fid.0 as u64;
     values[1] = m.valid as u64;
     values[2] = m.mode as u64;
     values[3] = m.uid as u64;
-    values[4] = gid.0 as u64;
+    values[4] = m.gid.0 as u64;
     values[5] = m.size;
     values[6] = m.atime_sec;
     values[7] = m.atime_nsec;
@@ -158,14 +150,12 @@ pub fn flat_tsetattr(m: Tsetattr, values: &mut [u64; WIDTH_T])
 pub fn tsetattr_of(v: [u64; WIDTH_T]) -> Tsetattr
     ensures { tsetattr result ≡ field_values layout_tsetattr v }
 {
-    let fid = Fid((v[0] % U32) as u32);
-    let gid = Gid((v[4] % U32) as u32);
     Tsetattr {
-        fid,
+        fid: Fid((v[0] % U32) as u32),
         valid: (v[1] % U32) as u32,
         mode: (v[2] % U32) as u32,
         uid: (v[3] % U32) as u32,
-        gid,
+        gid: Gid((v[4] % U32) as u32),
         size: v[5],
         atime_sec: v[6],
         atime_nsec: v[7],
@@ -177,25 +167,23 @@ pub fn tsetattr_of(v: [u64; WIDTH_T]) -> Tsetattr
 pub fn flat_txattrwalk(m: Txattrwalk, values: &mut [u64; WIDTH_T])
     ensures { values.new ≡ stored values.old 0 (flat_values (txattrwalk m)) }
 {
-    let fid = m.fid;
-    let newfid = m.newfid;
-    let name = m.name;
-    values[0] = fid.0 as u64;
-    values[1] = newfid.0 as u64;
-    values[2] = name.start as u64;
-    values[3] = name.len as u64;
+    values[0] = m.fid.0 as u64;
+    values[1] = m.newfid.0 as u64;
+    values[2] = m.name.start as u64;
+    values[3] = m.name.len as u64;
 }
 
 pub fn txattrwalk_of(v: [u64; WIDTH_T]) -> Txattrwalk
     ensures { txattrwalk result ≡ field_values layout_txattrwalk v }
 {
-    let fid = Fid((v[0] % U32) as u32);
-    let newfid = Fid((v[1] % U32) as u32);
-    let name = Span {
-        start: v[2] as usize,
-        len: v[3] as usize,
-    };
-    Txattrwalk { fid, newfid, name }
+    Txattrwalk {
+        fid: Fid((v[0] % U32) as u32),
+        newfid: Fid((v[1] % U32) as u32),
+        name: Span {
+            start: v[2] as usize,
+            len: v[3] as usize,
+        },
+    }
 }
 
 pub fn flat_rxattrwalk(m: Rxattrwalk, values: &mut [u64; WIDTH_R])
@@ -213,11 +201,9 @@ pub fn rxattrwalk_of(v: [u64; WIDTH_R]) -> Rxattrwalk
 pub fn flat_txattrcreate(m: Txattrcreate, values: &mut [u64; WIDTH_T])
     ensures { values.new ≡ stored values.old 0 (flat_values (txattrcreate m)) }
 {
-    let fid = m.fid;
-    let name = m.name;
-    values[0] = fid.0 as u64;
-    values[1] = name.start as u64;
-    values[2] = name.len as u64;
+    values[0] = m.fid.0 as u64;
+    values[1] = m.name.start as u64;
+    values[2] = m.name.len as u64;
     values[3] = m.attr_size;
     values[4] = m.flags as u64;
 }
@@ -225,14 +211,12 @@ pub fn flat_txattrcreate(m: Txattrcreate, values: &mut [u64; WIDTH_T])
 pub fn txattrcreate_of(v: [u64; WIDTH_T]) -> Txattrcreate
     ensures { txattrcreate result ≡ field_values layout_txattrcreate v }
 {
-    let fid = Fid((v[0] % U32) as u32);
-    let name = Span {
-        start: v[1] as usize,
-        len: v[2] as usize,
-    };
     Txattrcreate {
-        fid,
-        name,
+        fid: Fid((v[0] % U32) as u32),
+        name: Span {
+            start: v[1] as usize,
+            len: v[2] as usize,
+        },
         attr_size: v[3],
         flags: (v[4] % U32) as u32,
     }

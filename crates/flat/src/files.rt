@@ -17,17 +17,15 @@ use strings::Span;
 pub fn flat_tlopen(m: Tlopen, values: &mut [u64; WIDTH_T])
     ensures { values.new ≡ stored values.old 0 (flat_values (tlopen m)) }
 {
-    let fid = m.fid;
-    values[0] = fid.0 as u64;
+    values[0] = m.fid.0 as u64;
     values[1] = m.flags as u64;
 }
 
 pub fn tlopen_of(v: [u64; WIDTH_T]) -> Tlopen
     ensures { tlopen result ≡ field_values layout_tlopen v }
 {
-    let fid = Fid((v[0] % U32) as u32);
     Tlopen {
-        fid,
+        fid: Fid((v[0] % U32) as u32),
         flags: (v[1] % U32) as u32,
     }
 }
@@ -35,23 +33,21 @@ pub fn tlopen_of(v: [u64; WIDTH_T]) -> Tlopen
 pub fn flat_rlopen(m: Rlopen, values: &mut [u64; WIDTH_R])
     ensures { values.new ≡ stored values.old 0 (flat_values (rlopen m)) }
 {
-    let qid = m.qid;
-    values[0] = qid.ty as u64;
-    values[1] = qid.version as u64;
-    values[2] = qid.path;
+    values[0] = m.qid.ty as u64;
+    values[1] = m.qid.version as u64;
+    values[2] = m.qid.path;
     values[3] = m.iounit as u64;
 }
 
 pub fn rlopen_of(v: [u64; WIDTH_R]) -> Rlopen
     ensures { rlopen result ≡ field_values layout_rlopen v }
 {
-    let qid = Qid {
-        ty: (v[0] % U8) as u8,
-        version: (v[1] % U32) as u32,
-        path: v[2],
-    };
     Rlopen {
-        qid,
+        qid: Qid {
+            ty: (v[0] % U8) as u8,
+            version: (v[1] % U32) as u32,
+            path: v[2],
+        },
         iounit: (v[3] % U32) as u32,
     }
 }
@@ -59,55 +55,47 @@ pub fn rlopen_of(v: [u64; WIDTH_R]) -> Rlopen
 pub fn flat_tlcreate(m: Tlcreate, values: &mut [u64; WIDTH_T])
     ensures { values.new ≡ stored values.old 0 (flat_values (tlcreate m)) }
 {
-    let fid = m.fid;
-    let name = m.name;
-    let gid = m.gid;
-    values[0] = fid.0 as u64;
-    values[1] = name.start as u64;
-    values[2] = name.len as u64;
+    values[0] = m.fid.0 as u64;
+    values[1] = m.name.start as u64;
+    values[2] = m.name.len as u64;
     values[3] = m.flags as u64;
     values[4] = m.mode as u64;
-    values[5] = gid.0 as u64;
+    values[5] = m.gid.0 as u64;
 }
 
 pub fn tlcreate_of(v: [u64; WIDTH_T]) -> Tlcreate
     ensures { tlcreate result ≡ field_values layout_tlcreate v }
 {
-    let fid = Fid((v[0] % U32) as u32);
-    let name = Span {
-        start: v[1] as usize,
-        len: v[2] as usize,
-    };
-    let gid = Gid((v[5] % U32) as u32);
     Tlcreate {
-        fid,
-        name,
+        fid: Fid((v[0] % U32) as u32),
+        name: Span {
+            start: v[1] as usize,
+            len: v[2] as usize,
+        },
         flags: (v[3] % U32) as u32,
         mode: (v[4] % U32) as u32,
-        gid,
+        gid: Gid((v[5] % U32) as u32),
     }
 }
 
 pub fn flat_rlcreate(m: Rlcreate, values: &mut [u64; WIDTH_R])
     ensures { values.new ≡ stored values.old 0 (flat_values (rlcreate m)) }
 {
-    let qid = m.qid;
-    values[0] = qid.ty as u64;
-    values[1] = qid.version as u64;
-    values[2] = qid.path;
+    values[0] = m.qid.ty as u64;
+    values[1] = m.qid.version as u64;
+    values[2] = m.qid.path;
     values[3] = m.iounit as u64;
 }
 
 pub fn rlcreate_of(v: [u64; WIDTH_R]) -> Rlcreate
     ensures { rlcreate result ≡ field_values layout_rlcreate v }
 {
-    let qid = Qid {
-        ty: (v[0] % U8) as u8,
-        version: (v[1] % U32) as u32,
-        path: v[2],
-    };
     Rlcreate {
-        qid,
+        qid: Qid {
+            ty: (v[0] % U8) as u8,
+            version: (v[1] % U32) as u32,
+            path: v[2],
+        },
         iounit: (v[3] % U32) as u32,
     }
 }
@@ -115,8 +103,7 @@ pub fn rlcreate_of(v: [u64; WIDTH_R]) -> Rlcreate
 pub fn flat_tread(m: Tread, values: &mut [u64; WIDTH_T])
     ensures { values.new ≡ stored values.old 0 (flat_values (tread m)) }
 {
-    let fid = m.fid;
-    values[0] = fid.0 as u64;
+    values[0] = m.fid.0 as u64;
     values[1] = m.offset;
     values[2] = m.count as u64;
 }
@@ -124,9 +111,8 @@ pub fn flat_tread(m: Tread, values: &mut [u64; WIDTH_T])
 pub fn tread_of(v: [u64; WIDTH_T]) -> Tread
     ensures { tread result ≡ field_values layout_tread v }
 {
-    let fid = Fid((v[0] % U32) as u32);
     Tread {
-        fid,
+        fid: Fid((v[0] % U32) as u32),
         offset: v[1],
         count: (v[2] % U32) as u32,
     }
@@ -135,44 +121,40 @@ pub fn tread_of(v: [u64; WIDTH_T]) -> Tread
 pub fn flat_rread(m: Rread, values: &mut [u64; WIDTH_R])
     ensures { values.new ≡ stored values.old 0 (flat_values (rread m)) }
 {
-    let data = m.data;
-    values[0] = data.start as u64;
-    values[1] = data.len as u64;
+    values[0] = m.data.start as u64;
+    values[1] = m.data.len as u64;
 }
 
 pub fn rread_of(v: [u64; WIDTH_R]) -> Rread
     ensures { rread result ≡ field_values layout_rread v }
 {
-    let data = Span {
-        start: v[0] as usize,
-        len: v[1] as usize,
-    };
-    Rread { data }
+    Rread {
+        data: Span {
+            start: v[0] as usize,
+            len: v[1] as usize,
+        },
+    }
 }
 
 pub fn flat_twrite(m: Twrite, values: &mut [u64; WIDTH_T])
     ensures { values.new ≡ stored values.old 0 (flat_values (twrite m)) }
 {
-    let fid = m.fid;
-    let data = m.data;
-    values[0] = fid.0 as u64;
+    values[0] = m.fid.0 as u64;
     values[1] = m.offset;
-    values[2] = data.start as u64;
-    values[3] = data.len as u64;
+    values[2] = m.data.start as u64;
+    values[3] = m.data.len as u64;
 }
 
 pub fn twrite_of(v: [u64; WIDTH_T]) -> Twrite
     ensures { twrite result ≡ field_values layout_twrite v }
 {
-    let fid = Fid((v[0] % U32) as u32);
-    let data = Span {
-        start: v[2] as usize,
-        len: v[3] as usize,
-    };
     Twrite {
-        fid,
+        fid: Fid((v[0] % U32) as u32),
         offset: v[1],
-        data,
+        data: Span {
+            start: v[2] as usize,
+            len: v[3] as usize,
+        },
     }
 }
 
@@ -193,17 +175,15 @@ pub fn rwrite_of(v: [u64; WIDTH_R]) -> Rwrite
 pub fn flat_tfsync(m: Tfsync, values: &mut [u64; WIDTH_T])
     ensures { values.new ≡ stored values.old 0 (flat_values (tfsync m)) }
 {
-    let fid = m.fid;
-    values[0] = fid.0 as u64;
+    values[0] = m.fid.0 as u64;
     values[1] = m.datasync as u64;
 }
 
 pub fn tfsync_of(v: [u64; WIDTH_T]) -> Tfsync
     ensures { tfsync result ≡ field_values layout_tfsync v }
 {
-    let fid = Fid((v[0] % U32) as u32);
     Tfsync {
-        fid,
+        fid: Fid((v[0] % U32) as u32),
         datasync: (v[1] % U32) as u32,
     }
 }
@@ -211,13 +191,13 @@ pub fn tfsync_of(v: [u64; WIDTH_T]) -> Tfsync
 pub fn flat_tremove(m: Tremove, values: &mut [u64; WIDTH_T])
     ensures { values.new ≡ stored values.old 0 (flat_values (tremove m)) }
 {
-    let fid = m.fid;
-    values[0] = fid.0 as u64;
+    values[0] = m.fid.0 as u64;
 }
 
 pub fn tremove_of(v: [u64; WIDTH_T]) -> Tremove
     ensures { tremove result ≡ field_values layout_tremove v }
 {
-    let fid = Fid((v[0] % U32) as u32);
-    Tremove { fid }
+    Tremove {
+        fid: Fid((v[0] % U32) as u32),
+    }
 }

@@ -17,77 +17,67 @@ use strings::Span;
 pub fn flat_tversion(m: Tversion, values: &mut [u64; WIDTH_T])
     ensures { values.new ≡ stored values.old 0 (flat_values (tversion m)) }
 {
-    let version = m.version;
     values[0] = m.msize as u64;
-    values[1] = version.start as u64;
-    values[2] = version.len as u64;
+    values[1] = m.version.start as u64;
+    values[2] = m.version.len as u64;
 }
 
 pub fn tversion_of(v: [u64; WIDTH_T]) -> Tversion
     ensures { tversion result ≡ field_values layout_tversion v }
 {
-    let version = Span {
-        start: v[1] as usize,
-        len: v[2] as usize,
-    };
     Tversion {
         msize: (v[0] % U32) as u32,
-        version,
+        version: Span {
+            start: v[1] as usize,
+            len: v[2] as usize,
+        },
     }
 }
 
 pub fn flat_rversion(m: Rversion, values: &mut [u64; WIDTH_R])
     ensures { values.new ≡ stored values.old 0 (flat_values (rversion m)) }
 {
-    let version = m.version;
     values[0] = m.msize as u64;
-    values[1] = version.start as u64;
-    values[2] = version.len as u64;
+    values[1] = m.version.start as u64;
+    values[2] = m.version.len as u64;
 }
 
 pub fn rversion_of(v: [u64; WIDTH_R]) -> Rversion
     ensures { rversion result ≡ field_values layout_rversion v }
 {
-    let version = Span {
-        start: v[1] as usize,
-        len: v[2] as usize,
-    };
     Rversion {
         msize: (v[0] % U32) as u32,
-        version,
+        version: Span {
+            start: v[1] as usize,
+            len: v[2] as usize,
+        },
     }
 }
 
 pub fn flat_tauth(m: Tauth, values: &mut [u64; WIDTH_T])
     ensures { values.new ≡ stored values.old 0 (flat_values (tauth m)) }
 {
-    let afid = m.afid;
-    let uname = m.uname;
-    let aname = m.aname;
-    values[0] = afid.0 as u64;
-    values[1] = uname.start as u64;
-    values[2] = uname.len as u64;
-    values[3] = aname.start as u64;
-    values[4] = aname.len as u64;
+    values[0] = m.afid.0 as u64;
+    values[1] = m.uname.start as u64;
+    values[2] = m.uname.len as u64;
+    values[3] = m.aname.start as u64;
+    values[4] = m.aname.len as u64;
     values[5] = m.n_uname as u64;
 }
 
 pub fn tauth_of(v: [u64; WIDTH_T]) -> Tauth
     ensures { tauth result ≡ field_values layout_tauth v }
 {
-    let afid = Fid((v[0] % U32) as u32);
-    let uname = Span {
-        start: v[1] as usize,
-        len: v[2] as usize,
-    };
-    let aname = Span {
-        start: v[3] as usize,
-        len: v[4] as usize,
-    };
     Tauth {
-        afid,
-        uname,
-        aname,
+        afid: Fid((v[0] % U32) as u32),
+        uname: Span {
+            start: v[1] as usize,
+            len: v[2] as usize,
+        },
+        aname: Span {
+            start: v[3] as usize,
+            len: v[4] as usize,
+        },
         n_uname: (v[5] % U32) as u32,
     }
 }
@@ -95,57 +85,49 @@ pub fn tauth_of(v: [u64; WIDTH_T]) -> Tauth
 pub fn flat_rauth(m: Rauth, values: &mut [u64; WIDTH_R])
     ensures { values.new ≡ stored values.old 0 (flat_values (rauth m)) }
 {
-    let aqid = m.aqid;
-    values[0] = aqid.ty as u64;
-    values[1] = aqid.version as u64;
-    values[2] = aqid.path;
+    values[0] = m.aqid.ty as u64;
+    values[1] = m.aqid.version as u64;
+    values[2] = m.aqid.path;
 }
 
 pub fn rauth_of(v: [u64; WIDTH_R]) -> Rauth
     ensures { rauth result ≡ field_values layout_rauth v }
 {
-    let aqid = Qid {
-        ty: (v[0] % U8) as u8,
-        version: (v[1] % U32) as u32,
-        path: v[2],
-    };
-    Rauth { aqid }
+    Rauth {
+        aqid: Qid {
+            ty: (v[0] % U8) as u8,
+            version: (v[1] % U32) as u32,
+            path: v[2],
+        },
+    }
 }
 
 pub fn flat_tattach(m: Tattach, values: &mut [u64; WIDTH_T])
     ensures { values.new ≡ stored values.old 0 (flat_values (tattach m)) }
 {
-    let fid = m.fid;
-    let afid = m.afid;
-    let uname = m.uname;
-    let aname = m.aname;
-    values[0] = fid.0 as u64;
-    values[1] = afid.0 as u64;
-    values[2] = uname.start as u64;
-    values[3] = uname.len as u64;
-    values[4] = aname.start as u64;
-    values[5] = aname.len as u64;
+    values[0] = m.fid.0 as u64;
+    values[1] = m.afid.0 as u64;
+    values[2] = m.uname.start as u64;
+    values[3] = m.uname.len as u64;
+    values[4] = m.aname.start as u64;
+    values[5] = m.aname.len as u64;
     values[6] = m.n_uname as u64;
 }
 
 pub fn tattach_of(v: [u64; WIDTH_T]) -> Tattach
     ensures { tattach result ≡ field_values layout_tattach v }
 {
-    let fid = Fid((v[0] % U32) as u32);
-    let afid = Fid((v[1] % U32) as u32);
-    let uname = Span {
-        start: v[2] as usize,
-        len: v[3] as usize,
-    };
-    let aname = Span {
-        start: v[4] as usize,
-        len: v[5] as usize,
-    };
     Tattach {
-        fid,
-        afid,
-        uname,
-        aname,
+        fid: Fid((v[0] % U32) as u32),
+        afid: Fid((v[1] % U32) as u32),
+        uname: Span {
+            start: v[2] as usize,
+            len: v[3] as usize,
+        },
+        aname: Span {
+            start: v[4] as usize,
+            len: v[5] as usize,
+        },
         n_uname: (v[6] % U32) as u32,
     }
 }
@@ -153,49 +135,49 @@ pub fn tattach_of(v: [u64; WIDTH_T]) -> Tattach
 pub fn flat_rattach(m: Rattach, values: &mut [u64; WIDTH_R])
     ensures { values.new ≡ stored values.old 0 (flat_values (rattach m)) }
 {
-    let qid = m.qid;
-    values[0] = qid.ty as u64;
-    values[1] = qid.version as u64;
-    values[2] = qid.path;
+    values[0] = m.qid.ty as u64;
+    values[1] = m.qid.version as u64;
+    values[2] = m.qid.path;
 }
 
 pub fn rattach_of(v: [u64; WIDTH_R]) -> Rattach
     ensures { rattach result ≡ field_values layout_rattach v }
 {
-    let qid = Qid {
-        ty: (v[0] % U8) as u8,
-        version: (v[1] % U32) as u32,
-        path: v[2],
-    };
-    Rattach { qid }
+    Rattach {
+        qid: Qid {
+            ty: (v[0] % U8) as u8,
+            version: (v[1] % U32) as u32,
+            path: v[2],
+        },
+    }
 }
 
 pub fn flat_tflush(m: Tflush, values: &mut [u64; WIDTH_T])
     ensures { values.new ≡ stored values.old 0 (flat_values (tflush m)) }
 {
-    let oldtag = m.oldtag;
-    values[0] = oldtag.0 as u64;
+    values[0] = m.oldtag.0 as u64;
 }
 
 pub fn tflush_of(v: [u64; WIDTH_T]) -> Tflush
     ensures { tflush result ≡ field_values layout_tflush v }
 {
-    let oldtag = Tag((v[0] % U16) as u16);
-    Tflush { oldtag }
+    Tflush {
+        oldtag: Tag((v[0] % U16) as u16),
+    }
 }
 
 pub fn flat_tclunk(m: Tclunk, values: &mut [u64; WIDTH_T])
     ensures { values.new ≡ stored values.old 0 (flat_values (tclunk m)) }
 {
-    let fid = m.fid;
-    values[0] = fid.0 as u64;
+    values[0] = m.fid.0 as u64;
 }
 
 pub fn tclunk_of(v: [u64; WIDTH_T]) -> Tclunk
     ensures { tclunk result ≡ field_values layout_tclunk v }
 {
-    let fid = Fid((v[0] % U32) as u32);
-    Tclunk { fid }
+    Tclunk {
+        fid: Fid((v[0] % U32) as u32),
+    }
 }
 
 pub fn flat_rlerror(m: Rlerror, values: &mut [u64; WIDTH_R])

@@ -11,38 +11,26 @@ use numbers::Place;
 pub(crate) fn read_rstatfs(s: &[u8], p: Place, values: &mut [u64; WIDTH_R]) -> Place
     ensures { FlatRead (some layout_rstatfs) s.now p values.old values.new result }
 {
-    let next = flat::skip(s, p, 60);
-    let Ok(_) = next else {
-        return next;
-    };
+    let end = flat::skip(s, p, 60)?;
     let r = metadata::attributes::read_rstatfs(s, p);
-    let m = r.value;
-    flat::attributes::flat_rstatfs(m, values);
-    next
+    flat::attributes::flat_rstatfs(r.value, values);
+    Ok(end)
 }
 
 pub(crate) fn read_rgetattr(s: &[u8], p: Place, values: &mut [u64; WIDTH_R]) -> Place
     ensures { FlatRead (some layout_rgetattr) s.now p values.old values.new result }
 {
-    let next = flat::skip(s, p, 153);
-    let Ok(_) = next else {
-        return next;
-    };
+    let end = flat::skip(s, p, 153)?;
     let r = metadata::attributes::read_rgetattr(s, p);
-    let m = r.value;
-    flat::attributes::flat_rgetattr(m, values);
-    next
+    flat::attributes::flat_rgetattr(r.value, values);
+    Ok(end)
 }
 
 pub(crate) fn read_rxattrwalk(s: &[u8], p: Place, values: &mut [u64; WIDTH_R]) -> Place
     ensures { FlatRead (some layout_rxattrwalk) s.now p values.old values.new result }
 {
-    let next = flat::skip(s, p, 8);
-    let Ok(_) = next else {
-        return next;
-    };
+    let end = flat::skip(s, p, 8)?;
     let r = metadata::attributes::read_rxattrwalk(s, p);
-    let m = r.value;
-    flat::attributes::flat_rxattrwalk(m, values);
-    next
+    flat::attributes::flat_rxattrwalk(r.value, values);
+    Ok(end)
 }

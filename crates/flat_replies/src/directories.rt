@@ -11,64 +11,44 @@ use numbers::Place;
 pub(crate) fn read_rsymlink(s: &[u8], p: Place, values: &mut [u64; WIDTH_R]) -> Place
     ensures { FlatRead (some layout_rsymlink) s.now p values.old values.new result }
 {
-    let next = flat::skip(s, p, 13);
-    let Ok(_) = next else {
-        return next;
-    };
+    let end = flat::skip(s, p, 13)?;
     let r = messages::directories::read_rsymlink(s, p);
-    let m = r.value;
-    flat::directories::flat_rsymlink(m, values);
-    next
+    flat::directories::flat_rsymlink(r.value, values);
+    Ok(end)
 }
 
 pub(crate) fn read_rmknod(s: &[u8], p: Place, values: &mut [u64; WIDTH_R]) -> Place
     ensures { FlatRead (some layout_rmknod) s.now p values.old values.new result }
 {
-    let next = flat::skip(s, p, 13);
-    let Ok(_) = next else {
-        return next;
-    };
+    let end = flat::skip(s, p, 13)?;
     let r = messages::directories::read_rmknod(s, p);
-    let m = r.value;
-    flat::directories::flat_rmknod(m, values);
-    next
+    flat::directories::flat_rmknod(r.value, values);
+    Ok(end)
 }
 
 pub(crate) fn read_rreadlink(s: &[u8], p: Place, values: &mut [u64; WIDTH_R]) -> Place
     ensures { FlatRead (some layout_rreadlink) s.now p values.old values.new result }
 {
     let r = messages::directories::read_rreadlink(s, p);
-    let next = r.next;
-    let Ok(_) = next else {
-        return next;
-    };
-    let m = r.value;
-    flat::directories::flat_rreadlink(m, values);
-    next
+    let end = r.next?;
+    flat::directories::flat_rreadlink(r.value, values);
+    Ok(end)
 }
 
 pub(crate) fn read_rreaddir(s: &[u8], p: Place, values: &mut [u64; WIDTH_R]) -> Place
     ensures { FlatRead (some layout_rreaddir) s.now p values.old values.new result }
 {
     let r = messages::directories::read_rreaddir(s, p);
-    let next = r.next;
-    let Ok(_) = next else {
-        return next;
-    };
-    let m = r.value;
-    flat::directories::flat_rreaddir(m, values);
-    next
+    let end = r.next?;
+    flat::directories::flat_rreaddir(r.value, values);
+    Ok(end)
 }
 
 pub(crate) fn read_rmkdir(s: &[u8], p: Place, values: &mut [u64; WIDTH_R]) -> Place
     ensures { FlatRead (some layout_rmkdir) s.now p values.old values.new result }
 {
-    let next = flat::skip(s, p, 13);
-    let Ok(_) = next else {
-        return next;
-    };
+    let end = flat::skip(s, p, 13)?;
     let r = messages::directories::read_rmkdir(s, p);
-    let m = r.value;
-    flat::directories::flat_rmkdir(m, values);
-    next
+    flat::directories::flat_rmkdir(r.value, values);
+    Ok(end)
 }

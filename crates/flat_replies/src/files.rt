@@ -11,51 +11,35 @@ use numbers::Place;
 pub(crate) fn read_rlopen(s: &[u8], p: Place, values: &mut [u64; WIDTH_R]) -> Place
     ensures { FlatRead (some layout_rlopen) s.now p values.old values.new result }
 {
-    let next = flat::skip(s, p, 17);
-    let Ok(_) = next else {
-        return next;
-    };
+    let end = flat::skip(s, p, 17)?;
     let r = messages::files::read_rlopen(s, p);
-    let m = r.value;
-    flat::files::flat_rlopen(m, values);
-    next
+    flat::files::flat_rlopen(r.value, values);
+    Ok(end)
 }
 
 pub(crate) fn read_rlcreate(s: &[u8], p: Place, values: &mut [u64; WIDTH_R]) -> Place
     ensures { FlatRead (some layout_rlcreate) s.now p values.old values.new result }
 {
-    let next = flat::skip(s, p, 17);
-    let Ok(_) = next else {
-        return next;
-    };
+    let end = flat::skip(s, p, 17)?;
     let r = messages::files::read_rlcreate(s, p);
-    let m = r.value;
-    flat::files::flat_rlcreate(m, values);
-    next
+    flat::files::flat_rlcreate(r.value, values);
+    Ok(end)
 }
 
 pub(crate) fn read_rread(s: &[u8], p: Place, values: &mut [u64; WIDTH_R]) -> Place
     ensures { FlatRead (some layout_rread) s.now p values.old values.new result }
 {
     let r = common::files::read_rread(s, p);
-    let next = r.next;
-    let Ok(_) = next else {
-        return next;
-    };
-    let m = r.value;
-    flat::files::flat_rread(m, values);
-    next
+    let end = r.next?;
+    flat::files::flat_rread(r.value, values);
+    Ok(end)
 }
 
 pub(crate) fn read_rwrite(s: &[u8], p: Place, values: &mut [u64; WIDTH_R]) -> Place
     ensures { FlatRead (some layout_rwrite) s.now p values.old values.new result }
 {
-    let next = flat::skip(s, p, 4);
-    let Ok(_) = next else {
-        return next;
-    };
+    let end = flat::skip(s, p, 4)?;
     let r = common::files::read_rwrite(s, p);
-    let m = r.value;
-    flat::files::flat_rwrite(m, values);
-    next
+    flat::files::flat_rwrite(r.value, values);
+    Ok(end)
 }

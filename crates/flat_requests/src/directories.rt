@@ -12,115 +12,79 @@ pub(crate) fn read_tsymlink(s: &[u8], p: Place, values: &mut [u64; WIDTH_T]) -> 
     ensures { FlatRead (some layout_tsymlink) s.now p values.old values.new result }
 {
     let r = messages::directories::read_tsymlink(s, p);
-    let next = r.next;
-    let Ok(_) = next else {
-        return next;
-    };
-    let m = r.value;
-    flat::directories::flat_tsymlink(m, values);
-    next
+    let end = r.next?;
+    flat::directories::flat_tsymlink(r.value, values);
+    Ok(end)
 }
 
 pub(crate) fn read_tmknod(s: &[u8], p: Place, values: &mut [u64; WIDTH_T]) -> Place
     ensures { FlatRead (some layout_tmknod) s.now p values.old values.new result }
 {
     let r = messages::directories::read_tmknod(s, p);
-    let next = r.next;
-    let Ok(_) = next else {
-        return next;
-    };
-    let m = r.value;
-    flat::directories::flat_tmknod(m, values);
-    next
+    let end = r.next?;
+    flat::directories::flat_tmknod(r.value, values);
+    Ok(end)
 }
 
 pub(crate) fn read_trename(s: &[u8], p: Place, values: &mut [u64; WIDTH_T]) -> Place
     ensures { FlatRead (some layout_trename) s.now p values.old values.new result }
 {
     let r = messages::directories::read_trename(s, p);
-    let next = r.next;
-    let Ok(_) = next else {
-        return next;
-    };
-    let m = r.value;
-    flat::directories::flat_trename(m, values);
-    next
+    let end = r.next?;
+    flat::directories::flat_trename(r.value, values);
+    Ok(end)
 }
 
 pub(crate) fn read_treadlink(s: &[u8], p: Place, values: &mut [u64; WIDTH_T]) -> Place
     ensures { FlatRead (some layout_treadlink) s.now p values.old values.new result }
 {
-    let next = flat::skip(s, p, 4);
-    let Ok(_) = next else {
-        return next;
-    };
+    let end = flat::skip(s, p, 4)?;
     let r = messages::directories::read_treadlink(s, p);
-    let m = r.value;
-    flat::directories::flat_treadlink(m, values);
-    next
+    flat::directories::flat_treadlink(r.value, values);
+    Ok(end)
 }
 
 pub(crate) fn read_treaddir(s: &[u8], p: Place, values: &mut [u64; WIDTH_T]) -> Place
     ensures { FlatRead (some layout_treaddir) s.now p values.old values.new result }
 {
-    let next = flat::skip(s, p, 16);
-    let Ok(_) = next else {
-        return next;
-    };
+    let end = flat::skip(s, p, 16)?;
     let r = messages::directories::read_treaddir(s, p);
-    let m = r.value;
-    flat::directories::flat_treaddir(m, values);
-    next
+    flat::directories::flat_treaddir(r.value, values);
+    Ok(end)
 }
 
 pub(crate) fn read_tlink(s: &[u8], p: Place, values: &mut [u64; WIDTH_T]) -> Place
     ensures { FlatRead (some layout_tlink) s.now p values.old values.new result }
 {
     let r = messages::directories::read_tlink(s, p);
-    let next = r.next;
-    let Ok(_) = next else {
-        return next;
-    };
-    let m = r.value;
-    flat::directories::flat_tlink(m, values);
-    next
+    let end = r.next?;
+    flat::directories::flat_tlink(r.value, values);
+    Ok(end)
 }
 
 pub(crate) fn read_tmkdir(s: &[u8], p: Place, values: &mut [u64; WIDTH_T]) -> Place
     ensures { FlatRead (some layout_tmkdir) s.now p values.old values.new result }
 {
     let r = messages::directories::read_tmkdir(s, p);
-    let next = r.next;
-    let Ok(_) = next else {
-        return next;
-    };
-    let m = r.value;
-    flat::directories::flat_tmkdir(m, values);
-    next
+    let end = r.next?;
+    flat::directories::flat_tmkdir(r.value, values);
+    Ok(end)
 }
 
 pub(crate) fn read_trenameat(s: &[u8], p: Place, values: &mut [u64; WIDTH_T]) -> Place
     ensures { FlatRead (some layout_trenameat) s.now p values.old values.new result }
 {
     let r = messages::directories::read_trenameat(s, p);
-    let next = r.next;
-    let Ok(_) = next else {
-        return next;
-    };
-    let m = r.value;
-    flat::directories::flat_trenameat(m, values);
-    next
+    let end = r.next?;
+    flat::directories::flat_trenameat(r.value, values);
+    Ok(end)
 }
 
 pub(crate) fn read_tunlinkat(s: &[u8], p: Place, values: &mut [u64; WIDTH_T]) -> Place
     ensures { FlatRead (some layout_tunlinkat) s.now p values.old values.new result }
 {
     let r = messages::directories::read_tunlinkat(s, p);
-    let next = r.next;
-    let Ok(_) = next else {
-        return next;
-    };
-    let m = r.value;
-    flat::directories::flat_tunlinkat(m, values);
-    next
+    let end = r.next?;
+    flat::directories::flat_tunlinkat(r.value, values);
+    Ok(end)
 }

@@ -12,24 +12,16 @@ pub(crate) fn read_tlock(s: &[u8], p: Place, values: &mut [u64; WIDTH_T]) -> Pla
     ensures { FlatRead (some layout_tlock) s.now p values.old values.new result }
 {
     let r = metadata::locks::read_tlock(s, p);
-    let next = r.next;
-    let Ok(_) = next else {
-        return next;
-    };
-    let m = r.value;
-    flat::locks::flat_tlock(m, values);
-    next
+    let end = r.next?;
+    flat::locks::flat_tlock(r.value, values);
+    Ok(end)
 }
 
 pub(crate) fn read_tgetlock(s: &[u8], p: Place, values: &mut [u64; WIDTH_T]) -> Place
     ensures { FlatRead (some layout_tgetlock) s.now p values.old values.new result }
 {
     let r = metadata::locks::read_tgetlock(s, p);
-    let next = r.next;
-    let Ok(_) = next else {
-        return next;
-    };
-    let m = r.value;
-    flat::locks::flat_tgetlock(m, values);
-    next
+    let end = r.next?;
+    flat::locks::flat_tgetlock(r.value, values);
+    Ok(end)
 }

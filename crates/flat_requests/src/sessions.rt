@@ -12,63 +12,43 @@ pub(crate) fn read_tversion(s: &[u8], p: Place, values: &mut [u64; WIDTH_T]) -> 
     ensures { FlatRead (some layout_tversion) s.now p values.old values.new result }
 {
     let r = common::sessions::read_tversion(s, p);
-    let next = r.next;
-    let Ok(_) = next else {
-        return next;
-    };
-    let m = r.value;
-    flat::sessions::flat_tversion(m, values);
-    next
+    let end = r.next?;
+    flat::sessions::flat_tversion(r.value, values);
+    Ok(end)
 }
 
 pub(crate) fn read_tauth(s: &[u8], p: Place, values: &mut [u64; WIDTH_T]) -> Place
     ensures { FlatRead (some layout_tauth) s.now p values.old values.new result }
 {
     let r = messages::sessions::read_tauth(s, p);
-    let next = r.next;
-    let Ok(_) = next else {
-        return next;
-    };
-    let m = r.value;
-    flat::sessions::flat_tauth(m, values);
-    next
+    let end = r.next?;
+    flat::sessions::flat_tauth(r.value, values);
+    Ok(end)
 }
 
 pub(crate) fn read_tattach(s: &[u8], p: Place, values: &mut [u64; WIDTH_T]) -> Place
     ensures { FlatRead (some layout_tattach) s.now p values.old values.new result }
 {
     let r = messages::sessions::read_tattach(s, p);
-    let next = r.next;
-    let Ok(_) = next else {
-        return next;
-    };
-    let m = r.value;
-    flat::sessions::flat_tattach(m, values);
-    next
+    let end = r.next?;
+    flat::sessions::flat_tattach(r.value, values);
+    Ok(end)
 }
 
 pub(crate) fn read_tflush(s: &[u8], p: Place, values: &mut [u64; WIDTH_T]) -> Place
     ensures { FlatRead (some layout_tflush) s.now p values.old values.new result }
 {
-    let next = flat::skip(s, p, 2);
-    let Ok(_) = next else {
-        return next;
-    };
+    let end = flat::skip(s, p, 2)?;
     let r = common::sessions::read_tflush(s, p);
-    let m = r.value;
-    flat::sessions::flat_tflush(m, values);
-    next
+    flat::sessions::flat_tflush(r.value, values);
+    Ok(end)
 }
 
 pub(crate) fn read_tclunk(s: &[u8], p: Place, values: &mut [u64; WIDTH_T]) -> Place
     ensures { FlatRead (some layout_tclunk) s.now p values.old values.new result }
 {
-    let next = flat::skip(s, p, 4);
-    let Ok(_) = next else {
-        return next;
-    };
+    let end = flat::skip(s, p, 4)?;
     let r = common::sessions::read_tclunk(s, p);
-    let m = r.value;
-    flat::sessions::flat_tclunk(m, values);
-    next
+    flat::sessions::flat_tclunk(r.value, values);
+    Ok(end)
 }

@@ -12,11 +12,7 @@ pub(crate) fn read_twalk(s: &[u8], p: Place, values: &mut [u64; WIDTH_T]) -> Pla
     ensures { FlatRead (some layout_twalk) s.now p values.old values.new result }
 {
     let r = common::walking::read_twalk(s, p);
-    let next = r.next;
-    let Ok(_) = next else {
-        return next;
-    };
-    let m = r.value;
-    flat::walking::flat_twalk(m, values);
-    next
+    let end = r.next?;
+    flat::walking::flat_twalk(r.value, values);
+    Ok(end)
 }

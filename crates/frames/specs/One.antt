@@ -1,9 +1,8 @@
 -- Any two answers that the frame readers' promises allow are equal: an answer is determined by its view.
 use Rattle.std.specs.Prelude.{ℕ, ◌≡◌}
 use Rattle.std.proofs.Common.{arith, ap, ap₂, ◌∙◌}
-use Rattle.requests.specs.Views.{view_t}
+use Rattle.requests.specs.Views.{view_t, Tbody}
 use Rattle.requests.specs.Built.{one_body}
-use Rattle.requests.specs.declared.Tbody.{Tbody}
 use Rattle.replies.specs.Views.{type_r, values_r}
 use Rattle.replies.specs.Built.{one_message}
 use Rattle.replies.specs.declared.Rmessage.{Rmessage}

@@ -1,20 +1,18 @@
 -- A request written: its message, or 16 where it holds a refusal.
 use Rattle.numbers.specs.Place.{Place}
-use Rattle.std.specs.Prelude.{ℕ, ◌≡◌, refl, List, Err}
+use Rattle.std.specs.Prelude.{ℕ, ◌≡◌, refl, List, Err, Ok}
 use Rattle.numbers.specs.declared.Refusal.{Refusal}
 use Rattle.numbers.specs.declared.Refusal.TheVariants as R
-use Rattle.requests.specs.Views.{type_t, layout_t, values_t}
+use Rattle.requests.specs.Views.{type_t, layout_t, values_t, Tbody}
 use Rattle.requests.specs.declared.Tmessage.{Tmessage}
-use Rattle.requests.specs.declared.Tbody.{Tbody}
-use Rattle.requests.specs.declared.Tbody.TheVariants as M
 use Rattle.framing.specs.Writing.{FrameWritten}
 use Rattle.frames.specs.Views.{TbodyWritten}
 
-pub request_written : (lent : List ℕ) (tag : ℕ) (b : Tbody) {n : ℕ} {m : Tmessage} {o o' : List ℕ} {q : Place} → b ≡ M.Message m n
+pub request_written : (lent : List ℕ) (tag : ℕ) (b : Tbody) {n : ℕ} {m : Tmessage} {o o' : List ℕ} {q : Place} → b ≡ Ok (m, n)
     → FrameWritten (layout_t m) (type_t m) tag lent (values_t m) o o' q → TbodyWritten lent tag b o o' q
 unfolding TbodyWritten
 request_written lent tag b e w = rw e w
 
-pub request_refused : (lent : List ℕ) (tag : ℕ) (b : Tbody) (o : List ℕ) {k : Refusal} {at : ℕ} → b ≡ M.Refused k at → TbodyWritten lent tag b o o (Err (R.HoldsRefusal, 0))
+pub request_refused : (lent : List ℕ) (tag : ℕ) (b : Tbody) (o : List ℕ) {k : Refusal} {at : ℕ} → b ≡ Err (k, at) → TbodyWritten lent tag b o o (Err (R.HoldsRefusal, 0))
 unfolding TbodyWritten
 request_refused lent tag b o e = rw e (refl, refl)

@@ -63,8 +63,8 @@ pub fn request_at(s: &[u8], ty: u8, at: usize) -> Tbody
 {
     let b = requests::read_tmessage(s, ty, framing::body_at(s, at));
     match b {
-        Tbody::Message(m, end) => Tbody::Message(m, numbers::saturating_sub(end, at)),
-        Tbody::Refused(k, n) => Tbody::Refused(k, n),
+        Ok((m, end)) => Ok((m, numbers::saturating_sub(end, at))),
+        Err(Fault(k, n)) => Err(Fault(k, n)),
     }
 }
 
@@ -74,8 +74,8 @@ pub fn reply_at(s: &[u8], ty: u8, at: usize) -> Rbody
 {
     let b = replies::read_rmessage(s, ty, framing::body_at(s, at));
     match b {
-        Rbody::Message(m, end) => Rbody::Message(m, numbers::saturating_sub(end, at)),
-        Rbody::Refused(k, n) => Rbody::Refused(k, n),
+        Ok((m, end)) => Ok((m, numbers::saturating_sub(end, at))),
+        Err(Fault(k, n)) => Err(Fault(k, n)),
     }
 }
 
@@ -113,12 +113,12 @@ pub fn read_rframe_at(s: &[u8], position: usize) -> ReadRframe
     };
     let body = reply_at(&s[..at + n], ty, at);
     match body {
-        Rbody::Message(msg, used) => {
+        Ok((msg, used)) => {
             let tag = Tag(tag);
             let frame = Rframe { at, tag, msg };
             ReadRframe::Frame(frame, used)
         }
-        Rbody::Refused(k, n) => ReadRframe::Refused(k, n),
+        Err(Fault(k, n)) => ReadRframe::Refused(k, n),
     }
 }
 
@@ -136,12 +136,12 @@ pub fn write_tframe(out: &mut [u8], lent: &[u8], f: Tframe) -> Place
     let tag = f.tag;
     let msg = f.msg;
     match msg {
-        Tbody::Message(m, _) => {
+        Ok((m, _)) => {
             let end = requests::write_tmessage(out, Ok(framing::BODY), lent, m);
             let ty = requests::type_of(m);
             framing::put_header(out, end, ty, tag.0)
         }
-        Tbody::Refused(_, _) => Err(Fault(Refusal::HoldsRefusal, 0)),
+        Err(Fault(_, _)) => Err(Fault(Refusal::HoldsRefusal, 0)),
     }
 }
 

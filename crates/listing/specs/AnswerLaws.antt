@@ -1,33 +1,29 @@
 -- The number that a body's answer is listed with, case by case.
-use Rattle.std.specs.Prelude.{ℕ, ◌≡◌}
+use Rattle.std.specs.Prelude.{ℕ, ◌≡◌, Ok, Err}
 use Rattle.numbers.specs.Refusals.{number_of}
 use Rattle.numbers.specs.declared.Refusal.{Refusal}
-use Rattle.requests.specs.Views.{view_t}
+use Rattle.requests.specs.Views.{view_t, Tbody}
 use Rattle.requests.specs.declared.Tmessage.{Tmessage}
-use Rattle.requests.specs.declared.Tbody.{Tbody}
-use Rattle.requests.specs.declared.Tbody.TheVariants as T
-use Rattle.replies.specs.Views.{view_r}
+use Rattle.replies.specs.Views.{view_r, Rbody}
 use Rattle.replies.specs.declared.Rmessage.{Rmessage}
-use Rattle.replies.specs.declared.Rbody.{Rbody}
-use Rattle.replies.specs.declared.Rbody.TheVariants as Q
 use Rattle.stretch.specs.Views.{view_body}
 use Rattle.stretch.specs.declared.Body.{Body}
 use Rattle.stretch.specs.declared.Body.TheVariants as B
 use Rattle.listing.specs.Text.{answer_number}
 
 module _ {c : Body} where
-  pub number_of_request : {b : Tbody} {m : Tmessage} {n : ℕ} → c ≡ B.Request b → b ≡ T.Message m n → 0 ≡ answer_number (view_body c)
+  pub number_of_request : {b : Tbody} {m : Tmessage} {n : ℕ} → c ≡ B.Request b → b ≡ Ok (m, n) → 0 ≡ answer_number (view_body c)
   unfolding view_body view_t
   number_of_request e f = rw (e, f)
 
-  pub number_of_no_request : {b : Tbody} {k : Refusal} {at : ℕ} {x : ℕ} → c ≡ B.Request b → b ≡ T.Refused k at → x ≡ number_of k → x ≡ answer_number (view_body c)
+  pub number_of_no_request : {b : Tbody} {k : Refusal} {at : ℕ} {x : ℕ} → c ≡ B.Request b → b ≡ Err (k, at) → x ≡ number_of k → x ≡ answer_number (view_body c)
   unfolding view_body view_t
   number_of_no_request e f h = rw (e, f) h
 
-  pub number_of_reply : {b : Rbody} {m : Rmessage} {n : ℕ} → c ≡ B.Reply b → b ≡ Q.Message m n → 0 ≡ answer_number (view_body c)
+  pub number_of_reply : {b : Rbody} {m : Rmessage} {n : ℕ} → c ≡ B.Reply b → b ≡ Ok (m, n) → 0 ≡ answer_number (view_body c)
   unfolding view_body view_r
   number_of_reply e f = rw (e, f)
 
-  pub number_of_no_reply : {b : Rbody} {k : Refusal} {at : ℕ} {x : ℕ} → c ≡ B.Reply b → b ≡ Q.Refused k at → x ≡ number_of k → x ≡ answer_number (view_body c)
+  pub number_of_no_reply : {b : Rbody} {k : Refusal} {at : ℕ} {x : ℕ} → c ≡ B.Reply b → b ≡ Err (k, at) → x ≡ number_of k → x ≡ answer_number (view_body c)
   unfolding view_body view_r
   number_of_no_reply e f h = rw (e, f) h

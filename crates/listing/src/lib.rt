@@ -48,12 +48,12 @@ fn answer_of(body: Body) -> u8
 {
     match body {
         Body::Request(b) => match b {
-            Tbody::Message(_, _) => 0,
-            Tbody::Refused(k, _) => numbers::number(k),
+            Ok((_, _)) => 0,
+            Err(Fault(k, _)) => numbers::number(k),
         },
         Body::Reply(b) => match b {
-            Rbody::Message(_, _) => 0,
-            Rbody::Refused(k, _) => numbers::number(k),
+            Ok((_, _)) => 0,
+            Err(Fault(k, _)) => numbers::number(k),
         },
     }
 }

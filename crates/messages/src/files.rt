@@ -21,16 +21,15 @@ pub struct Tlopen {
 pub fn read_tlopen(s: &[u8], p: Place) -> Read<Tlopen>
     ensures { Fields layout_tlopen s.now p (tlopen result.value) result.next }
 {
-    let r1 = numbers::read_u32(s, p);
-    let p1 = r1.next;
-    let fid = Fid(r1.value);
-    let r2 = numbers::read_u32(s, p1);
-    let p2 = r2.next;
-    let value = Tlopen {
-        fid,
-        flags: r2.value,
-    };
-    Read { value, next: p2 }
+    let fid = numbers::read_u32(s, p);
+    let flags = numbers::read_u32(s, fid.next);
+    Read {
+        value: Tlopen {
+            fid: Fid(fid.value),
+            flags: flags.value,
+        },
+        next: flags.next,
+    }
 }
 
 pub fn write_tlopen(out: &mut [u8], p: Place, lent: &[u8], m: Tlopen) -> Place
@@ -38,8 +37,7 @@ pub fn write_tlopen(out: &mut [u8], p: Place, lent: &[u8], m: Tlopen) -> Place
 {
     let end = laying::advanced(p, 8);
     let start = laying::begun(p, end, out.len());
-    let fid = m.fid;
-    let q1 = numbers::put_u32(out, start, fid.0);
+    let q1 = numbers::put_u32(out, start, m.fid.0);
     numbers::put_u32(out, q1, m.flags)
 }
 
@@ -52,16 +50,15 @@ pub struct Rlopen {
 pub fn read_rlopen(s: &[u8], p: Place) -> Read<Rlopen>
     ensures { Fields layout_rlopen s.now p (rlopen result.value) result.next }
 {
-    let r1 = qids::read_qid(s, p);
-    let p1 = r1.next;
-    let qid = r1.value;
-    let r2 = numbers::read_u32(s, p1);
-    let p2 = r2.next;
-    let value = Rlopen {
-        qid,
-        iounit: r2.value,
-    };
-    Read { value, next: p2 }
+    let qid = qids::read_qid(s, p);
+    let iounit = numbers::read_u32(s, qid.next);
+    Read {
+        value: Rlopen {
+            qid: qid.value,
+            iounit: iounit.value,
+        },
+        next: iounit.next,
+    }
 }
 
 pub fn write_rlopen(out: &mut [u8], p: Place, lent: &[u8], m: Rlopen) -> Place
@@ -69,10 +66,9 @@ pub fn write_rlopen(out: &mut [u8], p: Place, lent: &[u8], m: Rlopen) -> Place
 {
     let end = laying::advanced(p, 17);
     let start = laying::begun(p, end, out.len());
-    let qid = m.qid;
-    let q1 = numbers::put_u8(out, start, qid.ty);
-    let q2 = numbers::put_u32(out, q1, qid.version);
-    let q3 = numbers::put_u64(out, q2, qid.path);
+    let q1 = numbers::put_u8(out, start, m.qid.ty);
+    let q2 = numbers::put_u32(out, q1, m.qid.version);
+    let q3 = numbers::put_u64(out, q2, m.qid.path);
     numbers::put_u32(out, q3, m.iounit)
 }
 
@@ -88,45 +84,36 @@ pub struct Tlcreate {
 pub fn read_tlcreate(s: &[u8], p: Place) -> Read<Tlcreate>
     ensures { Fields layout_tlcreate s.now p (tlcreate result.value) result.next }
 {
-    let r1 = numbers::read_u32(s, p);
-    let p1 = r1.next;
-    let fid = Fid(r1.value);
-    let r2 = strings::read_str(s, p1);
-    let p2 = r2.next;
-    let name = r2.value;
-    let r3 = numbers::read_u32(s, p2);
-    let p3 = r3.next;
-    let r4 = numbers::read_u32(s, p3);
-    let p4 = r4.next;
-    let r5 = numbers::read_u32(s, p4);
-    let p5 = r5.next;
-    let gid = Gid(r5.value);
-    let value = Tlcreate {
-        fid,
-        name,
-        flags: r3.value,
-        mode: r4.value,
-        gid,
-    };
-    Read { value, next: p5 }
+    let fid = numbers::read_u32(s, p);
+    let name = strings::read_str(s, fid.next);
+    let flags = numbers::read_u32(s, name.next);
+    let mode = numbers::read_u32(s, flags.next);
+    let gid = numbers::read_u32(s, mode.next);
+    Read {
+        value: Tlcreate {
+            fid: Fid(fid.value),
+            name: name.value,
+            flags: flags.value,
+            mode: mode.value,
+            gid: Gid(gid.value),
+        },
+        next: gid.next,
+    }
 }
 
 pub fn write_tlcreate(out: &mut [u8], p: Place, lent: &[u8], m: Tlcreate) -> Place
     ensures { Written layout_tlcreate lent.now (tlcreate m) out.old p out.new result }
 {
     let p1 = laying::advanced(p, 4);
-    let name = m.name;
-    let p2 = laying::measure_str(lent, name, p1);
+    let p2 = laying::measure_str(lent, m.name, p1);
     let end = laying::advanced(p2, 12);
     let start = laying::begun(p, end, out.len());
-    let fid = m.fid;
-    let q1 = numbers::put_u32(out, start, fid.0);
-    let q2 = numbers::put_num(out, q1, name.len as u64, 2);
-    let q3 = strings::put_bytes(out, q2, lent, name);
+    let q1 = numbers::put_u32(out, start, m.fid.0);
+    let q2 = numbers::put_num(out, q1, m.name.len as u64, 2);
+    let q3 = strings::put_bytes(out, q2, lent, m.name);
     let q4 = numbers::put_u32(out, q3, m.flags);
     let q5 = numbers::put_u32(out, q4, m.mode);
-    let gid = m.gid;
-    numbers::put_u32(out, q5, gid.0)
+    numbers::put_u32(out, q5, m.gid.0)
 }
 
 #[derive(Clone, Copy)]
@@ -138,16 +125,15 @@ pub struct Rlcreate {
 pub fn read_rlcreate(s: &[u8], p: Place) -> Read<Rlcreate>
     ensures { Fields layout_rlcreate s.now p (rlcreate result.value) result.next }
 {
-    let r1 = qids::read_qid(s, p);
-    let p1 = r1.next;
-    let qid = r1.value;
-    let r2 = numbers::read_u32(s, p1);
-    let p2 = r2.next;
-    let value = Rlcreate {
-        qid,
-        iounit: r2.value,
-    };
-    Read { value, next: p2 }
+    let qid = qids::read_qid(s, p);
+    let iounit = numbers::read_u32(s, qid.next);
+    Read {
+        value: Rlcreate {
+            qid: qid.value,
+            iounit: iounit.value,
+        },
+        next: iounit.next,
+    }
 }
 
 pub fn write_rlcreate(out: &mut [u8], p: Place, lent: &[u8], m: Rlcreate) -> Place
@@ -155,10 +141,9 @@ pub fn write_rlcreate(out: &mut [u8], p: Place, lent: &[u8], m: Rlcreate) -> Pla
 {
     let end = laying::advanced(p, 17);
     let start = laying::begun(p, end, out.len());
-    let qid = m.qid;
-    let q1 = numbers::put_u8(out, start, qid.ty);
-    let q2 = numbers::put_u32(out, q1, qid.version);
-    let q3 = numbers::put_u64(out, q2, qid.path);
+    let q1 = numbers::put_u8(out, start, m.qid.ty);
+    let q2 = numbers::put_u32(out, q1, m.qid.version);
+    let q3 = numbers::put_u64(out, q2, m.qid.path);
     numbers::put_u32(out, q3, m.iounit)
 }
 
@@ -171,16 +156,15 @@ pub struct Tfsync {
 pub fn read_tfsync(s: &[u8], p: Place) -> Read<Tfsync>
     ensures { Fields layout_tfsync s.now p (tfsync result.value) result.next }
 {
-    let r1 = numbers::read_u32(s, p);
-    let p1 = r1.next;
-    let fid = Fid(r1.value);
-    let r2 = numbers::read_u32(s, p1);
-    let p2 = r2.next;
-    let value = Tfsync {
-        fid,
-        datasync: r2.value,
-    };
-    Read { value, next: p2 }
+    let fid = numbers::read_u32(s, p);
+    let datasync = numbers::read_u32(s, fid.next);
+    Read {
+        value: Tfsync {
+            fid: Fid(fid.value),
+            datasync: datasync.value,
+        },
+        next: datasync.next,
+    }
 }
 
 pub fn write_tfsync(out: &mut [u8], p: Place, lent: &[u8], m: Tfsync) -> Place
@@ -188,7 +172,6 @@ pub fn write_tfsync(out: &mut [u8], p: Place, lent: &[u8], m: Tfsync) -> Place
 {
     let end = laying::advanced(p, 8);
     let start = laying::begun(p, end, out.len());
-    let fid = m.fid;
-    let q1 = numbers::put_u32(out, start, fid.0);
+    let q1 = numbers::put_u32(out, start, m.fid.0);
     numbers::put_u32(out, q1, m.datasync)
 }

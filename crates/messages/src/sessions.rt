@@ -21,42 +21,34 @@ pub struct Tauth {
 pub fn read_tauth(s: &[u8], p: Place) -> Read<Tauth>
     ensures { Fields layout_tauth s.now p (tauth result.value) result.next }
 {
-    let r1 = numbers::read_u32(s, p);
-    let p1 = r1.next;
-    let afid = Fid(r1.value);
-    let r2 = strings::read_str(s, p1);
-    let p2 = r2.next;
-    let uname = r2.value;
-    let r3 = strings::read_str(s, p2);
-    let p3 = r3.next;
-    let aname = r3.value;
-    let r4 = numbers::read_u32(s, p3);
-    let p4 = r4.next;
-    let value = Tauth {
-        afid,
-        uname,
-        aname,
-        n_uname: r4.value,
-    };
-    Read { value, next: p4 }
+    let afid = numbers::read_u32(s, p);
+    let uname = strings::read_str(s, afid.next);
+    let aname = strings::read_str(s, uname.next);
+    let n_uname = numbers::read_u32(s, aname.next);
+    Read {
+        value: Tauth {
+            afid: Fid(afid.value),
+            uname: uname.value,
+            aname: aname.value,
+            n_uname: n_uname.value,
+        },
+        next: n_uname.next,
+    }
 }
 
 pub fn write_tauth(out: &mut [u8], p: Place, lent: &[u8], m: Tauth) -> Place
     ensures { Written layout_tauth lent.now (tauth m) out.old p out.new result }
 {
     let p1 = laying::advanced(p, 4);
-    let uname = m.uname;
-    let p2 = laying::measure_str(lent, uname, p1);
-    let aname = m.aname;
-    let p3 = laying::measure_str(lent, aname, p2);
+    let p2 = laying::measure_str(lent, m.uname, p1);
+    let p3 = laying::measure_str(lent, m.aname, p2);
     let end = laying::advanced(p3, 4);
     let start = laying::begun(p, end, out.len());
-    let afid = m.afid;
-    let q1 = numbers::put_u32(out, start, afid.0);
-    let q2 = numbers::put_num(out, q1, uname.len as u64, 2);
-    let q3 = strings::put_bytes(out, q2, lent, uname);
-    let q4 = numbers::put_num(out, q3, aname.len as u64, 2);
-    let q5 = strings::put_bytes(out, q4, lent, aname);
+    let q1 = numbers::put_u32(out, start, m.afid.0);
+    let q2 = numbers::put_num(out, q1, m.uname.len as u64, 2);
+    let q3 = strings::put_bytes(out, q2, lent, m.uname);
+    let q4 = numbers::put_num(out, q3, m.aname.len as u64, 2);
+    let q5 = strings::put_bytes(out, q4, lent, m.aname);
     numbers::put_u32(out, q5, m.n_uname)
 }
 
@@ -72,48 +64,37 @@ pub struct Tattach {
 pub fn read_tattach(s: &[u8], p: Place) -> Read<Tattach>
     ensures { Fields layout_tattach s.now p (tattach result.value) result.next }
 {
-    let r1 = numbers::read_u32(s, p);
-    let p1 = r1.next;
-    let fid = Fid(r1.value);
-    let r2 = numbers::read_u32(s, p1);
-    let p2 = r2.next;
-    let afid = Fid(r2.value);
-    let r3 = strings::read_str(s, p2);
-    let p3 = r3.next;
-    let uname = r3.value;
-    let r4 = strings::read_str(s, p3);
-    let p4 = r4.next;
-    let aname = r4.value;
-    let r5 = numbers::read_u32(s, p4);
-    let p5 = r5.next;
-    let value = Tattach {
-        fid,
-        afid,
-        uname,
-        aname,
-        n_uname: r5.value,
-    };
-    Read { value, next: p5 }
+    let fid = numbers::read_u32(s, p);
+    let afid = numbers::read_u32(s, fid.next);
+    let uname = strings::read_str(s, afid.next);
+    let aname = strings::read_str(s, uname.next);
+    let n_uname = numbers::read_u32(s, aname.next);
+    Read {
+        value: Tattach {
+            fid: Fid(fid.value),
+            afid: Fid(afid.value),
+            uname: uname.value,
+            aname: aname.value,
+            n_uname: n_uname.value,
+        },
+        next: n_uname.next,
+    }
 }
 
 pub fn write_tattach(out: &mut [u8], p: Place, lent: &[u8], m: Tattach) -> Place
     ensures { Written layout_tattach lent.now (tattach m) out.old p out.new result }
 {
     let p1 = laying::advanced(p, 8);
-    let uname = m.uname;
-    let p2 = laying::measure_str(lent, uname, p1);
-    let aname = m.aname;
-    let p3 = laying::measure_str(lent, aname, p2);
+    let p2 = laying::measure_str(lent, m.uname, p1);
+    let p3 = laying::measure_str(lent, m.aname, p2);
     let end = laying::advanced(p3, 4);
     let start = laying::begun(p, end, out.len());
-    let fid = m.fid;
-    let q1 = numbers::put_u32(out, start, fid.0);
-    let afid = m.afid;
-    let q2 = numbers::put_u32(out, q1, afid.0);
-    let q3 = numbers::put_num(out, q2, uname.len as u64, 2);
-    let q4 = strings::put_bytes(out, q3, lent, uname);
-    let q5 = numbers::put_num(out, q4, aname.len as u64, 2);
-    let q6 = strings::put_bytes(out, q5, lent, aname);
+    let q1 = numbers::put_u32(out, start, m.fid.0);
+    let q2 = numbers::put_u32(out, q1, m.afid.0);
+    let q3 = numbers::put_num(out, q2, m.uname.len as u64, 2);
+    let q4 = strings::put_bytes(out, q3, lent, m.uname);
+    let q5 = numbers::put_num(out, q4, m.aname.len as u64, 2);
+    let q6 = strings::put_bytes(out, q5, lent, m.aname);
     numbers::put_u32(out, q6, m.n_uname)
 }
 
@@ -125,10 +106,11 @@ pub struct Rlerror {
 pub fn read_rlerror(s: &[u8], p: Place) -> Read<Rlerror>
     ensures { Fields layout_rlerror s.now p (rlerror result.value) result.next }
 {
-    let r1 = numbers::read_u32(s, p);
-    let p1 = r1.next;
-    let value = Rlerror { ecode: r1.value };
-    Read { value, next: p1 }
+    let ecode = numbers::read_u32(s, p);
+    Read {
+        value: Rlerror { ecode: ecode.value },
+        next: ecode.next,
+    }
 }
 
 pub fn write_rlerror(out: &mut [u8], p: Place, lent: &[u8], m: Rlerror) -> Place

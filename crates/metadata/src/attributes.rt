@@ -20,11 +20,13 @@ pub struct Tstatfs {
 pub fn read_tstatfs(s: &[u8], p: Place) -> Read<Tstatfs>
     ensures { Fields layout_tstatfs s.now p (tstatfs result.value) result.next }
 {
-    let r1 = numbers::read_u32(s, p);
-    let p1 = r1.next;
-    let fid = Fid(r1.value);
-    let value = Tstatfs { fid };
-    Read { value, next: p1 }
+    let fid = numbers::read_u32(s, p);
+    Read {
+        value: Tstatfs {
+            fid: Fid(fid.value),
+        },
+        next: fid.next,
+    }
 }
 
 pub fn write_tstatfs(out: &mut [u8], p: Place, lent: &[u8], m: Tstatfs) -> Place
@@ -32,8 +34,7 @@ pub fn write_tstatfs(out: &mut [u8], p: Place, lent: &[u8], m: Tstatfs) -> Place
 {
     let end = laying::advanced(p, 4);
     let start = laying::begun(p, end, out.len());
-    let fid = m.fid;
-    numbers::put_u32(out, start, fid.0)
+    numbers::put_u32(out, start, m.fid.0)
 }
 
 #[derive(Clone, Copy)]
@@ -52,36 +53,29 @@ pub struct Rstatfs {
 pub fn read_rstatfs(s: &[u8], p: Place) -> Read<Rstatfs>
     ensures { Fields layout_rstatfs s.now p (rstatfs result.value) result.next }
 {
-    let r1 = numbers::read_u32(s, p);
-    let p1 = r1.next;
-    let r2 = numbers::read_u32(s, p1);
-    let p2 = r2.next;
-    let r3 = numbers::read_u64(s, p2);
-    let p3 = r3.next;
-    let r4 = numbers::read_u64(s, p3);
-    let p4 = r4.next;
-    let r5 = numbers::read_u64(s, p4);
-    let p5 = r5.next;
-    let r6 = numbers::read_u64(s, p5);
-    let p6 = r6.next;
-    let r7 = numbers::read_u64(s, p6);
-    let p7 = r7.next;
-    let r8 = numbers::read_u64(s, p7);
-    let p8 = r8.next;
-    let r9 = numbers::read_u32(s, p8);
-    let p9 = r9.next;
-    let value = Rstatfs {
-        ty: r1.value,
-        bsize: r2.value,
-        blocks: r3.value,
-        bfree: r4.value,
-        bavail: r5.value,
-        files: r6.value,
-        ffree: r7.value,
-        fsid: r8.value,
-        namelen: r9.value,
-    };
-    Read { value, next: p9 }
+    let ty = numbers::read_u32(s, p);
+    let bsize = numbers::read_u32(s, ty.next);
+    let blocks = numbers::read_u64(s, bsize.next);
+    let bfree = numbers::read_u64(s, blocks.next);
+    let bavail = numbers::read_u64(s, bfree.next);
+    let files = numbers::read_u64(s, bavail.next);
+    let ffree = numbers::read_u64(s, files.next);
+    let fsid = numbers::read_u64(s, ffree.next);
+    let namelen = numbers::read_u32(s, fsid.next);
+    Read {
+        value: Rstatfs {
+            ty: ty.value,
+            bsize: bsize.value,
+            blocks: blocks.value,
+            bfree: bfree.value,
+            bavail: bavail.value,
+            files: files.value,
+            ffree: ffree.value,
+            fsid: fsid.value,
+            namelen: namelen.value,
+        },
+        next: namelen.next,
+    }
 }
 
 pub fn write_rstatfs(out: &mut [u8], p: Place, lent: &[u8], m: Rstatfs) -> Place
@@ -109,16 +103,15 @@ pub struct Tgetattr {
 pub fn read_tgetattr(s: &[u8], p: Place) -> Read<Tgetattr>
     ensures { Fields layout_tgetattr s.now p (tgetattr result.value) result.next }
 {
-    let r1 = numbers::read_u32(s, p);
-    let p1 = r1.next;
-    let fid = Fid(r1.value);
-    let r2 = numbers::read_u64(s, p1);
-    let p2 = r2.next;
-    let value = Tgetattr {
-        fid,
-        request_mask: r2.value,
-    };
-    Read { value, next: p2 }
+    let fid = numbers::read_u32(s, p);
+    let request_mask = numbers::read_u64(s, fid.next);
+    Read {
+        value: Tgetattr {
+            fid: Fid(fid.value),
+            request_mask: request_mask.value,
+        },
+        next: request_mask.next,
+    }
 }
 
 pub fn write_tgetattr(out: &mut [u8], p: Place, lent: &[u8], m: Tgetattr) -> Place
@@ -126,8 +119,7 @@ pub fn write_tgetattr(out: &mut [u8], p: Place, lent: &[u8], m: Tgetattr) -> Pla
 {
     let end = laying::advanced(p, 12);
     let start = laying::begun(p, end, out.len());
-    let fid = m.fid;
-    let q1 = numbers::put_u32(out, start, fid.0);
+    let q1 = numbers::put_u32(out, start, m.fid.0);
     numbers::put_u64(out, q1, m.request_mask)
 }
 
@@ -158,71 +150,51 @@ pub struct Rgetattr {
 pub fn read_rgetattr(s: &[u8], p: Place) -> Read<Rgetattr>
     ensures { Fields layout_rgetattr s.now p (rgetattr result.value) result.next }
 {
-    let r1 = numbers::read_u64(s, p);
-    let p1 = r1.next;
-    let r2 = qids::read_qid(s, p1);
-    let p2 = r2.next;
-    let qid = r2.value;
-    let r3 = numbers::read_u32(s, p2);
-    let p3 = r3.next;
-    let r4 = numbers::read_u32(s, p3);
-    let p4 = r4.next;
-    let r5 = numbers::read_u32(s, p4);
-    let p5 = r5.next;
-    let gid = Gid(r5.value);
-    let r6 = numbers::read_u64(s, p5);
-    let p6 = r6.next;
-    let r7 = numbers::read_u64(s, p6);
-    let p7 = r7.next;
-    let r8 = numbers::read_u64(s, p7);
-    let p8 = r8.next;
-    let r9 = numbers::read_u64(s, p8);
-    let p9 = r9.next;
-    let r10 = numbers::read_u64(s, p9);
-    let p10 = r10.next;
-    let r11 = numbers::read_u64(s, p10);
-    let p11 = r11.next;
-    let r12 = numbers::read_u64(s, p11);
-    let p12 = r12.next;
-    let r13 = numbers::read_u64(s, p12);
-    let p13 = r13.next;
-    let r14 = numbers::read_u64(s, p13);
-    let p14 = r14.next;
-    let r15 = numbers::read_u64(s, p14);
-    let p15 = r15.next;
-    let r16 = numbers::read_u64(s, p15);
-    let p16 = r16.next;
-    let r17 = numbers::read_u64(s, p16);
-    let p17 = r17.next;
-    let r18 = numbers::read_u64(s, p17);
-    let p18 = r18.next;
-    let r19 = numbers::read_u64(s, p18);
-    let p19 = r19.next;
-    let r20 = numbers::read_u64(s, p19);
-    let p20 = r20.next;
-    let value = Rgetattr {
-        valid: r1.value,
-        qid,
-        mode: r3.value,
-        uid: r4.value,
-        gid,
-        nlink: r6.value,
-        rdev: r7.value,
-        size: r8.value,
-        blksize: r9.value,
-        blocks: r10.value,
-        atime_sec: r11.value,
-        atime_nsec: r12.value,
-        mtime_sec: r13.value,
-        mtime_nsec: r14.value,
-        ctime_sec: r15.value,
-        ctime_nsec: r16.value,
-        btime_sec: r17.value,
-        btime_nsec: r18.value,
-        gen_: r19.value,
-        data_version: r20.value,
-    };
-    Read { value, next: p20 }
+    let valid = numbers::read_u64(s, p);
+    let qid = qids::read_qid(s, valid.next);
+    let mode = numbers::read_u32(s, qid.next);
+    let uid = numbers::read_u32(s, mode.next);
+    let gid = numbers::read_u32(s, uid.next);
+    let nlink = numbers::read_u64(s, gid.next);
+    let rdev = numbers::read_u64(s, nlink.next);
+    let size = numbers::read_u64(s, rdev.next);
+    let blksize = numbers::read_u64(s, size.next);
+    let blocks = numbers::read_u64(s, blksize.next);
+    let atime_sec = numbers::read_u64(s, blocks.next);
+    let atime_nsec = numbers::read_u64(s, atime_sec.next);
+    let mtime_sec = numbers::read_u64(s, atime_nsec.next);
+    let mtime_nsec = numbers::read_u64(s, mtime_sec.next);
+    let ctime_sec = numbers::read_u64(s, mtime_nsec.next);
+    let ctime_nsec = numbers::read_u64(s, ctime_sec.next);
+    let btime_sec = numbers::read_u64(s, ctime_nsec.next);
+    let btime_nsec = numbers::read_u64(s, btime_sec.next);
+    let gen_ = numbers::read_u64(s, btime_nsec.next);
+    let data_version = numbers::read_u64(s, gen_.next);
+    Read {
+        value: Rgetattr {
+            valid: valid.value,
+            qid: qid.value,
+            mode: mode.value,
+            uid: uid.value,
+            gid: Gid(gid.value),
+            nlink: nlink.value,
+            rdev: rdev.value,
+            size: size.value,
+            blksize: blksize.value,
+            blocks: blocks.value,
+            atime_sec: atime_sec.value,
+            atime_nsec: atime_nsec.value,
+            mtime_sec: mtime_sec.value,
+            mtime_nsec: mtime_nsec.value,
+            ctime_sec: ctime_sec.value,
+            ctime_nsec: ctime_nsec.value,
+            btime_sec: btime_sec.value,
+            btime_nsec: btime_nsec.value,
+            gen_: gen_.value,
+            data_version: data_version.value,
+        },
+        next: data_version.next,
+    }
 }
 
 pub fn write_rgetattr(out: &mut [u8], p: Place, lent: &[u8], m: Rgetattr) -> Place
@@ -231,14 +203,12 @@ pub fn write_rgetattr(out: &mut [u8], p: Place, lent: &[u8], m: Rgetattr) -> Pla
     let end = laying::advanced(p, 153);
     let start = laying::begun(p, end, out.len());
     let q1 = numbers::put_u64(out, start, m.valid);
-    let qid = m.qid;
-    let q2 = numbers::put_u8(out, q1, qid.ty);
-    let q3 = numbers::put_u32(out, q2, qid.version);
-    let q4 = numbers::put_u64(out, q3, qid.path);
+    let q2 = numbers::put_u8(out, q1, m.qid.ty);
+    let q3 = numbers::put_u32(out, q2, m.qid.version);
+    let q4 = numbers::put_u64(out, q3, m.qid.path);
     let q5 = numbers::put_u32(out, q4, m.mode);
     let q6 = numbers::put_u32(out, q5, m.uid);
-    let gid = m.gid;
-    let q7 = numbers::put_u32(out, q6, gid.0);
+    let q7 = numbers::put_u32(out, q6, m.gid.0);
     let q8 = numbers::put_u64(out, q7, m.nlink);
     let q9 = numbers::put_u64(out, q8, m.rdev);
     let q10 = numbers::put_u64(out, q9, m.size);
@@ -273,41 +243,31 @@ pub struct Tsetattr {
 pub fn read_tsetattr(s: &[u8], p: Place) -> Read<Tsetattr>
     ensures { Fields layout_tsetattr s.now p (tsetattr result.value) result.next }
 {
-    let r1 = numbers::read_u32(s, p);
-    let p1 = r1.next;
-    let fid = Fid(r1.value);
-    let r2 = numbers::read_u32(s, p1);
-    let p2 = r2.next;
-    let r3 = numbers::read_u32(s, p2);
-    let p3 = r3.next;
-    let r4 = numbers::read_u32(s, p3);
-    let p4 = r4.next;
-    let r5 = numbers::read_u32(s, p4);
-    let p5 = r5.next;
-    let gid = Gid(r5.value);
-    let r6 = numbers::read_u64(s, p5);
-    let p6 = r6.next;
-    let r7 = numbers::read_u64(s, p6);
-    let p7 = r7.next;
-    let r8 = numbers::read_u64(s, p7);
-    let p8 = r8.next;
-    let r9 = numbers::read_u64(s, p8);
-    let p9 = r9.next;
-    let r10 = numbers::read_u64(s, p9);
-    let p10 = r10.next;
-    let value = Tsetattr {
-        fid,
-        valid: r2.value,
-        mode: r3.value,
-        uid: r4.value,
-        gid,
-        size: r6.value,
-        atime_sec: r7.value,
-        atime_nsec: r8.value,
-        mtime_sec: r9.value,
-        mtime_nsec: r10.value,
-    };
-    Read { value, next: p10 }
+    let fid = numbers::read_u32(s, p);
+    let valid = numbers::read_u32(s, fid.next);
+    let mode = numbers::read_u32(s, valid.next);
+    let uid = numbers::read_u32(s, mode.next);
+    let gid = numbers::read_u32(s, uid.next);
+    let size = numbers::read_u64(s, gid.next);
+    let atime_sec = numbers::read_u64(s, size.next);
+    let atime_nsec = numbers::read_u64(s, atime_sec.next);
+    let mtime_sec = numbers::read_u64(s, atime_nsec.next);
+    let mtime_nsec = numbers::read_u64(s, mtime_sec.next);
+    Read {
+        value: Tsetattr {
+            fid: Fid(fid.value),
+            valid: valid.value,
+            mode: mode.value,
+            uid: uid.value,
+            gid: Gid(gid.value),
+            size: size.value,
+            atime_sec: atime_sec.value,
+            atime_nsec: atime_nsec.value,
+            mtime_sec: mtime_sec.value,
+            mtime_nsec: mtime_nsec.value,
+        },
+        next: mtime_nsec.next,
+    }
 }
 
 pub fn write_tsetattr(out: &mut [u8], p: Place, lent: &[u8], m: Tsetattr) -> Place
@@ -315,13 +275,11 @@ pub fn write_tsetattr(out: &mut [u8], p: Place, lent: &[u8], m: Tsetattr) -> Pla
 {
     let end = laying::advanced(p, 60);
     let start = laying::begun(p, end, out.len());
-    let fid = m.fid;
-    let q1 = numbers::put_u32(out, start, fid.0);
+    let q1 = numbers::put_u32(out, start, m.fid.0);
     let q2 = numbers::put_u32(out, q1, m.valid);
     let q3 = numbers::put_u32(out, q2, m.mode);
     let q4 = numbers::put_u32(out, q3, m.uid);
-    let gid = m.gid;
-    let q5 = numbers::put_u32(out, q4, gid.0);
+    let q5 = numbers::put_u32(out, q4, m.gid.0);
     let q6 = numbers::put_u64(out, q5, m.size);
     let q7 = numbers::put_u64(out, q6, m.atime_sec);
     let q8 = numbers::put_u64(out, q7, m.atime_nsec);
@@ -339,32 +297,29 @@ pub struct Txattrwalk {
 pub fn read_txattrwalk(s: &[u8], p: Place) -> Read<Txattrwalk>
     ensures { Fields layout_txattrwalk s.now p (txattrwalk result.value) result.next }
 {
-    let r1 = numbers::read_u32(s, p);
-    let p1 = r1.next;
-    let fid = Fid(r1.value);
-    let r2 = numbers::read_u32(s, p1);
-    let p2 = r2.next;
-    let newfid = Fid(r2.value);
-    let r3 = strings::read_str(s, p2);
-    let p3 = r3.next;
-    let name = r3.value;
-    let value = Txattrwalk { fid, newfid, name };
-    Read { value, next: p3 }
+    let fid = numbers::read_u32(s, p);
+    let newfid = numbers::read_u32(s, fid.next);
+    let name = strings::read_str(s, newfid.next);
+    Read {
+        value: Txattrwalk {
+            fid: Fid(fid.value),
+            newfid: Fid(newfid.value),
+            name: name.value,
+        },
+        next: name.next,
+    }
 }
 
 pub fn write_txattrwalk(out: &mut [u8], p: Place, lent: &[u8], m: Txattrwalk) -> Place
     ensures { Written layout_txattrwalk lent.now (txattrwalk m) out.old p out.new result }
 {
     let p1 = laying::advanced(p, 8);
-    let name = m.name;
-    let end = laying::measure_str(lent, name, p1);
+    let end = laying::measure_str(lent, m.name, p1);
     let start = laying::begun(p, end, out.len());
-    let fid = m.fid;
-    let q1 = numbers::put_u32(out, start, fid.0);
-    let newfid = m.newfid;
-    let q2 = numbers::put_u32(out, q1, newfid.0);
-    let q3 = numbers::put_num(out, q2, name.len as u64, 2);
-    strings::put_bytes(out, q3, lent, name)
+    let q1 = numbers::put_u32(out, start, m.fid.0);
+    let q2 = numbers::put_u32(out, q1, m.newfid.0);
+    let q3 = numbers::put_num(out, q2, m.name.len as u64, 2);
+    strings::put_bytes(out, q3, lent, m.name)
 }
 
 #[derive(Clone, Copy)]
@@ -375,10 +330,11 @@ pub struct Rxattrwalk {
 pub fn read_rxattrwalk(s: &[u8], p: Place) -> Read<Rxattrwalk>
     ensures { Fields layout_rxattrwalk s.now p (rxattrwalk result.value) result.next }
 {
-    let r1 = numbers::read_u64(s, p);
-    let p1 = r1.next;
-    let value = Rxattrwalk { size: r1.value };
-    Read { value, next: p1 }
+    let size = numbers::read_u64(s, p);
+    Read {
+        value: Rxattrwalk { size: size.value },
+        next: size.next,
+    }
 }
 
 pub fn write_rxattrwalk(out: &mut [u8], p: Place, lent: &[u8], m: Rxattrwalk) -> Place
@@ -400,37 +356,31 @@ pub struct Txattrcreate {
 pub fn read_txattrcreate(s: &[u8], p: Place) -> Read<Txattrcreate>
     ensures { Fields layout_txattrcreate s.now p (txattrcreate result.value) result.next }
 {
-    let r1 = numbers::read_u32(s, p);
-    let p1 = r1.next;
-    let fid = Fid(r1.value);
-    let r2 = strings::read_str(s, p1);
-    let p2 = r2.next;
-    let name = r2.value;
-    let r3 = numbers::read_u64(s, p2);
-    let p3 = r3.next;
-    let r4 = numbers::read_u32(s, p3);
-    let p4 = r4.next;
-    let value = Txattrcreate {
-        fid,
-        name,
-        attr_size: r3.value,
-        flags: r4.value,
-    };
-    Read { value, next: p4 }
+    let fid = numbers::read_u32(s, p);
+    let name = strings::read_str(s, fid.next);
+    let attr_size = numbers::read_u64(s, name.next);
+    let flags = numbers::read_u32(s, attr_size.next);
+    Read {
+        value: Txattrcreate {
+            fid: Fid(fid.value),
+            name: name.value,
+            attr_size: attr_size.value,
+            flags: flags.value,
+        },
+        next: flags.next,
+    }
 }
 
 pub fn write_txattrcreate(out: &mut [u8], p: Place, lent: &[u8], m: Txattrcreate) -> Place
     ensures { Written layout_txattrcreate lent.now (txattrcreate m) out.old p out.new result }
 {
     let p1 = laying::advanced(p, 4);
-    let name = m.name;
-    let p2 = laying::measure_str(lent, name, p1);
+    let p2 = laying::measure_str(lent, m.name, p1);
     let end = laying::advanced(p2, 12);
     let start = laying::begun(p, end, out.len());
-    let fid = m.fid;
-    let q1 = numbers::put_u32(out, start, fid.0);
-    let q2 = numbers::put_num(out, q1, name.len as u64, 2);
-    let q3 = strings::put_bytes(out, q2, lent, name);
+    let q1 = numbers::put_u32(out, start, m.fid.0);
+    let q2 = numbers::put_num(out, q1, m.name.len as u64, 2);
+    let q3 = strings::put_bytes(out, q2, lent, m.name);
     let q4 = numbers::put_u64(out, q3, m.attr_size);
     numbers::put_u32(out, q4, m.flags)
 }

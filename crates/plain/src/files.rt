@@ -21,16 +21,15 @@ pub struct Topen {
 pub fn read_topen(s: &[u8], p: Place) -> Read<Topen>
     ensures { Fields layout_topen s.now p (topen result.value) result.next }
 {
-    let r1 = numbers::read_u32(s, p);
-    let p1 = r1.next;
-    let fid = Fid(r1.value);
-    let r2 = numbers::read_u8(s, p1);
-    let p2 = r2.next;
-    let value = Topen {
-        fid,
-        mode: r2.value,
-    };
-    Read { value, next: p2 }
+    let fid = numbers::read_u32(s, p);
+    let mode = numbers::read_u8(s, fid.next);
+    Read {
+        value: Topen {
+            fid: Fid(fid.value),
+            mode: mode.value,
+        },
+        next: mode.next,
+    }
 }
 
 pub fn write_topen(out: &mut [u8], p: Place, lent: &[u8], m: Topen) -> Place
@@ -38,8 +37,7 @@ pub fn write_topen(out: &mut [u8], p: Place, lent: &[u8], m: Topen) -> Place
 {
     let end = laying::advanced(p, 5);
     let start = laying::begun(p, end, out.len());
-    let fid = m.fid;
-    let q1 = numbers::put_u32(out, start, fid.0);
+    let q1 = numbers::put_u32(out, start, m.fid.0);
     numbers::put_u8(out, q1, m.mode)
 }
 
@@ -52,16 +50,15 @@ pub struct Ropen {
 pub fn read_ropen(s: &[u8], p: Place) -> Read<Ropen>
     ensures { Fields layout_ropen s.now p (ropen result.value) result.next }
 {
-    let r1 = qids::read_qid(s, p);
-    let p1 = r1.next;
-    let qid = r1.value;
-    let r2 = numbers::read_u32(s, p1);
-    let p2 = r2.next;
-    let value = Ropen {
-        qid,
-        iounit: r2.value,
-    };
-    Read { value, next: p2 }
+    let qid = qids::read_qid(s, p);
+    let iounit = numbers::read_u32(s, qid.next);
+    Read {
+        value: Ropen {
+            qid: qid.value,
+            iounit: iounit.value,
+        },
+        next: iounit.next,
+    }
 }
 
 pub fn write_ropen(out: &mut [u8], p: Place, lent: &[u8], m: Ropen) -> Place
@@ -69,10 +66,9 @@ pub fn write_ropen(out: &mut [u8], p: Place, lent: &[u8], m: Ropen) -> Place
 {
     let end = laying::advanced(p, 17);
     let start = laying::begun(p, end, out.len());
-    let qid = m.qid;
-    let q1 = numbers::put_u8(out, start, qid.ty);
-    let q2 = numbers::put_u32(out, q1, qid.version);
-    let q3 = numbers::put_u64(out, q2, qid.path);
+    let q1 = numbers::put_u8(out, start, m.qid.ty);
+    let q2 = numbers::put_u32(out, q1, m.qid.version);
+    let q3 = numbers::put_u64(out, q2, m.qid.path);
     numbers::put_u32(out, q3, m.iounit)
 }
 
@@ -87,37 +83,31 @@ pub struct Tcreate {
 pub fn read_tcreate(s: &[u8], p: Place) -> Read<Tcreate>
     ensures { Fields layout_tcreate s.now p (tcreate result.value) result.next }
 {
-    let r1 = numbers::read_u32(s, p);
-    let p1 = r1.next;
-    let fid = Fid(r1.value);
-    let r2 = strings::read_str(s, p1);
-    let p2 = r2.next;
-    let name = r2.value;
-    let r3 = numbers::read_u32(s, p2);
-    let p3 = r3.next;
-    let r4 = numbers::read_u8(s, p3);
-    let p4 = r4.next;
-    let value = Tcreate {
-        fid,
-        name,
-        perm: r3.value,
-        mode: r4.value,
-    };
-    Read { value, next: p4 }
+    let fid = numbers::read_u32(s, p);
+    let name = strings::read_str(s, fid.next);
+    let perm = numbers::read_u32(s, name.next);
+    let mode = numbers::read_u8(s, perm.next);
+    Read {
+        value: Tcreate {
+            fid: Fid(fid.value),
+            name: name.value,
+            perm: perm.value,
+            mode: mode.value,
+        },
+        next: mode.next,
+    }
 }
 
 pub fn write_tcreate(out: &mut [u8], p: Place, lent: &[u8], m: Tcreate) -> Place
     ensures { Written layout_tcreate lent.now (tcreate m) out.old p out.new result }
 {
     let p1 = laying::advanced(p, 4);
-    let name = m.name;
-    let p2 = laying::measure_str(lent, name, p1);
+    let p2 = laying::measure_str(lent, m.name, p1);
     let end = laying::advanced(p2, 5);
     let start = laying::begun(p, end, out.len());
-    let fid = m.fid;
-    let q1 = numbers::put_u32(out, start, fid.0);
-    let q2 = numbers::put_num(out, q1, name.len as u64, 2);
-    let q3 = strings::put_bytes(out, q2, lent, name);
+    let q1 = numbers::put_u32(out, start, m.fid.0);
+    let q2 = numbers::put_num(out, q1, m.name.len as u64, 2);
+    let q3 = strings::put_bytes(out, q2, lent, m.name);
     let q4 = numbers::put_u32(out, q3, m.perm);
     numbers::put_u8(out, q4, m.mode)
 }
@@ -131,16 +121,15 @@ pub struct Rcreate {
 pub fn read_rcreate(s: &[u8], p: Place) -> Read<Rcreate>
     ensures { Fields layout_rcreate s.now p (rcreate result.value) result.next }
 {
-    let r1 = qids::read_qid(s, p);
-    let p1 = r1.next;
-    let qid = r1.value;
-    let r2 = numbers::read_u32(s, p1);
-    let p2 = r2.next;
-    let value = Rcreate {
-        qid,
-        iounit: r2.value,
-    };
-    Read { value, next: p2 }
+    let qid = qids::read_qid(s, p);
+    let iounit = numbers::read_u32(s, qid.next);
+    Read {
+        value: Rcreate {
+            qid: qid.value,
+            iounit: iounit.value,
+        },
+        next: iounit.next,
+    }
 }
 
 pub fn write_rcreate(out: &mut [u8], p: Place, lent: &[u8], m: Rcreate) -> Place
@@ -148,9 +137,8 @@ pub fn write_rcreate(out: &mut [u8], p: Place, lent: &[u8], m: Rcreate) -> Place
 {
     let end = laying::advanced(p, 17);
     let start = laying::begun(p, end, out.len());
-    let qid = m.qid;
-    let q1 = numbers::put_u8(out, start, qid.ty);
-    let q2 = numbers::put_u32(out, q1, qid.version);
-    let q3 = numbers::put_u64(out, q2, qid.path);
+    let q1 = numbers::put_u8(out, start, m.qid.ty);
+    let q2 = numbers::put_u32(out, q1, m.qid.version);
+    let q3 = numbers::put_u64(out, q2, m.qid.path);
     numbers::put_u32(out, q3, m.iounit)
 }

@@ -17,152 +17,131 @@ use strings::Span;
 pub fn flat_tstat(m: Tstat, values: &mut [u64; WIDTH_T])
     ensures { values.new ≡ stored values.old 0 (flat_values (tstat m)) }
 {
-    let fid = m.fid;
-    values[0] = fid.0 as u64;
+    values[0] = m.fid.0 as u64;
 }
 
 pub fn tstat_of(v: [u64; WIDTH_T]) -> Tstat
     ensures { tstat result ≡ field_values layout_tstat v }
 {
-    let fid = Fid((v[0] % U32) as u32);
-    Tstat { fid }
+    Tstat {
+        fid: Fid((v[0] % U32) as u32),
+    }
 }
 
 pub fn flat_rstat(m: Rstat, values: &mut [u64; WIDTH_R])
     ensures { values.new ≡ stored values.old 0 (flat_values (rstat m)) }
 {
-    let stat = m.stat;
-    let qid = stat.qid;
-    let name = stat.name;
-    let uid = stat.uid;
-    let gid = stat.gid;
-    let muid = stat.muid;
-    values[0] = stat.ty as u64;
-    values[1] = stat.dev as u64;
-    values[2] = qid.ty as u64;
-    values[3] = qid.version as u64;
-    values[4] = qid.path;
-    values[5] = stat.mode as u64;
-    values[6] = stat.atime as u64;
-    values[7] = stat.mtime as u64;
-    values[8] = stat.length;
-    values[9] = name.start as u64;
-    values[10] = name.len as u64;
-    values[11] = uid.start as u64;
-    values[12] = uid.len as u64;
-    values[13] = gid.start as u64;
-    values[14] = gid.len as u64;
-    values[15] = muid.start as u64;
-    values[16] = muid.len as u64;
+    values[0] = m.stat.ty as u64;
+    values[1] = m.stat.dev as u64;
+    values[2] = m.stat.qid.ty as u64;
+    values[3] = m.stat.qid.version as u64;
+    values[4] = m.stat.qid.path;
+    values[5] = m.stat.mode as u64;
+    values[6] = m.stat.atime as u64;
+    values[7] = m.stat.mtime as u64;
+    values[8] = m.stat.length;
+    values[9] = m.stat.name.start as u64;
+    values[10] = m.stat.name.len as u64;
+    values[11] = m.stat.uid.start as u64;
+    values[12] = m.stat.uid.len as u64;
+    values[13] = m.stat.gid.start as u64;
+    values[14] = m.stat.gid.len as u64;
+    values[15] = m.stat.muid.start as u64;
+    values[16] = m.stat.muid.len as u64;
 }
 
 pub fn rstat_of(v: [u64; WIDTH_R]) -> Rstat
     ensures { rstat result ≡ field_values layout_rstat v }
 {
-    let qid = Qid {
-        ty: (v[2] % U8) as u8,
-        version: (v[3] % U32) as u32,
-        path: v[4],
-    };
-    let name = Span {
-        start: v[9] as usize,
-        len: v[10] as usize,
-    };
-    let uid = Span {
-        start: v[11] as usize,
-        len: v[12] as usize,
-    };
-    let gid = Span {
-        start: v[13] as usize,
-        len: v[14] as usize,
-    };
-    let muid = Span {
-        start: v[15] as usize,
-        len: v[16] as usize,
-    };
-    let stat = Stat {
-        ty: (v[0] % U16) as u16,
-        dev: (v[1] % U32) as u32,
-        qid,
-        mode: (v[5] % U32) as u32,
-        atime: (v[6] % U32) as u32,
-        mtime: (v[7] % U32) as u32,
-        length: v[8],
-        name,
-        uid,
-        gid,
-        muid,
-    };
-    Rstat { stat }
+    Rstat {
+        stat: Stat {
+            ty: (v[0] % U16) as u16,
+            dev: (v[1] % U32) as u32,
+            qid: Qid {
+                ty: (v[2] % U8) as u8,
+                version: (v[3] % U32) as u32,
+                path: v[4],
+            },
+            mode: (v[5] % U32) as u32,
+            atime: (v[6] % U32) as u32,
+            mtime: (v[7] % U32) as u32,
+            length: v[8],
+            name: Span {
+                start: v[9] as usize,
+                len: v[10] as usize,
+            },
+            uid: Span {
+                start: v[11] as usize,
+                len: v[12] as usize,
+            },
+            gid: Span {
+                start: v[13] as usize,
+                len: v[14] as usize,
+            },
+            muid: Span {
+                start: v[15] as usize,
+                len: v[16] as usize,
+            },
+        },
+    }
 }
 
 pub fn flat_twstat(m: Twstat, values: &mut [u64; WIDTH_T])
     ensures { values.new ≡ stored values.old 0 (flat_values (twstat m)) }
 {
-    let fid = m.fid;
-    let stat = m.stat;
-    let qid = stat.qid;
-    let name = stat.name;
-    let uid = stat.uid;
-    let gid = stat.gid;
-    let muid = stat.muid;
-    values[0] = fid.0 as u64;
-    values[1] = stat.ty as u64;
-    values[2] = stat.dev as u64;
-    values[3] = qid.ty as u64;
-    values[4] = qid.version as u64;
-    values[5] = qid.path;
-    values[6] = stat.mode as u64;
-    values[7] = stat.atime as u64;
-    values[8] = stat.mtime as u64;
-    values[9] = stat.length;
-    values[10] = name.start as u64;
-    values[11] = name.len as u64;
-    values[12] = uid.start as u64;
-    values[13] = uid.len as u64;
-    values[14] = gid.start as u64;
-    values[15] = gid.len as u64;
-    values[16] = muid.start as u64;
-    values[17] = muid.len as u64;
+    values[0] = m.fid.0 as u64;
+    values[1] = m.stat.ty as u64;
+    values[2] = m.stat.dev as u64;
+    values[3] = m.stat.qid.ty as u64;
+    values[4] = m.stat.qid.version as u64;
+    values[5] = m.stat.qid.path;
+    values[6] = m.stat.mode as u64;
+    values[7] = m.stat.atime as u64;
+    values[8] = m.stat.mtime as u64;
+    values[9] = m.stat.length;
+    values[10] = m.stat.name.start as u64;
+    values[11] = m.stat.name.len as u64;
+    values[12] = m.stat.uid.start as u64;
+    values[13] = m.stat.uid.len as u64;
+    values[14] = m.stat.gid.start as u64;
+    values[15] = m.stat.gid.len as u64;
+    values[16] = m.stat.muid.start as u64;
+    values[17] = m.stat.muid.len as u64;
 }
 
 pub fn twstat_of(v: [u64; WIDTH_T]) -> Twstat
     ensures { twstat result ≡ field_values layout_twstat v }
 {
-    let fid = Fid((v[0] % U32) as u32);
-    let qid = Qid {
-        ty: (v[3] % U8) as u8,
-        version: (v[4] % U32) as u32,
-        path: v[5],
-    };
-    let name = Span {
-        start: v[10] as usize,
-        len: v[11] as usize,
-    };
-    let uid = Span {
-        start: v[12] as usize,
-        len: v[13] as usize,
-    };
-    let gid = Span {
-        start: v[14] as usize,
-        len: v[15] as usize,
-    };
-    let muid = Span {
-        start: v[16] as usize,
-        len: v[17] as usize,
-    };
-    let stat = Stat {
-        ty: (v[1] % U16) as u16,
-        dev: (v[2] % U32) as u32,
-        qid,
-        mode: (v[6] % U32) as u32,
-        atime: (v[7] % U32) as u32,
-        mtime: (v[8] % U32) as u32,
-        length: v[9],
-        name,
-        uid,
-        gid,
-        muid,
-    };
-    Twstat { fid, stat }
+    Twstat {
+        fid: Fid((v[0] % U32) as u32),
+        stat: Stat {
+            ty: (v[1] % U16) as u16,
+            dev: (v[2] % U32) as u32,
+            qid: Qid {
+                ty: (v[3] % U8) as u8,
+                version: (v[4] % U32) as u32,
+                path: v[5],
+            },
+            mode: (v[6] % U32) as u32,
+            atime: (v[7] % U32) as u32,
+            mtime: (v[8] % U32) as u32,
+            length: v[9],
+            name: Span {
+                start: v[10] as usize,
+                len: v[11] as usize,
+            },
+            uid: Span {
+                start: v[12] as usize,
+                len: v[13] as usize,
+            },
+            gid: Span {
+                start: v[14] as usize,
+                len: v[15] as usize,
+            },
+            muid: Span {
+                start: v[16] as usize,
+                len: v[17] as usize,
+            },
+        },
+    }
 }

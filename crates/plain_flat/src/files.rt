@@ -19,8 +19,7 @@ use strings::Span;
 pub fn flat_tread(m: Tread, values: &mut [u64; WIDTH_T])
     ensures { values.new ≡ stored values.old 0 (flat_values (tread m)) }
 {
-    let fid = m.fid;
-    values[0] = fid.0 as u64;
+    values[0] = m.fid.0 as u64;
     values[1] = m.offset;
     values[2] = m.count as u64;
 }
@@ -28,9 +27,8 @@ pub fn flat_tread(m: Tread, values: &mut [u64; WIDTH_T])
 pub fn tread_of(v: [u64; WIDTH_T]) -> Tread
     ensures { tread result ≡ field_values layout_tread v }
 {
-    let fid = Fid((v[0] % U32) as u32);
     Tread {
-        fid,
+        fid: Fid((v[0] % U32) as u32),
         offset: v[1],
         count: (v[2] % U32) as u32,
     }
@@ -39,57 +37,51 @@ pub fn tread_of(v: [u64; WIDTH_T]) -> Tread
 pub fn flat_twrite(m: Twrite, values: &mut [u64; WIDTH_T])
     ensures { values.new ≡ stored values.old 0 (flat_values (twrite m)) }
 {
-    let fid = m.fid;
-    let data = m.data;
-    values[0] = fid.0 as u64;
+    values[0] = m.fid.0 as u64;
     values[1] = m.offset;
-    values[2] = data.start as u64;
-    values[3] = data.len as u64;
+    values[2] = m.data.start as u64;
+    values[3] = m.data.len as u64;
 }
 
 pub fn twrite_of(v: [u64; WIDTH_T]) -> Twrite
     ensures { twrite result ≡ field_values layout_twrite v }
 {
-    let fid = Fid((v[0] % U32) as u32);
-    let data = Span {
-        start: v[2] as usize,
-        len: v[3] as usize,
-    };
     Twrite {
-        fid,
+        fid: Fid((v[0] % U32) as u32),
         offset: v[1],
-        data,
+        data: Span {
+            start: v[2] as usize,
+            len: v[3] as usize,
+        },
     }
 }
 
 pub fn flat_tremove(m: Tremove, values: &mut [u64; WIDTH_T])
     ensures { values.new ≡ stored values.old 0 (flat_values (tremove m)) }
 {
-    let fid = m.fid;
-    values[0] = fid.0 as u64;
+    values[0] = m.fid.0 as u64;
 }
 
 pub fn tremove_of(v: [u64; WIDTH_T]) -> Tremove
     ensures { tremove result ≡ field_values layout_tremove v }
 {
-    let fid = Fid((v[0] % U32) as u32);
-    Tremove { fid }
+    Tremove {
+        fid: Fid((v[0] % U32) as u32),
+    }
 }
 
 pub fn flat_topen(m: Topen, values: &mut [u64; WIDTH_T])
     ensures { values.new ≡ stored values.old 0 (flat_values (topen m)) }
 {
-    let fid = m.fid;
-    values[0] = fid.0 as u64;
+    values[0] = m.fid.0 as u64;
     values[1] = m.mode as u64;
 }
 
 pub fn topen_of(v: [u64; WIDTH_T]) -> Topen
     ensures { topen result ≡ field_values layout_topen v }
 {
-    let fid = Fid((v[0] % U32) as u32);
     Topen {
-        fid,
+        fid: Fid((v[0] % U32) as u32),
         mode: (v[1] % U8) as u8,
     }
 }
@@ -97,23 +89,21 @@ pub fn topen_of(v: [u64; WIDTH_T]) -> Topen
 pub fn flat_ropen(m: Ropen, values: &mut [u64; WIDTH_R])
     ensures { values.new ≡ stored values.old 0 (flat_values (ropen m)) }
 {
-    let qid = m.qid;
-    values[0] = qid.ty as u64;
-    values[1] = qid.version as u64;
-    values[2] = qid.path;
+    values[0] = m.qid.ty as u64;
+    values[1] = m.qid.version as u64;
+    values[2] = m.qid.path;
     values[3] = m.iounit as u64;
 }
 
 pub fn ropen_of(v: [u64; WIDTH_R]) -> Ropen
     ensures { ropen result ≡ field_values layout_ropen v }
 {
-    let qid = Qid {
-        ty: (v[0] % U8) as u8,
-        version: (v[1] % U32) as u32,
-        path: v[2],
-    };
     Ropen {
-        qid,
+        qid: Qid {
+            ty: (v[0] % U8) as u8,
+            version: (v[1] % U32) as u32,
+            path: v[2],
+        },
         iounit: (v[3] % U32) as u32,
     }
 }
@@ -121,11 +111,9 @@ pub fn ropen_of(v: [u64; WIDTH_R]) -> Ropen
 pub fn flat_tcreate(m: Tcreate, values: &mut [u64; WIDTH_T])
     ensures { values.new ≡ stored values.old 0 (flat_values (tcreate m)) }
 {
-    let fid = m.fid;
-    let name = m.name;
-    values[0] = fid.0 as u64;
-    values[1] = name.start as u64;
-    values[2] = name.len as u64;
+    values[0] = m.fid.0 as u64;
+    values[1] = m.name.start as u64;
+    values[2] = m.name.len as u64;
     values[3] = m.perm as u64;
     values[4] = m.mode as u64;
 }
@@ -133,14 +121,12 @@ pub fn flat_tcreate(m: Tcreate, values: &mut [u64; WIDTH_T])
 pub fn tcreate_of(v: [u64; WIDTH_T]) -> Tcreate
     ensures { tcreate result ≡ field_values layout_tcreate v }
 {
-    let fid = Fid((v[0] % U32) as u32);
-    let name = Span {
-        start: v[1] as usize,
-        len: v[2] as usize,
-    };
     Tcreate {
-        fid,
-        name,
+        fid: Fid((v[0] % U32) as u32),
+        name: Span {
+            start: v[1] as usize,
+            len: v[2] as usize,
+        },
         perm: (v[3] % U32) as u32,
         mode: (v[4] % U8) as u8,
     }
@@ -149,23 +135,21 @@ pub fn tcreate_of(v: [u64; WIDTH_T]) -> Tcreate
 pub fn flat_rcreate(m: Rcreate, values: &mut [u64; WIDTH_R])
     ensures { values.new ≡ stored values.old 0 (flat_values (rcreate m)) }
 {
-    let qid = m.qid;
-    values[0] = qid.ty as u64;
-    values[1] = qid.version as u64;
-    values[2] = qid.path;
+    values[0] = m.qid.ty as u64;
+    values[1] = m.qid.version as u64;
+    values[2] = m.qid.path;
     values[3] = m.iounit as u64;
 }
 
 pub fn rcreate_of(v: [u64; WIDTH_R]) -> Rcreate
     ensures { rcreate result ≡ field_values layout_rcreate v }
 {
-    let qid = Qid {
-        ty: (v[0] % U8) as u8,
-        version: (v[1] % U32) as u32,
-        path: v[2],
-    };
     Rcreate {
-        qid,
+        qid: Qid {
+            ty: (v[0] % U8) as u8,
+            version: (v[1] % U32) as u32,
+            path: v[2],
+        },
         iounit: (v[3] % U32) as u32,
     }
 }

@@ -18,131 +18,119 @@ use strings::Span;
 pub fn flat_tversion(m: Tversion, values: &mut [u64; WIDTH_T])
     ensures { values.new ≡ stored values.old 0 (flat_values (tversion m)) }
 {
-    let version = m.version;
     values[0] = m.msize as u64;
-    values[1] = version.start as u64;
-    values[2] = version.len as u64;
+    values[1] = m.version.start as u64;
+    values[2] = m.version.len as u64;
 }
 
 pub fn tversion_of(v: [u64; WIDTH_T]) -> Tversion
     ensures { tversion result ≡ field_values layout_tversion v }
 {
-    let version = Span {
-        start: v[1] as usize,
-        len: v[2] as usize,
-    };
     Tversion {
         msize: (v[0] % U32) as u32,
-        version,
+        version: Span {
+            start: v[1] as usize,
+            len: v[2] as usize,
+        },
     }
 }
 
 pub fn flat_tflush(m: Tflush, values: &mut [u64; WIDTH_T])
     ensures { values.new ≡ stored values.old 0 (flat_values (tflush m)) }
 {
-    let oldtag = m.oldtag;
-    values[0] = oldtag.0 as u64;
+    values[0] = m.oldtag.0 as u64;
 }
 
 pub fn tflush_of(v: [u64; WIDTH_T]) -> Tflush
     ensures { tflush result ≡ field_values layout_tflush v }
 {
-    let oldtag = Tag((v[0] % U16) as u16);
-    Tflush { oldtag }
+    Tflush {
+        oldtag: Tag((v[0] % U16) as u16),
+    }
 }
 
 pub fn flat_tclunk(m: Tclunk, values: &mut [u64; WIDTH_T])
     ensures { values.new ≡ stored values.old 0 (flat_values (tclunk m)) }
 {
-    let fid = m.fid;
-    values[0] = fid.0 as u64;
+    values[0] = m.fid.0 as u64;
 }
 
 pub fn tclunk_of(v: [u64; WIDTH_T]) -> Tclunk
     ensures { tclunk result ≡ field_values layout_tclunk v }
 {
-    let fid = Fid((v[0] % U32) as u32);
-    Tclunk { fid }
+    Tclunk {
+        fid: Fid((v[0] % U32) as u32),
+    }
 }
 
 pub fn flat_tauth(m: Tauth, values: &mut [u64; WIDTH_T])
     ensures { values.new ≡ stored values.old 0 (flat_values (tauth m)) }
 {
-    let afid = m.afid;
-    let uname = m.uname;
-    let aname = m.aname;
-    values[0] = afid.0 as u64;
-    values[1] = uname.start as u64;
-    values[2] = uname.len as u64;
-    values[3] = aname.start as u64;
-    values[4] = aname.len as u64;
+    values[0] = m.afid.0 as u64;
+    values[1] = m.uname.start as u64;
+    values[2] = m.uname.len as u64;
+    values[3] = m.aname.start as u64;
+    values[4] = m.aname.len as u64;
 }
 
 pub fn tauth_of(v: [u64; WIDTH_T]) -> Tauth
     ensures { tauth result ≡ field_values layout_tauth v }
 {
-    let afid = Fid((v[0] % U32) as u32);
-    let uname = Span {
-        start: v[1] as usize,
-        len: v[2] as usize,
-    };
-    let aname = Span {
-        start: v[3] as usize,
-        len: v[4] as usize,
-    };
-    Tauth { afid, uname, aname }
+    Tauth {
+        afid: Fid((v[0] % U32) as u32),
+        uname: Span {
+            start: v[1] as usize,
+            len: v[2] as usize,
+        },
+        aname: Span {
+            start: v[3] as usize,
+            len: v[4] as usize,
+        },
+    }
 }
 
 pub fn flat_tattach(m: Tattach, values: &mut [u64; WIDTH_T])
     ensures { values.new ≡ stored values.old 0 (flat_values (tattach m)) }
 {
-    let fid = m.fid;
-    let afid = m.afid;
-    let uname = m.uname;
-    let aname = m.aname;
-    values[0] = fid.0 as u64;
-    values[1] = afid.0 as u64;
-    values[2] = uname.start as u64;
-    values[3] = uname.len as u64;
-    values[4] = aname.start as u64;
-    values[5] = aname.len as u64;
+    values[0] = m.fid.0 as u64;
+    values[1] = m.afid.0 as u64;
+    values[2] = m.uname.start as u64;
+    values[3] = m.uname.len as u64;
+    values[4] = m.aname.start as u64;
+    values[5] = m.aname.len as u64;
 }
 
 pub fn tattach_of(v: [u64; WIDTH_T]) -> Tattach
     ensures { tattach result ≡ field_values layout_tattach v }
 {
-    let fid = Fid((v[0] % U32) as u32);
-    let afid = Fid((v[1] % U32) as u32);
-    let uname = Span {
-        start: v[2] as usize,
-        len: v[3] as usize,
-    };
-    let aname = Span {
-        start: v[4] as usize,
-        len: v[5] as usize,
-    };
     Tattach {
-        fid,
-        afid,
-        uname,
-        aname,
+        fid: Fid((v[0] % U32) as u32),
+        afid: Fid((v[1] % U32) as u32),
+        uname: Span {
+            start: v[2] as usize,
+            len: v[3] as usize,
+        },
+        aname: Span {
+            start: v[4] as usize,
+            len: v[5] as usize,
+        },
     }
 }
 
 pub fn flat_rerror(m: Rerror, values: &mut [u64; WIDTH_R])
     ensures { values.new ≡ stored values.old 0 (flat_values (rerror m)) }
 {
-    let ename = m.ename;
-    values[0] = ename.start as u64;
-    values[1] = ename.len as u64;
+    values[0] = m.ename.start as u64;
+    values[1] = m.ename.len as u64;
 }
 
 pub fn rerror_of(v: [u64; WIDTH_R]) -> Rerror
     ensures { rerror result ≡ field_values layout_rerror v }
 {
-    let ename = Span {
-        start: v[0] as usize,
-        len: v[1] as usize,
-    };
-    Rerror { ename }
+    Rerror {
+        ename: Span {
+            start: v[0] as usize,
+            len: v[1] as usize,
+        },
+    }
 }

@@ -16,33 +16,25 @@ use strings::Span;
 pub fn flat_twalk(m: Twalk, values: &mut [u64; WIDTH_T])
     ensures { values.new ≡ stored values.old 0 (flat_values (twalk m)) }
 {
-    let fid = m.fid;
-    let newfid = m.newfid;
-    let wnames = m.wnames;
-    let elements = wnames.elements;
-    values[0] = fid.0 as u64;
-    values[1] = newfid.0 as u64;
-    values[2] = wnames.count as u64;
-    values[3] = elements.start as u64;
-    values[4] = elements.len as u64;
+    values[0] = m.fid.0 as u64;
+    values[1] = m.newfid.0 as u64;
+    values[2] = m.wnames.count as u64;
+    values[3] = m.wnames.elements.start as u64;
+    values[4] = m.wnames.elements.len as u64;
 }
 
 pub fn twalk_of(v: [u64; WIDTH_T]) -> Twalk
     ensures { twalk result ≡ field_values layout_twalk v }
 {
-    let fid = Fid((v[0] % U32) as u32);
-    let newfid = Fid((v[1] % U32) as u32);
-    let elements = Span {
-        start: v[3] as usize,
-        len: v[4] as usize,
-    };
-    let wnames = Part {
-        count: (v[2] % U16) as u16,
-        elements,
-    };
     Twalk {
-        fid,
-        newfid,
-        wnames,
+        fid: Fid((v[0] % U32) as u32),
+        newfid: Fid((v[1] % U32) as u32),
+        wnames: Part {
+            count: (v[2] % U16) as u16,
+            elements: Span {
+                start: v[3] as usize,
+                len: v[4] as usize,
+            },
+        },
     }
 }

@@ -12,11 +12,7 @@ pub(crate) fn read_rstat(s: &[u8], p: Place, values: &mut [u64; WIDTH_R]) -> Pla
     ensures { FlatRead (some layout_rstat) s.now p values.old values.new result }
 {
     let r = plain::attributes::read_rstat(s, p);
-    let next = r.next;
-    let Ok(_) = next else {
-        return next;
-    };
-    let m = r.value;
-    plain_flat::attributes::flat_rstat(m, values);
-    next
+    let end = r.next?;
+    plain_flat::attributes::flat_rstat(r.value, values);
+    Ok(end)
 }

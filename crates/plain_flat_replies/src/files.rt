@@ -13,50 +13,34 @@ pub(crate) fn read_rread(s: &[u8], p: Place, values: &mut [u64; WIDTH_R]) -> Pla
     ensures { FlatRead (some layout_rread) s.now p values.old values.new result }
 {
     let r = common::files::read_rread(s, p);
-    let next = r.next;
-    let Ok(_) = next else {
-        return next;
-    };
-    let m = r.value;
-    flat::files::flat_rread(m, values);
-    next
+    let end = r.next?;
+    flat::files::flat_rread(r.value, values);
+    Ok(end)
 }
 
 pub(crate) fn read_rwrite(s: &[u8], p: Place, values: &mut [u64; WIDTH_R]) -> Place
     ensures { FlatRead (some layout_rwrite) s.now p values.old values.new result }
 {
-    let next = flat::skip(s, p, 4);
-    let Ok(_) = next else {
-        return next;
-    };
+    let end = flat::skip(s, p, 4)?;
     let r = common::files::read_rwrite(s, p);
-    let m = r.value;
-    flat::files::flat_rwrite(m, values);
-    next
+    flat::files::flat_rwrite(r.value, values);
+    Ok(end)
 }
 
 pub(crate) fn read_ropen(s: &[u8], p: Place, values: &mut [u64; WIDTH_R]) -> Place
     ensures { FlatRead (some layout_ropen) s.now p values.old values.new result }
 {
-    let next = flat::skip(s, p, 17);
-    let Ok(_) = next else {
-        return next;
-    };
+    let end = flat::skip(s, p, 17)?;
     let r = plain::files::read_ropen(s, p);
-    let m = r.value;
-    plain_flat::files::flat_ropen(m, values);
-    next
+    plain_flat::files::flat_ropen(r.value, values);
+    Ok(end)
 }
 
 pub(crate) fn read_rcreate(s: &[u8], p: Place, values: &mut [u64; WIDTH_R]) -> Place
     ensures { FlatRead (some layout_rcreate) s.now p values.old values.new result }
 {
-    let next = flat::skip(s, p, 17);
-    let Ok(_) = next else {
-        return next;
-    };
+    let end = flat::skip(s, p, 17)?;
     let r = plain::files::read_rcreate(s, p);
-    let m = r.value;
-    plain_flat::files::flat_rcreate(m, values);
-    next
+    plain_flat::files::flat_rcreate(r.value, values);
+    Ok(end)
 }

@@ -13,50 +13,34 @@ pub(crate) fn read_rversion(s: &[u8], p: Place, values: &mut [u64; WIDTH_R]) -> 
     ensures { FlatRead (some layout_rversion) s.now p values.old values.new result }
 {
     let r = common::sessions::read_rversion(s, p);
-    let next = r.next;
-    let Ok(_) = next else {
-        return next;
-    };
-    let m = r.value;
-    flat::sessions::flat_rversion(m, values);
-    next
+    let end = r.next?;
+    flat::sessions::flat_rversion(r.value, values);
+    Ok(end)
 }
 
 pub(crate) fn read_rauth(s: &[u8], p: Place, values: &mut [u64; WIDTH_R]) -> Place
     ensures { FlatRead (some layout_rauth) s.now p values.old values.new result }
 {
-    let next = flat::skip(s, p, 13);
-    let Ok(_) = next else {
-        return next;
-    };
+    let end = flat::skip(s, p, 13)?;
     let r = common::sessions::read_rauth(s, p);
-    let m = r.value;
-    flat::sessions::flat_rauth(m, values);
-    next
+    flat::sessions::flat_rauth(r.value, values);
+    Ok(end)
 }
 
 pub(crate) fn read_rattach(s: &[u8], p: Place, values: &mut [u64; WIDTH_R]) -> Place
     ensures { FlatRead (some layout_rattach) s.now p values.old values.new result }
 {
-    let next = flat::skip(s, p, 13);
-    let Ok(_) = next else {
-        return next;
-    };
+    let end = flat::skip(s, p, 13)?;
     let r = common::sessions::read_rattach(s, p);
-    let m = r.value;
-    flat::sessions::flat_rattach(m, values);
-    next
+    flat::sessions::flat_rattach(r.value, values);
+    Ok(end)
 }
 
 pub(crate) fn read_rerror(s: &[u8], p: Place, values: &mut [u64; WIDTH_R]) -> Place
     ensures { FlatRead (some layout_rerror) s.now p values.old values.new result }
 {
     let r = plain::sessions::read_rerror(s, p);
-    let next = r.next;
-    let Ok(_) = next else {
-        return next;
-    };
-    let m = r.value;
-    plain_flat::sessions::flat_rerror(m, values);
-    next
+    let end = r.next?;
+    plain_flat::sessions::flat_rerror(r.value, values);
+    Ok(end)
 }

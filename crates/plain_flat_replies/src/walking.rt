@@ -12,11 +12,7 @@ pub(crate) fn read_rwalk(s: &[u8], p: Place, values: &mut [u64; WIDTH_R]) -> Pla
     ensures { FlatRead (some layout_rwalk) s.now p values.old values.new result }
 {
     let r = common::walking::read_rwalk(s, p);
-    let next = r.next;
-    let Ok(_) = next else {
-        return next;
-    };
-    let m = r.value;
-    flat::walking::flat_rwalk(m, values);
-    next
+    let end = r.next?;
+    flat::walking::flat_rwalk(r.value, values);
+    Ok(end)
 }

@@ -11,25 +11,17 @@ use plain_flat::WIDTH_T;
 pub(crate) fn read_tstat(s: &[u8], p: Place, values: &mut [u64; WIDTH_T]) -> Place
     ensures { FlatRead (some layout_tstat) s.now p values.old values.new result }
 {
-    let next = flat::skip(s, p, 4);
-    let Ok(_) = next else {
-        return next;
-    };
+    let end = flat::skip(s, p, 4)?;
     let r = plain::attributes::read_tstat(s, p);
-    let m = r.value;
-    plain_flat::attributes::flat_tstat(m, values);
-    next
+    plain_flat::attributes::flat_tstat(r.value, values);
+    Ok(end)
 }
 
 pub(crate) fn read_twstat(s: &[u8], p: Place, values: &mut [u64; WIDTH_T]) -> Place
     ensures { FlatRead (some layout_twstat) s.now p values.old values.new result }
 {
     let r = plain::attributes::read_twstat(s, p);
-    let next = r.next;
-    let Ok(_) = next else {
-        return next;
-    };
-    let m = r.value;
-    plain_flat::attributes::flat_twstat(m, values);
-    next
+    let end = r.next?;
+    plain_flat::attributes::flat_twstat(r.value, values);
+    Ok(end)
 }

@@ -12,64 +12,44 @@ use plain_flat::WIDTH_T;
 pub(crate) fn read_tread(s: &[u8], p: Place, values: &mut [u64; WIDTH_T]) -> Place
     ensures { FlatRead (some layout_tread) s.now p values.old values.new result }
 {
-    let next = flat::skip(s, p, 16);
-    let Ok(_) = next else {
-        return next;
-    };
+    let end = flat::skip(s, p, 16)?;
     let r = common::files::read_tread(s, p);
-    let m = r.value;
-    plain_flat::files::flat_tread(m, values);
-    next
+    plain_flat::files::flat_tread(r.value, values);
+    Ok(end)
 }
 
 pub(crate) fn read_twrite(s: &[u8], p: Place, values: &mut [u64; WIDTH_T]) -> Place
     ensures { FlatRead (some layout_twrite) s.now p values.old values.new result }
 {
     let r = common::files::read_twrite(s, p);
-    let next = r.next;
-    let Ok(_) = next else {
-        return next;
-    };
-    let m = r.value;
-    plain_flat::files::flat_twrite(m, values);
-    next
+    let end = r.next?;
+    plain_flat::files::flat_twrite(r.value, values);
+    Ok(end)
 }
 
 pub(crate) fn read_tremove(s: &[u8], p: Place, values: &mut [u64; WIDTH_T]) -> Place
     ensures { FlatRead (some layout_tremove) s.now p values.old values.new result }
 {
-    let next = flat::skip(s, p, 4);
-    let Ok(_) = next else {
-        return next;
-    };
+    let end = flat::skip(s, p, 4)?;
     let r = common::files::read_tremove(s, p);
-    let m = r.value;
-    plain_flat::files::flat_tremove(m, values);
-    next
+    plain_flat::files::flat_tremove(r.value, values);
+    Ok(end)
 }
 
 pub(crate) fn read_topen(s: &[u8], p: Place, values: &mut [u64; WIDTH_T]) -> Place
     ensures { FlatRead (some layout_topen) s.now p values.old values.new result }
 {
-    let next = flat::skip(s, p, 5);
-    let Ok(_) = next else {
-        return next;
-    };
+    let end = flat::skip(s, p, 5)?;
     let r = plain::files::read_topen(s, p);
-    let m = r.value;
-    plain_flat::files::flat_topen(m, values);
-    next
+    plain_flat::files::flat_topen(r.value, values);
+    Ok(end)
 }
 
 pub(crate) fn read_tcreate(s: &[u8], p: Place, values: &mut [u64; WIDTH_T]) -> Place
     ensures { FlatRead (some layout_tcreate) s.now p values.old values.new result }
 {
     let r = plain::files::read_tcreate(s, p);
-    let next = r.next;
-    let Ok(_) = next else {
-        return next;
-    };
-    let m = r.value;
-    plain_flat::files::flat_tcreate(m, values);
-    next
+    let end = r.next?;
+    plain_flat::files::flat_tcreate(r.value, values);
+    Ok(end)
 }

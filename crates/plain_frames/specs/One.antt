@@ -2,9 +2,8 @@
 -- Any two answers that the frame readers' promises allow are equal: an answer is determined by its view.
 use Rattle.std.specs.Prelude.{ℕ, ◌≡◌}
 use Rattle.std.proofs.Common.{arith, ap, ap₂, ◌∙◌}
-use Rattle.plain_requests.specs.Views.{view_t}
+use Rattle.plain_requests.specs.Views.{view_t, Tbody}
 use Rattle.plain_requests.specs.Built.{one_body}
-use Rattle.plain_requests.specs.declared.Tbody.{Tbody}
 use Rattle.plain_replies.specs.Views.{type_r, values_r}
 use Rattle.plain_replies.specs.Built.{one_message}
 use Rattle.plain_replies.specs.declared.Rmessage.{Rmessage}

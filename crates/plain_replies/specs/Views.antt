@@ -1,6 +1,6 @@
 -- Written by tools/messages from its table of messages.
 -- For each case of `Rmessage` its number (F3.2), its layout and its values.
-use Rattle.std.specs.Prelude.{ℕ, List, []}
+use Rattle.std.specs.Prelude.{ℕ, List, [], Result, Ok, Err}
 use Rattle.fields.specs.Layouts.{Layout}
 use Rattle.fields.specs.Values.{Value}
 use Rattle.layouts.specs.Tables.{layout_rversion, layout_rauth, layout_rattach, layout_rflush, layout_rwalk, layout_rread, layout_rwrite, layout_rclunk, layout_rremove}
@@ -8,10 +8,9 @@ use Rattle.layouts.specs.Plain.{layout_rerror, layout_ropen, layout_rcreate, lay
 use Rattle.common.specs.Records.{rversion, rauth, rattach, rwalk, rread, rwrite}
 use Rattle.plain.specs.Records.{rerror, ropen, rcreate, rstat}
 use Rattle.layouts.specs.Bodies.{Answer, accepted, refused}
+use Rattle.numbers.specs.declared.Fault.{Fault}
 use Rattle.plain_replies.specs.declared.Rmessage.{Rmessage}
 use Rattle.plain_replies.specs.declared.Rmessage.TheVariants as M
-use Rattle.plain_replies.specs.declared.Rbody.{Rbody}
-use Rattle.plain_replies.specs.declared.Rbody.TheVariants as B
 
 abbrev pub type_r : Rmessage → ℕ
 type_r (M.Version m) = 101
@@ -61,7 +60,11 @@ values_r M.Remove = []
 values_r (M.Stat m) = rstat m
 values_r M.Wstat = []
 
+-- a body that was read, and where it ends; or its refusal
+abbrev pub Rbody : Type 0
+Rbody = Result (Rmessage × ℕ) Fault
+
 -- a body seen as its number, its values and where it ends; or its refusal
 unfoldable pub view_r : Rbody → Answer
-view_r (B.Message m n) = accepted (type_r m) (values_r m) n
-view_r (B.Refused k at) = refused k at
+view_r (Ok (m, n)) = accepted (type_r m) (values_r m) n
+view_r (Err f) = refused f.0 f.1

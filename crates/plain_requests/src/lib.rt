@@ -35,19 +35,12 @@ pub enum Tmessage {
 }
 
 // A body that was read: the message and the position after its fields; or why it is refused, and where.
-#[derive(Clone, Copy)]
-pub enum Tbody {
-    Message(Tmessage, usize),
-    Refused(Refusal, usize),
-}
+pub type Tbody = Result<(Tmessage, usize), Fault>;
 
 fn finish(m: Tmessage, end: Place) -> Tbody
     ensures { view_t result ≡ finish_at (type_t m) (values_t m) end }
 {
-    match end {
-        Ok(n) => Tbody::Message(m, n),
-        Err(Fault(k, n)) => Tbody::Refused(k, n),
-    }
+    Ok((m, end?))
 }
 
 // The type decides the body.
@@ -57,83 +50,57 @@ pub fn read_tmessage(s: &[u8], ty: u8, p: Place) -> Tbody
     match ty {
         100 => {
             let r = common::sessions::read_tversion(s, p);
-            let m = r.value;
-            let e = r.next;
-            finish(Tmessage::Version(m), e)
+            finish(Tmessage::Version(r.value), r.next)
         }
         102 => {
             let r = plain::sessions::read_tauth(s, p);
-            let m = r.value;
-            let e = r.next;
-            finish(Tmessage::Auth(m), e)
+            finish(Tmessage::Auth(r.value), r.next)
         }
         104 => {
             let r = plain::sessions::read_tattach(s, p);
-            let m = r.value;
-            let e = r.next;
-            finish(Tmessage::Attach(m), e)
+            finish(Tmessage::Attach(r.value), r.next)
         }
         108 => {
             let r = common::sessions::read_tflush(s, p);
-            let m = r.value;
-            let e = r.next;
-            finish(Tmessage::Flush(m), e)
+            finish(Tmessage::Flush(r.value), r.next)
         }
         110 => {
             let r = common::walking::read_twalk(s, p);
-            let m = r.value;
-            let e = r.next;
-            finish(Tmessage::Walk(m), e)
+            finish(Tmessage::Walk(r.value), r.next)
         }
         112 => {
             let r = plain::files::read_topen(s, p);
-            let m = r.value;
-            let e = r.next;
-            finish(Tmessage::Open(m), e)
+            finish(Tmessage::Open(r.value), r.next)
         }
         114 => {
             let r = plain::files::read_tcreate(s, p);
-            let m = r.value;
-            let e = r.next;
-            finish(Tmessage::Create(m), e)
+            finish(Tmessage::Create(r.value), r.next)
         }
         116 => {
             let r = common::files::read_tread(s, p);
-            let m = r.value;
-            let e = r.next;
-            finish(Tmessage::Read(m), e)
+            finish(Tmessage::Read(r.value), r.next)
         }
         118 => {
             let r = common::files::read_twrite(s, p);
-            let m = r.value;
-            let e = r.next;
-            finish(Tmessage::Write(m), e)
+            finish(Tmessage::Write(r.value), r.next)
         }
         120 => {
             let r = common::sessions::read_tclunk(s, p);
-            let m = r.value;
-            let e = r.next;
-            finish(Tmessage::Clunk(m), e)
+            finish(Tmessage::Clunk(r.value), r.next)
         }
         122 => {
             let r = common::files::read_tremove(s, p);
-            let m = r.value;
-            let e = r.next;
-            finish(Tmessage::Remove(m), e)
+            finish(Tmessage::Remove(r.value), r.next)
         }
         124 => {
             let r = plain::attributes::read_tstat(s, p);
-            let m = r.value;
-            let e = r.next;
-            finish(Tmessage::Stat(m), e)
+            finish(Tmessage::Stat(r.value), r.next)
         }
         126 => {
             let r = plain::attributes::read_twstat(s, p);
-            let m = r.value;
-            let e = r.next;
-            finish(Tmessage::Wstat(m), e)
+            finish(Tmessage::Wstat(r.value), r.next)
         }
-        _ => Tbody::Refused(Refusal::UnknownType, 0),
+        _ => Err(Fault(Refusal::UnknownType, 0)),
     }
 }
 

@@ -1,6 +1,6 @@
 -- Written by tools/messages from crates/stretch/specs/StepLaws.antt.
 -- What each way of asking at a position answers, over plain variables.
-use Rattle.std.specs.Prelude.{ℕ, ◌-◌, ◌%◌, ◌≡◌, List, length, take}
+use Rattle.std.specs.Prelude.{ℕ, ◌-◌, ◌%◌, ◌≡◌, List, length, take, Ok, Err}
 use Rattle.std.proofs.Common.{arith, ap₂, ◌∙◌, length-take-le, ne_eqb, eq-eqb}
 use Rattle.numbers.specs.Numbers.{Bytes}
 use Rattle.numbers.specs.declared.Refusal.{Refusal}
@@ -10,14 +10,10 @@ use Rattle.framing.specs.Stretch.{answer_of, tail_in, end, stop, frame_at}
 use Rattle.framing.specs.Cuts.{between, WholeAt}
 use Rattle.framing.proofs.CutLaws.{answer_there, tail_raised, frame_same, length_whole}
 use Rattle.plain_stretch.specs.Views.{view_body, BodyOf, Leaves, ListedAs, view_step, Asked}
-use Rattle.plain_requests.specs.Views.{view_t}
+use Rattle.plain_requests.specs.Views.{view_t, Tbody}
 use Rattle.plain_requests.specs.declared.Tmessage.{Tmessage}
-use Rattle.plain_requests.specs.declared.Tbody.{Tbody}
-use Rattle.plain_requests.specs.declared.Tbody.TheVariants as T
-use Rattle.plain_replies.specs.Views.{view_r}
+use Rattle.plain_replies.specs.Views.{view_r, Rbody}
 use Rattle.plain_replies.specs.declared.Rmessage.{Rmessage}
-use Rattle.plain_replies.specs.declared.Rbody.{Rbody}
-use Rattle.plain_replies.specs.declared.Rbody.TheVariants as Q
 use Rattle.plain_stretch.specs.declared.Body.{Body}
 use Rattle.plain_stretch.specs.declared.Body.TheVariants as B
 use Rattle.plain_stretch.specs.declared.Listed.{Listed}
@@ -49,19 +45,19 @@ unfolding view_body
 reply_body {ty = ty} b e h = record { is = rw (ne_eqb (ty % 2) 0 e) h; way = e }
 
 module _ {size : ℕ} {c : Body} where
-  pub leaves_request : {b : Tbody} {m : Tmessage} {n : ℕ} → c ≡ B.Request b → b ≡ T.Message m n → Leaves size (view_body c) n
+  pub leaves_request : {b : Tbody} {m : Tmessage} {n : ℕ} → c ≡ B.Request b → b ≡ Ok (m, n) → Leaves size (view_body c) n
   unfolding view_body view_t
   leaves_request e f = record { is = rw (e, f) }
 
-  pub leaves_no_request : {b : Tbody} {k : Refusal} {at : ℕ} → c ≡ B.Request b → b ≡ T.Refused k at → Leaves size (view_body c) size
+  pub leaves_no_request : {b : Tbody} {k : Refusal} {at : ℕ} → c ≡ B.Request b → b ≡ Err (k, at) → Leaves size (view_body c) size
   unfolding view_body view_t
   leaves_no_request e f = record { is = rw (e, f) (omega arith) }
 
-  pub leaves_reply : {b : Rbody} {m : Rmessage} {n : ℕ} → c ≡ B.Reply b → b ≡ Q.Message m n → Leaves size (view_body c) n
+  pub leaves_reply : {b : Rbody} {m : Rmessage} {n : ℕ} → c ≡ B.Reply b → b ≡ Ok (m, n) → Leaves size (view_body c) n
   unfolding view_body view_r
   leaves_reply e f = record { is = rw (e, f) }
 
-  pub leaves_no_reply : {b : Rbody} {k : Refusal} {at : ℕ} → c ≡ B.Reply b → b ≡ Q.Refused k at → Leaves size (view_body c) size
+  pub leaves_no_reply : {b : Rbody} {k : Refusal} {at : ℕ} → c ≡ B.Reply b → b ≡ Err (k, at) → Leaves size (view_body c) size
   unfolding view_body view_r
   leaves_no_reply e f = record { is = rw (e, f) (omega arith) }
 

@@ -8,7 +8,7 @@ ghost use Rattle.plain_stretch.specs.Views.{BodyOf, Leaves, view_body, ListedAs,
 
 use framing::Cut;
 use layouts::ids::Tag;
-use numbers::Refusal;
+use numbers::{Fault, Refusal};
 use plain_replies::Rbody;
 use plain_requests::Tbody;
 
@@ -56,12 +56,12 @@ fn used_of(size: usize, body: Body) -> usize
 {
     match body {
         Body::Request(b) => match b {
-            Tbody::Message(_, used) => used,
-            Tbody::Refused(_, _) => size,
+            Ok((_, used)) => used,
+            Err(Fault(_, _)) => size,
         },
         Body::Reply(b) => match b {
-            Rbody::Message(_, used) => used,
-            Rbody::Refused(_, _) => size,
+            Ok((_, used)) => used,
+            Err(Fault(_, _)) => size,
         },
     }
 }

@@ -1,15 +1,13 @@
 -- Written by tools/messages from its table of messages.
 -- A view says all: a message can be built again from its number and its values, so two messages, and two bodies, with one view are equal.
-use Rattle.std.specs.Prelude.{ℕ, ◌≡◌, refl, true, false, List, eqb}
+use Rattle.std.specs.Prelude.{ℕ, ◌≡◌, refl, true, false, List, eqb, Ok, Err}
 use Rattle.std.proofs.Common.{sym, ap, ap₂, ◌∙◌}
 use Rattle.fields.specs.Values.{Value}
 use Rattle.layouts.specs.Bodies.{Answer, accepted, refused}
-use Rattle.replies.specs.Views.{type_r, values_r, view_r}
+use Rattle.replies.specs.Views.{Rbody, type_r, values_r, view_r}
 use Rattle.replies.specs.Made.{made_rversion, made_rwalk, made_rread, made_rwrite, made_rattach, made_rauth, made_rstatfs, made_rlopen, made_rlcreate, made_rsymlink, made_rmknod, made_rreadlink, made_rgetattr, made_rxattrwalk, made_rreaddir, made_rlock, made_rgetlock, made_rmkdir, made_rlerror}
 use Rattle.replies.specs.declared.Rmessage.{Rmessage}
 use Rattle.replies.specs.declared.Rmessage.TheVariants as M
-use Rattle.replies.specs.declared.Rbody.{Rbody}
-use Rattle.replies.specs.declared.Rbody.TheVariants as B
 
 unfoldable pub built : ℕ → List Value → Rmessage
 built ty vs =
@@ -164,13 +162,13 @@ one_message m m' e f = sym (rebuilt m) ∙ ap₂ built e f ∙ rebuilt m'
 
 -- the body that an answer stands for
 unfoldable pub body_in : Answer → Rbody
-body_in (accepted ty vs n) = B.Message (built ty vs) n
-body_in (refused k at) = B.Refused k at
+body_in (accepted ty vs n) = Ok (built ty vs, n)
+body_in (refused k at) = Err (k, at)
 
 rebodied : (r : Rbody) → body_in (view_r r) ≡ r
 unfolding body_in view_r
-rebodied (B.Message m n) = ap (λ (x : Rmessage). B.Message x n) (rebuilt m)
-rebodied (B.Refused k at) = refl
+rebodied (Ok (m, n)) = ap (λ (x : Rmessage). Ok (x, n)) (rebuilt m)
+rebodied (Err f) = refl
 
 pub one_body : (r r' : Rbody) → view_r r ≡ view_r r' → r ≡ r'
 one_body r r' e = sym (rebodied r) ∙ ap body_in e ∙ rebodied r'

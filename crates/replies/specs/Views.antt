@@ -1,6 +1,6 @@
 -- Written by tools/messages from its table of messages.
 -- For each case of `Rmessage` its number (F3.2), its layout and its values.
-use Rattle.std.specs.Prelude.{ℕ, List, []}
+use Rattle.std.specs.Prelude.{ℕ, List, [], Result, Ok, Err}
 use Rattle.fields.specs.Layouts.{Layout}
 use Rattle.fields.specs.Values.{Value}
 use Rattle.layouts.specs.Tables.{layout_rversion, layout_rflush, layout_rwalk, layout_rread, layout_rwrite, layout_rclunk, layout_rremove, layout_rattach, layout_rauth, layout_rstatfs, layout_rlopen, layout_rlcreate, layout_rsymlink, layout_rmknod, layout_rrename, layout_rreadlink, layout_rgetattr, layout_rsetattr, layout_rxattrwalk, layout_rxattrcreate, layout_rreaddir, layout_rfsync, layout_rlock, layout_rgetlock, layout_rlink, layout_rmkdir, layout_rrenameat, layout_runlinkat, layout_rlerror}
@@ -8,10 +8,9 @@ use Rattle.common.specs.Records.{rversion, rwalk, rread, rwrite, rattach, rauth}
 use Rattle.messages.specs.Records.{rlopen, rlcreate, rsymlink, rmknod, rreadlink, rreaddir, rmkdir, rlerror}
 use Rattle.metadata.specs.Records.{rstatfs, rgetattr, rxattrwalk, rlock, rgetlock}
 use Rattle.layouts.specs.Bodies.{Answer, accepted, refused}
+use Rattle.numbers.specs.declared.Fault.{Fault}
 use Rattle.replies.specs.declared.Rmessage.{Rmessage}
 use Rattle.replies.specs.declared.Rmessage.TheVariants as M
-use Rattle.replies.specs.declared.Rbody.{Rbody}
-use Rattle.replies.specs.declared.Rbody.TheVariants as B
 
 abbrev pub type_r : Rmessage → ℕ
 type_r (M.Version m) = 101
@@ -106,7 +105,11 @@ values_r M.RenameAt = []
 values_r M.UnlinkAt = []
 values_r (M.Lerror m) = rlerror m
 
+-- a body that was read, and where it ends; or its refusal
+abbrev pub Rbody : Type 0
+Rbody = Result (Rmessage × ℕ) Fault
+
 -- a body seen as its number, its values and where it ends; or its refusal
 unfoldable pub view_r : Rbody → Answer
-view_r (B.Message m n) = accepted (type_r m) (values_r m) n
-view_r (B.Refused k at) = refused k at
+view_r (Ok (m, n)) = accepted (type_r m) (values_r m) n
+view_r (Err f) = refused f.0 f.1

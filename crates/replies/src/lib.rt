@@ -53,19 +53,12 @@ pub enum Rmessage {
 }
 
 // A body that was read: the message and the position after its fields; or why it is refused, and where.
-#[derive(Clone, Copy)]
-pub enum Rbody {
-    Message(Rmessage, usize),
-    Refused(Refusal, usize),
-}
+pub type Rbody = Result<(Rmessage, usize), Fault>;
 
 fn finish(m: Rmessage, end: Place) -> Rbody
     ensures { view_r result ≡ finish_at (type_r m) (values_r m) end }
 {
-    match end {
-        Ok(n) => Rbody::Message(m, n),
-        Err(Fault(k, n)) => Rbody::Refused(k, n),
-    }
+    Ok((m, end?))
 }
 
 // The type decides the body.
@@ -75,129 +68,91 @@ pub fn read_rmessage(s: &[u8], ty: u8, p: Place) -> Rbody
     match ty {
         7 => {
             let r = messages::sessions::read_rlerror(s, p);
-            let m = r.value;
-            let e = r.next;
-            finish(Rmessage::Lerror(m), e)
+            finish(Rmessage::Lerror(r.value), r.next)
         }
         9 => {
             let r = metadata::attributes::read_rstatfs(s, p);
-            let m = r.value;
-            let e = r.next;
-            finish(Rmessage::Statfs(m), e)
+            finish(Rmessage::Statfs(r.value), r.next)
         }
         13 => {
             let r = messages::files::read_rlopen(s, p);
-            let m = r.value;
-            let e = r.next;
-            finish(Rmessage::Lopen(m), e)
+            finish(Rmessage::Lopen(r.value), r.next)
         }
         15 => {
             let r = messages::files::read_rlcreate(s, p);
-            let m = r.value;
-            let e = r.next;
-            finish(Rmessage::Lcreate(m), e)
+            finish(Rmessage::Lcreate(r.value), r.next)
         }
         17 => {
             let r = messages::directories::read_rsymlink(s, p);
-            let m = r.value;
-            let e = r.next;
-            finish(Rmessage::Symlink(m), e)
+            finish(Rmessage::Symlink(r.value), r.next)
         }
         19 => {
             let r = messages::directories::read_rmknod(s, p);
-            let m = r.value;
-            let e = r.next;
-            finish(Rmessage::Mknod(m), e)
+            finish(Rmessage::Mknod(r.value), r.next)
         }
         21 => finish(Rmessage::Rename, p),
         23 => {
             let r = messages::directories::read_rreadlink(s, p);
-            let m = r.value;
-            let e = r.next;
-            finish(Rmessage::Readlink(m), e)
+            finish(Rmessage::Readlink(r.value), r.next)
         }
         25 => {
             let r = metadata::attributes::read_rgetattr(s, p);
-            let m = r.value;
-            let e = r.next;
-            finish(Rmessage::GetAttr(m), e)
+            finish(Rmessage::GetAttr(r.value), r.next)
         }
         27 => finish(Rmessage::SetAttr, p),
         31 => {
             let r = metadata::attributes::read_rxattrwalk(s, p);
-            let m = r.value;
-            let e = r.next;
-            finish(Rmessage::XattrWalk(m), e)
+            finish(Rmessage::XattrWalk(r.value), r.next)
         }
         33 => finish(Rmessage::XattrCreate, p),
         41 => {
             let r = messages::directories::read_rreaddir(s, p);
-            let m = r.value;
-            let e = r.next;
-            finish(Rmessage::Readdir(m), e)
+            finish(Rmessage::Readdir(r.value), r.next)
         }
         51 => finish(Rmessage::Fsync, p),
         53 => {
             let r = metadata::locks::read_rlock(s, p);
-            let m = r.value;
-            let e = r.next;
-            finish(Rmessage::Lock(m), e)
+            finish(Rmessage::Lock(r.value), r.next)
         }
         55 => {
             let r = metadata::locks::read_rgetlock(s, p);
-            let m = r.value;
-            let e = r.next;
-            finish(Rmessage::GetLock(m), e)
+            finish(Rmessage::GetLock(r.value), r.next)
         }
         71 => finish(Rmessage::Link, p),
         73 => {
             let r = messages::directories::read_rmkdir(s, p);
-            let m = r.value;
-            let e = r.next;
-            finish(Rmessage::Mkdir(m), e)
+            finish(Rmessage::Mkdir(r.value), r.next)
         }
         75 => finish(Rmessage::RenameAt, p),
         77 => finish(Rmessage::UnlinkAt, p),
         101 => {
             let r = common::sessions::read_rversion(s, p);
-            let m = r.value;
-            let e = r.next;
-            finish(Rmessage::Version(m), e)
+            finish(Rmessage::Version(r.value), r.next)
         }
         103 => {
             let r = common::sessions::read_rauth(s, p);
-            let m = r.value;
-            let e = r.next;
-            finish(Rmessage::Auth(m), e)
+            finish(Rmessage::Auth(r.value), r.next)
         }
         105 => {
             let r = common::sessions::read_rattach(s, p);
-            let m = r.value;
-            let e = r.next;
-            finish(Rmessage::Attach(m), e)
+            finish(Rmessage::Attach(r.value), r.next)
         }
         109 => finish(Rmessage::Flush, p),
         111 => {
             let r = common::walking::read_rwalk(s, p);
-            let m = r.value;
-            let e = r.next;
-            finish(Rmessage::Walk(m), e)
+            finish(Rmessage::Walk(r.value), r.next)
         }
         117 => {
             let r = common::files::read_rread(s, p);
-            let m = r.value;
-            let e = r.next;
-            finish(Rmessage::Read(m), e)
+            finish(Rmessage::Read(r.value), r.next)
         }
         119 => {
             let r = common::files::read_rwrite(s, p);
-            let m = r.value;
-            let e = r.next;
-            finish(Rmessage::Write(m), e)
+            finish(Rmessage::Write(r.value), r.next)
         }
         121 => finish(Rmessage::Clunk, p),
         123 => finish(Rmessage::Remove, p),
-        _ => Rbody::Refused(Refusal::UnknownType, 0),
+        _ => Err(Fault(Refusal::UnknownType, 0)),
     }
 }
 

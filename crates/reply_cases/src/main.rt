@@ -14,11 +14,11 @@ use replies::Rbody;
 fn body(out: &mut [u8], ty: u8, p: Place, s: &[u8]) -> Place {
     let b = replies::read_rmessage(s, ty, p);
     match b {
-        Rbody::Message(m, end) => {
+        Ok((m, end)) => {
             questions::at(0, end);
             replies::write_rmessage(out, p, s, m)
         }
-        Rbody::Refused(k, n) => Err(Fault(k, n)),
+        Err(Fault(k, n)) => Err(Fault(k, n)),
     }
 }
 

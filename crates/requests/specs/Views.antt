@@ -1,6 +1,6 @@
 -- Written by tools/messages from its table of messages.
 -- For each case of `Tmessage` its number (F3.2), its layout and its values.
-use Rattle.std.specs.Prelude.{ℕ, List}
+use Rattle.std.specs.Prelude.{ℕ, List, Result, Ok, Err}
 use Rattle.fields.specs.Layouts.{Layout}
 use Rattle.fields.specs.Values.{Value}
 use Rattle.layouts.specs.Tables.{layout_tversion, layout_tflush, layout_twalk, layout_tread, layout_twrite, layout_tclunk, layout_tremove, layout_tattach, layout_tauth, layout_tstatfs, layout_tlopen, layout_tlcreate, layout_tsymlink, layout_tmknod, layout_trename, layout_treadlink, layout_tgetattr, layout_tsetattr, layout_txattrwalk, layout_txattrcreate, layout_treaddir, layout_tfsync, layout_tlock, layout_tgetlock, layout_tlink, layout_tmkdir, layout_trenameat, layout_tunlinkat}
@@ -8,10 +8,9 @@ use Rattle.common.specs.Records.{tversion, tflush, twalk, tread, twrite, tclunk,
 use Rattle.messages.specs.Records.{tattach, tauth, tlopen, tlcreate, tsymlink, tmknod, trename, treadlink, treaddir, tfsync, tlink, tmkdir, trenameat, tunlinkat}
 use Rattle.metadata.specs.Records.{tstatfs, tgetattr, tsetattr, txattrwalk, txattrcreate, tlock, tgetlock}
 use Rattle.layouts.specs.Bodies.{Answer, accepted, refused}
+use Rattle.numbers.specs.declared.Fault.{Fault}
 use Rattle.requests.specs.declared.Tmessage.{Tmessage}
 use Rattle.requests.specs.declared.Tmessage.TheVariants as M
-use Rattle.requests.specs.declared.Tbody.{Tbody}
-use Rattle.requests.specs.declared.Tbody.TheVariants as B
 
 abbrev pub type_t : Tmessage → ℕ
 type_t (M.Version m) = 100
@@ -103,7 +102,11 @@ values_t (M.Mkdir m) = tmkdir m
 values_t (M.RenameAt m) = trenameat m
 values_t (M.UnlinkAt m) = tunlinkat m
 
+-- a body that was read, and where it ends; or its refusal
+abbrev pub Tbody : Type 0
+Tbody = Result (Tmessage × ℕ) Fault
+
 -- a body seen as its number, its values and where it ends; or its refusal
 unfoldable pub view_t : Tbody → Answer
-view_t (B.Message m n) = accepted (type_t m) (values_t m) n
-view_t (B.Refused k at) = refused k at
+view_t (Ok (m, n)) = accepted (type_t m) (values_t m) n
+view_t (Err f) = refused f.0 f.1

@@ -54,19 +54,12 @@ pub enum Tmessage {
 }
 
 // A body that was read: the message and the position after its fields; or why it is refused, and where.
-#[derive(Clone, Copy)]
-pub enum Tbody {
-    Message(Tmessage, usize),
-    Refused(Refusal, usize),
-}
+pub type Tbody = Result<(Tmessage, usize), Fault>;
 
 fn finish(m: Tmessage, end: Place) -> Tbody
     ensures { view_t result ≡ finish_at (type_t m) (values_t m) end }
 {
-    match end {
-        Ok(n) => Tbody::Message(m, n),
-        Err(Fault(k, n)) => Tbody::Refused(k, n),
-    }
+    Ok((m, end?))
 }
 
 // The type decides the body.
@@ -76,173 +69,117 @@ pub fn read_tmessage(s: &[u8], ty: u8, p: Place) -> Tbody
     match ty {
         8 => {
             let r = metadata::attributes::read_tstatfs(s, p);
-            let m = r.value;
-            let e = r.next;
-            finish(Tmessage::Statfs(m), e)
+            finish(Tmessage::Statfs(r.value), r.next)
         }
         12 => {
             let r = messages::files::read_tlopen(s, p);
-            let m = r.value;
-            let e = r.next;
-            finish(Tmessage::Lopen(m), e)
+            finish(Tmessage::Lopen(r.value), r.next)
         }
         14 => {
             let r = messages::files::read_tlcreate(s, p);
-            let m = r.value;
-            let e = r.next;
-            finish(Tmessage::Lcreate(m), e)
+            finish(Tmessage::Lcreate(r.value), r.next)
         }
         16 => {
             let r = messages::directories::read_tsymlink(s, p);
-            let m = r.value;
-            let e = r.next;
-            finish(Tmessage::Symlink(m), e)
+            finish(Tmessage::Symlink(r.value), r.next)
         }
         18 => {
             let r = messages::directories::read_tmknod(s, p);
-            let m = r.value;
-            let e = r.next;
-            finish(Tmessage::Mknod(m), e)
+            finish(Tmessage::Mknod(r.value), r.next)
         }
         20 => {
             let r = messages::directories::read_trename(s, p);
-            let m = r.value;
-            let e = r.next;
-            finish(Tmessage::Rename(m), e)
+            finish(Tmessage::Rename(r.value), r.next)
         }
         22 => {
             let r = messages::directories::read_treadlink(s, p);
-            let m = r.value;
-            let e = r.next;
-            finish(Tmessage::Readlink(m), e)
+            finish(Tmessage::Readlink(r.value), r.next)
         }
         24 => {
             let r = metadata::attributes::read_tgetattr(s, p);
-            let m = r.value;
-            let e = r.next;
-            finish(Tmessage::GetAttr(m), e)
+            finish(Tmessage::GetAttr(r.value), r.next)
         }
         26 => {
             let r = metadata::attributes::read_tsetattr(s, p);
-            let m = r.value;
-            let e = r.next;
-            finish(Tmessage::SetAttr(m), e)
+            finish(Tmessage::SetAttr(r.value), r.next)
         }
         30 => {
             let r = metadata::attributes::read_txattrwalk(s, p);
-            let m = r.value;
-            let e = r.next;
-            finish(Tmessage::XattrWalk(m), e)
+            finish(Tmessage::XattrWalk(r.value), r.next)
         }
         32 => {
             let r = metadata::attributes::read_txattrcreate(s, p);
-            let m = r.value;
-            let e = r.next;
-            finish(Tmessage::XattrCreate(m), e)
+            finish(Tmessage::XattrCreate(r.value), r.next)
         }
         40 => {
             let r = messages::directories::read_treaddir(s, p);
-            let m = r.value;
-            let e = r.next;
-            finish(Tmessage::Readdir(m), e)
+            finish(Tmessage::Readdir(r.value), r.next)
         }
         50 => {
             let r = messages::files::read_tfsync(s, p);
-            let m = r.value;
-            let e = r.next;
-            finish(Tmessage::Fsync(m), e)
+            finish(Tmessage::Fsync(r.value), r.next)
         }
         52 => {
             let r = metadata::locks::read_tlock(s, p);
-            let m = r.value;
-            let e = r.next;
-            finish(Tmessage::Lock(m), e)
+            finish(Tmessage::Lock(r.value), r.next)
         }
         54 => {
             let r = metadata::locks::read_tgetlock(s, p);
-            let m = r.value;
-            let e = r.next;
-            finish(Tmessage::GetLock(m), e)
+            finish(Tmessage::GetLock(r.value), r.next)
         }
         70 => {
             let r = messages::directories::read_tlink(s, p);
-            let m = r.value;
-            let e = r.next;
-            finish(Tmessage::Link(m), e)
+            finish(Tmessage::Link(r.value), r.next)
         }
         72 => {
             let r = messages::directories::read_tmkdir(s, p);
-            let m = r.value;
-            let e = r.next;
-            finish(Tmessage::Mkdir(m), e)
+            finish(Tmessage::Mkdir(r.value), r.next)
         }
         74 => {
             let r = messages::directories::read_trenameat(s, p);
-            let m = r.value;
-            let e = r.next;
-            finish(Tmessage::RenameAt(m), e)
+            finish(Tmessage::RenameAt(r.value), r.next)
         }
         76 => {
             let r = messages::directories::read_tunlinkat(s, p);
-            let m = r.value;
-            let e = r.next;
-            finish(Tmessage::UnlinkAt(m), e)
+            finish(Tmessage::UnlinkAt(r.value), r.next)
         }
         100 => {
             let r = common::sessions::read_tversion(s, p);
-            let m = r.value;
-            let e = r.next;
-            finish(Tmessage::Version(m), e)
+            finish(Tmessage::Version(r.value), r.next)
         }
         102 => {
             let r = messages::sessions::read_tauth(s, p);
-            let m = r.value;
-            let e = r.next;
-            finish(Tmessage::Auth(m), e)
+            finish(Tmessage::Auth(r.value), r.next)
         }
         104 => {
             let r = messages::sessions::read_tattach(s, p);
-            let m = r.value;
-            let e = r.next;
-            finish(Tmessage::Attach(m), e)
+            finish(Tmessage::Attach(r.value), r.next)
         }
         108 => {
             let r = common::sessions::read_tflush(s, p);
-            let m = r.value;
-            let e = r.next;
-            finish(Tmessage::Flush(m), e)
+            finish(Tmessage::Flush(r.value), r.next)
         }
         110 => {
             let r = common::walking::read_twalk(s, p);
-            let m = r.value;
-            let e = r.next;
-            finish(Tmessage::Walk(m), e)
+            finish(Tmessage::Walk(r.value), r.next)
         }
         116 => {
             let r = common::files::read_tread(s, p);
-            let m = r.value;
-            let e = r.next;
-            finish(Tmessage::Read(m), e)
+            finish(Tmessage::Read(r.value), r.next)
         }
         118 => {
             let r = common::files::read_twrite(s, p);
-            let m = r.value;
-            let e = r.next;
-            finish(Tmessage::Write(m), e)
+            finish(Tmessage::Write(r.value), r.next)
         }
         120 => {
             let r = common::sessions::read_tclunk(s, p);
-            let m = r.value;
-            let e = r.next;
-            finish(Tmessage::Clunk(m), e)
+            finish(Tmessage::Clunk(r.value), r.next)
         }
         122 => {
             let r = common::files::read_tremove(s, p);
-            let m = r.value;
-            let e = r.next;
-            finish(Tmessage::Remove(m), e)
+            finish(Tmessage::Remove(r.value), r.next)
         }
-        _ => Tbody::Refused(Refusal::UnknownType, 0),
+        _ => Err(Fault(Refusal::UnknownType, 0)),
     }
 }
 

@@ -1,6 +1,6 @@
 -- Demand 3 of the functions: whatever answers the promises of `frame_at`, `read_tframe`, `read_rframe`, `write_tframe` and `write_rframe` allow, they have these properties.
 use Rattle.numbers.specs.Place.{Place}
-use Rattle.std.specs.Prelude.{ℕ, ◌+◌, ◌-◌, ◌%◌, ◌^◌, ◌≤◌, ◌<◌, ◌≡◌, List, ◌++◌, length, take, Ok}
+use Rattle.std.specs.Prelude.{ℕ, ◌+◌, ◌-◌, ◌%◌, ◌^◌, ◌≤◌, ◌<◌, ◌≡◌, List, ◌++◌, length, take, Ok, Err}
 use Rattle.std.proofs.Common.{arith, sym, ◌∙◌, eq-eqb, ne_eqb}
 use Rattle.std.proofs.Math.Path.{refl, ap}
 use Rattle.std.proofs.Math.Option.{some}
@@ -15,10 +15,8 @@ use Rattle.layouts.specs.Bodies.{accepted, refused}
 use Rattle.requests.specs.Views.{type_t, layout_t, values_t, view_t}
 use Rattle.requests.specs.declared.Tmessage.{Tmessage}
 use Rattle.requests.proofs.Tmessage.TheLaws.{lowered as loweredT}
-use Rattle.requests.specs.declared.Tbody.TheVariants as M
 use Rattle.replies.specs.Views.{type_r, layout_r, values_r, view_r}
 use Rattle.replies.specs.declared.Rmessage.{Rmessage}
-use Rattle.replies.specs.declared.Rbody.TheVariants as N
 use Rattle.framing.specs.Frames.{Frame, headless, framed, refused_whole, read_frame}
 use Rattle.framing.specs.Writing.{FrameWritten}
 use Rattle.frames.specs.Views.{view_tframe, view_rframe, TbodyWritten, TframeWritten}
@@ -131,12 +129,12 @@ replies =
 -- ---- requests
 
 -- a message that is written is written as a frame of its type
-sent : {lent o o' : List ℕ} {q : Place} (f : Tframe) (m : Tmessage) {u : ℕ} → f.msg ≡ M.Message m u → TframeWritten lent f o o' q
+sent : {lent o o' : List ℕ} {q : Place} (f : Tframe) (m : Tmessage) {u : ℕ} → f.msg ≡ Ok (m, u) → TframeWritten lent f o o' q
     → FrameWritten (layout_t m) (type_t m) f.tag.0 lent (values_t m) o o' q
 unfolding TbodyWritten
 sent f m k w = rw k at w.is
 
-module _ (s : List ℕ) (f : Tframe) (m : Tmessage) {used : ℕ} (b : Bytes s) (k : f.msg ≡ M.Message m used) (c : view_tframe (T.Frame f) ≡ read_frame table_t s) where
+module _ (s : List ℕ) (f : Tframe) (m : Tmessage) {used : ℕ} (b : Bytes s) (k : f.msg ≡ Ok (m, used)) (c : view_tframe (T.Frame f) ≡ read_frame table_t s) where
   request : view_tframe (T.Frame f) ≡ framed f.at f.tag.0 (accepted (type_t m) (values_t m) used)
   unfolding view_tframe view_t
   request = ap (λ x. framed f.at f.tag.0 (view_t x)) k
@@ -185,12 +183,12 @@ module _ (s : List ℕ) (f : Rframe) {used : ℕ} (b : Bytes s) (c : view_rframe
 -- ---- 3. read back
 
 -- a request that a program holds: its tag and its message are well typed as its frame is
-held_request : (f : Tframe) (m : Tmessage) {u : ℕ} → f.msg ≡ M.Message m u → WT (loweredTframe f) → (f.tag.0 < 256 ^ 2) × WT (loweredT m)
+held_request : (f : Tframe) (m : Tmessage) {u : ℕ} → f.msg ≡ Ok (m, u) → WT (loweredTframe f) → (f.tag.0 < 256 ^ 2) × WT (loweredT m)
 held_request f m k g = let h = rw k at g.1.1.0 in (g.1.0.0.fits, h.1.0)
 
 -- a frame that a program holds is well typed (`WT`), and that says all but that its data is within the reading limit
 module _ {lent o o' : List ℕ} {n : ℕ} (b : Bytes lent) where
-  pub request_back : (f : Tframe) (m : Tmessage) {u : ℕ} → f.msg ≡ M.Message m u → WT (loweredTframe f) → Limited (layout_t m) (values_t m) → TframeWritten lent f o o' (Ok n)
+  pub request_back : (f : Tframe) (m : Tmessage) {u : ℕ} → f.msg ≡ Ok (m, u) → WT (loweredTframe f) → Limited (layout_t m) (values_t m) → TframeWritten lent f o o' (Ok n)
       → Back table_t (layout_t m) (type_t m) f.tag.0 lent (values_t m) o' n
   request_back f m k g h w = let p = held_request f m k g in back requests m b p.0 (request_fits m p.1 h) (sent f m k w)
 
@@ -211,15 +209,15 @@ local_reply = local_read replies
 -- ---- 6. positions: what is listed, written with the stretch as the lent bytes, is the frame stripped of its tail
 
 module _ (s : List ℕ) {p used : ℕ} (l : Listed) (b : Bytes s) (a : Asked s p (S.Frame l)) {o o' : List ℕ} {q : Place} (h : used ≤ length o) where
-  pub listed_request_written : (m : Tmessage) → l.body ≡ B.Request (M.Message m used) → TframeWritten s (record { at = l.at; tag = l.tag; msg = M.Message m used }) o o' q
+  pub listed_request_written : (m : Tmessage) → l.body ≡ B.Request (Ok (m, used)) → TframeWritten s (record { at = l.at; tag = l.tag; msg = Ok (m, used) }) o o' q
       → (o' ≡ over o 0 (resized used (between p l.next s))) × (q ≡ Ok used)
   unfolding view_step view_body view_t
   listed_request_written m e w =
       let k : lookup (table_for table_t table_r l.ty) (type_t m) ≡ some (layout_t m) = rw (eq-eqb (l.ty % 2) 0 (rw e at a.way)) (row_of_request m) in
-      let f = sent (record { at = l.at; tag = l.tag; msg = M.Message m used }) m refl w in
+      let f = sent (record { at = l.at; tag = l.tag; msg = Ok (m, used) }) m refl w in
       let r = listed_written table_t table_r s p b (sym (rw e at a.is)) k o h in (f.bytes ∙ r.0, f.next ∙ r.1)
 
-  pub listed_reply_written : (m : Rmessage) → l.body ≡ B.Reply (N.Message m used) → FrameWritten (layout_r m) (type_r m) l.tag.0 s (values_r m) o o' q
+  pub listed_reply_written : (m : Rmessage) → l.body ≡ B.Reply (Ok (m, used)) → FrameWritten (layout_r m) (type_r m) l.tag.0 s (values_r m) o o' q
       → (o' ≡ over o 0 (resized used (between p l.next s))) × (q ≡ Ok used)
   unfolding view_step view_body view_r
   listed_reply_written m e w =

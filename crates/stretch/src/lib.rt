@@ -7,7 +7,7 @@ ghost use Rattle.stretch.specs.Views.{BodyOf, Leaves, view_body, ListedAs, Asked
 
 use framing::Cut;
 use layouts::ids::Tag;
-use numbers::Refusal;
+use numbers::{Fault, Refusal};
 use replies::Rbody;
 use requests::Tbody;
 
@@ -55,12 +55,12 @@ fn used_of(size: usize, body: Body) -> usize
 {
     match body {
         Body::Request(b) => match b {
-            Tbody::Message(_, used) => used,
-            Tbody::Refused(_, _) => size,
+            Ok((_, used)) => used,
+            Err(Fault(_, _)) => size,
         },
         Body::Reply(b) => match b {
-            Rbody::Message(_, used) => used,
-            Rbody::Refused(_, _) => size,
+            Ok((_, used)) => used,
+            Err(Fault(_, _)) => size,
         },
     }
 }

@@ -13,6 +13,7 @@ use Rattle.numbers.proofs.Numbers.{length_to_le}
 use Rattle.numbers.proofs.ReadingLaws.{or_else}
 use Rattle.numbers.specs.Places.{over, Put}
 use Rattle.numbers.proofs.PlaceLaws.{length_over, put_then}
+use Rattle.numbers.specs.declared.Fault.{Fault}
 use Rattle.numbers.specs.declared.Refusal.{Refusal}
 use Rattle.numbers.specs.declared.Refusal.TheVariants as R
 use Rattle.fields.specs.Layouts.{Item, number, item_bytes, items_bytes}
@@ -133,9 +134,6 @@ fitting room n {e} f =
     (λ l. absurd (let d = rw (c, lt-ltb room (9 + 13 * n) l) at f in let z : ◌≡◌ {A = ℕ} 0 1 = cc d in omega arith)))
     (λ h. absurd (let d = rw (lt-leb n 16 h) at f in let z : ◌≡◌ {A = ℕ} 0 1 = cc d in omega arith))
 
-pub head_none : (n tag : ℕ) (o : List ℕ) {p : Place} {k : Refusal} {at : ℕ} → p ≡ rwalk_past (length o) n → p ≡ Err (k, at) → (0 ≡ to_follow (length o) n) × (o ≡ headed o tag n)
-head_none n tag o f g = let d = sym f ∙ g in (ap (λ p. all_of n p) (sym d), ap (λ p. head_at o tag n p) (sym d))
-
 pub head_put : (n tag : ℕ) (o : List ℕ) {e : ℕ} {o1 o2 : List ℕ} {p q r : Place} → p ≡ rwalk_past (length o) n → p ≡ Ok e → HeadPut 111 tag p o o1 q → Put (to_le 2 n) o1 (Ok 7) o2 r
     → (n ≡ to_follow (length o) n) × (o2 ≡ headed o tag n)
 head_put n tag o {e} f g a b =
@@ -200,3 +198,15 @@ module _ (tag : ℕ) (t : List Qid) (o : List ℕ) {r : Place} (e : r ≡ rwalk_
       let u = put_full (frame_bytes 111 tag items) o 0 (omega arith) in
       record { is = record { bytes = rw (f, g, b) (sym u.0); next = e ∙ rw (f, g, b) (sym u.1) } }))
       (λ h. let f = lt-leb n 16 h in record { is = record { bytes = rw f; next = e ∙ rw f } })
+
+-- nothing is put where the frame is refused; else its head, and then the qids
+pub rwalk_not : (tag : ℕ) (t : List Qid) (o : List ℕ) {r : Place} {f : Fault} → r ≡ rwalk_past (length o) (length t) → r ≡ Err f → RwalkWritten tag t o o (Err f)
+rwalk_not tag t o e h =
+    let d = sym e ∙ h in rw (d, h) at (rwalk_written tag t o e)
+
+pub rwalk_put : (tag : ℕ) (t : List Qid) (o : List ℕ) {e : ℕ} {o1 o2 o3 : List ℕ} {p q r : Place} → p ≡ rwalk_past (length o) (length t) → p ≡ Ok e → HeadPut 111 tag (Ok e) o o1 q
+    → Put (to_le 2 (length t)) o1 (Ok 7) o2 r → o3 ≡ placed o2 9 t (length t) → RwalkWritten tag t o o3 (Ok e)
+rwalk_put tag t o {o1 = o1} {p = p} {q = q} f g a b i =
+    let d : HeadPut 111 tag p o o1 q = rw g a in
+    let h = head_put (length t) tag o f g d b in
+    rw (i, h.1) (rw (g, ← h.0) at (rwalk_written tag t o f))

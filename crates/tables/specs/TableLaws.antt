@@ -1,4 +1,5 @@
 -- What is written from a table of names is what the definition writes.
+use Rattle.numbers.specs.declared.Fault.{Fault}
 use Rattle.numbers.specs.Place.{Place}
 use Rattle.std.specs.Prelude.{ℕ, suc, ◌+◌, ◌≤◌, ◌<◌, ◌≡◌, List, [], ◌∷◌, length, drop, get_or, Ok, Err}
 use Rattle.std.proofs.Common.{arith, sym, ◌∙◌, drop-cons}
@@ -7,7 +8,6 @@ use borrow.Author.Tests.{lt-leb, le-leb}
 use Rattle.numbers.specs.Numbers.{Bytes, to_le}
 use Rattle.numbers.specs.Places.{Put}
 use Rattle.numbers.proofs.PlaceLaws.{one_answer}
-use Rattle.numbers.specs.declared.Refusal.{Refusal}
 use Rattle.numbers.specs.Reading.{Reading}
 use Rattle.strings.specs.Spans.{SpanPut}
 use Rattle.fields.specs.Fields.{CountCheck}
@@ -64,11 +64,11 @@ walk_put t f g h l = put_number f (put_number g (put_number h l))
 -- ---- the frame
 
 module _ {tag fid newfid : ℕ} {lent : List ℕ} {t : List (List ℕ)} {o : List ℕ} where
-  pub twalk_long : {p : Place} {k : Refusal} {at : ℕ} → CountCheck (length t) (Ok 7) p → p ≡ Err (k, at) → TwalkWritten tag fid newfid lent t o o p
+  pub twalk_long : {p : Place} {f : Fault} → CountCheck (length t) (Ok 7) p → p ≡ Err f → TwalkWritten tag fid newfid lent t o o (Err f)
   unfolding frame_out frame_past
   twalk_long c e =
       let f = lt-leb (length t) 16 (count_refused c e) in
-      let g = rw f at c.is in
+      let g = sym e ∙ rw f at c.is in
       record { is = record { bytes = rw f; next = rw f g } }
 
   in_table : {n : ℕ} {o' : List ℕ} {q : Place} → length t ≤ 16 → n ≡ length t → FrameWritten (walk_fields t) 110 tag lent (walk_values fid newfid n t) o o' q
@@ -76,12 +76,12 @@ module _ {tag fid newfid : ℕ} {lent : List ℕ} {t : List (List ℕ)} {o : Lis
   in_table h e w = let f = le-leb (length t) 16 h in record { is = record { bytes = rw (f, ← e) w.bytes; next = rw (f, ← e) w.next } }
 
   pub twalk_put : {n : ℕ} {o2 o3 : List ℕ} {a : ℕ} {p d e q r z : Place} → Bytes lent → CountCheck (length t) (Ok 7) p → p ≡ Ok a → n ≡ length t
-      → Advanced 10 p d → Measured (name_fields t) lent (name_values t) d e → Begun p e (length o) q → PutAll (walk_fields t) lent (walk_values fid newfid n t) o q o2 r
+      → Advanced 10 (Ok a) d → Measured (name_fields t) lent (name_values t) d e → Begun (Ok a) e (length o) q → PutAll (walk_fields t) lent (walk_values fid newfid n t) o q o2 r
       → HeadPut 110 tag r o2 o3 z → TwalkWritten tag fid newfid lent t o o3 z
-  twalk_put {n} {p = p} {e = e} b k f m v c s l d =
+  twalk_put {n} {a = a} {e = e} b k f m v c s l d =
       let i = count_passed k f in
-      let g = f ∙ sym i.1 in
-      let w : Measured (walk_fields t) lent (walk_values fid newfid n t) p e = walk_measured t v c in
+      let g : ◌≡◌ {A = Place} (Ok a) (Ok 7) = sym i.1 in
+      let w : Measured (walk_fields t) lent (walk_values fid newfid n t) (Ok a) e = walk_measured t v c in
       in_table i.0 m (frame_written (written b (rw g at w) (rw g at s) l) d)
 
 -- ---- one answer

@@ -2,29 +2,33 @@
 
 #![tactic(auto)]
 
-ghost use Rattle.std.specs.Prelude.{◌≡◌, ◌+◌, ◌*◌, ◌<◌, ◌≤◌, length};
+ghost use Rattle.std.specs.Prelude.{◌≡◌, ◌+◌, ◌*◌, ◌≤◌, length};
 ghost use Rattle.laying.specs.Laying.{Measured, PutAll};
 ghost use Rattle.tables.specs.Tables.{name_fields, name_values, walk_fields, walk_values, TwalkWritten, RwalkWritten};
-ghost use Rattle.tables.specs.Qids.{put_qid, placed, rwalk_past, to_follow, headed};
+ghost use Rattle.tables.specs.Qids.{put_qid, placed, rwalk_past};
 
 use layouts::ids::{Fid, Tag};
 use layouts::qids::Qid;
 use numbers::{Fault, Place, Refusal};
 use strings::Span;
 
+// The types of a walk and of its answer (F3.2).
+const TWALK: u8 = 110;
+
+const RWALK: u8 = 111;
+
+// A qid has so many bytes, and the first of an Rwalk stands after its header and their count.
+const QID: usize = 13;
+
+const FIRST_QID: usize = 9;
+
 // The names of a table, in order, each a string, measured from a place. A row of the table is a span: its start and its length.
 fn measure_names(lent: &[u8], names: &[[usize; 2]], p: Place) -> Place
     ensures { Measured (name_fields names.now) lent.now (name_values names.now) p result }
 {
     let mut at = p;
-    let mut i = 0;
-    while i < names.len() {
-        let name = Span {
-            start: names[i][0],
-            len: names[i][1],
-        };
-        at = laying::measure_str(lent, name, at);
-        i += 1;
+    for &[start, len] in names {
+        at = laying::measure_str(lent, Span { start, len }, at);
     }
     at
 }
@@ -34,15 +38,9 @@ fn put_names(out: &mut [u8], p: Place, lent: &[u8], names: &[[usize; 2]]) -> Pla
     ensures { PutAll (name_fields names.now) lent.now (name_values names.now) out.old p out.new result }
 {
     let mut at = p;
-    let mut i = 0;
-    while i < names.len() {
-        let name = Span {
-            start: names[i][0],
-            len: names[i][1],
-        };
-        let text = numbers::put_num(out, at, name.len as u64, 2);
-        at = strings::put_bytes(out, text, lent, name);
-        i += 1;
+    for &[start, len] in names {
+        let text = numbers::put_num(out, at, len as u64, 2);
+        at = strings::put_bytes(out, text, lent, Span { start, len });
     }
     at
 }
@@ -76,16 +74,13 @@ pub fn write_twalk(
 ) -> Place
     ensures { TwalkWritten tag.0 fid.0 newfid.0 lent.now names.now out.old out.new result }
 {
-    let p = fields::check_count(names.len(), Ok(framing::BODY));
-    let Ok(_) = p else {
-        return p;
-    };
+    let at = fields::check_count(names.len(), Ok(framing::BODY))?;
     let count = names.len() as u16;
-    let first = laying::advanced(p, 10);
+    let first = laying::advanced(Ok(at), 10);
     let end = measure_names(lent, names, first);
-    let start = laying::begun(p, end, out.len());
+    let start = laying::begun(Ok(at), end, out.len());
     let past = put_twalk(out, start, fid, newfid, count, lent, names);
-    framing::put_header(out, past, 110, tag.0)
+    framing::put_header(out, past, TWALK, tag.0)
 }
 
 // One qid at its place among those from `at` on.
@@ -93,21 +88,18 @@ fn put_qid(out: &mut [u8], at: usize, i: usize, q: Qid)
     requires { at + 13 * i + 13 ≤ length out.old }
     ensures { out.new ≡ put_qid out.old at i q }
 {
-    let start = at + 13 * i;
-    let version = numbers::put_u8(out, Ok(start), q.ty);
+    let version = numbers::put_u8(out, Ok(at + QID * i), q.ty);
     let path = numbers::put_u32(out, version, q.version);
-    numbers::put_u64(out, path, q.path);
+    let _ = numbers::put_u64(out, path, q.path);
 }
 
-// The first `count` qids of a table, one after the other from `at` on.
-fn put_qids(out: &mut [u8], at: usize, qids: &[Qid], count: usize)
-    requires { (0 < count → at + 13 * count ≤ length out.old) × (count ≤ length qids.now) }
-    ensures { out.new ≡ placed out.old at qids.now count }
+// The qids of a table, one after the other from `at` on.
+fn put_qids(out: &mut [u8], at: usize, qids: &[Qid])
+    requires { at + 13 * length qids.now ≤ length out.old }
+    ensures { out.new ≡ placed out.old at qids.now (length qids.now) }
 {
-    let mut i = 0;
-    while i < count {
-        put_qid(&mut *out, at, i, qids[i]);
-        i += 1;
+    for (i, &q) in qids.iter().enumerate() {
+        put_qid(out, at, i, q);
     }
 }
 
@@ -115,36 +107,21 @@ fn put_qids(out: &mut [u8], at: usize, qids: &[Qid], count: usize)
 fn rwalk_past(room: usize, count: usize) -> Place
     ensures { result ≡ rwalk_past room count }
 {
-    let p = fields::check_count(count, Ok(9));
-    let Ok(head) = p else {
-        return p;
-    };
-    let size = head + 13 * count;
+    let head = fields::check_count(count, Ok(FIRST_QID))?;
+    let size = head + QID * count;
     if room < size {
         return Err(Fault(Refusal::NoRoom, 0));
     }
     Ok(size)
 }
 
-// What stands before the qids of an Rwalk, put if the frame can be written; and how many qids are to follow it.
-fn rwalk_head(out: &mut [u8], tag: Tag, count: usize) -> usize
-    ensures { (result ≡ to_follow (length out.old) count) × (out.new ≡ headed out.old tag.0 count) }
-{
-    let end = rwalk_past(out.len(), count);
-    let Ok(_) = end else {
-        return 0;
-    };
-    framing::put_header(out, end, 111, tag.0);
-    numbers::put_u16(out, Ok(framing::BODY), count as u16);
-    count
-}
-
 // An Rwalk whose qids are a table of structs: 17; then 11. The answer is its length.
-// It has no branch of its own: a slice of structs is walked by hand, and the branches stand in what it calls.
 pub fn write_rwalk(out: &mut [u8], tag: Tag, qids: &[Qid]) -> Place
     ensures { RwalkWritten tag.0 qids.now out.old out.new result }
 {
-    let count = rwalk_head(&mut *out, tag, qids.len());
-    put_qids(&mut *out, 9, qids, count);
-    rwalk_past(out.len(), qids.len())
+    let end = rwalk_past(out.len(), qids.len())?;
+    let _ = framing::put_header(out, Ok(end), RWALK, tag.0);
+    let _ = numbers::put_u16(out, Ok(framing::BODY), qids.len() as u16);
+    put_qids(out, FIRST_QID, qids);
+    Ok(end)
 }

@@ -18,20 +18,19 @@ pub struct Rstat {
 pub fn read_rstat(s: &[u8], p: Place) -> Read<Rstat>
     ensures { Fields layout_rstat s.now p (rstat result.value) result.next }
 {
-    let r1 = stats::unix::read_stat(s, p);
-    let p1 = r1.next;
-    let stat = r1.value;
-    let value = Rstat { stat };
-    Read { value, next: p1 }
+    let stat = stats::unix::read_stat(s, p);
+    Read {
+        value: Rstat { stat: stat.value },
+        next: stat.next,
+    }
 }
 
 pub fn write_rstat(out: &mut [u8], p: Place, lent: &[u8], m: Rstat) -> Place
     ensures { Written layout_rstat lent.now (rstat m) out.old p out.new result }
 {
-    let stat = m.stat;
-    let end = stats::unix::measure_stat(lent, stat, p);
+    let end = stats::unix::measure_stat(lent, m.stat, p);
     let start = laying::begun(p, end, out.len());
-    stats::unix::put_stat(out, start, lent, stat)
+    stats::unix::put_stat(out, start, lent, m.stat)
 }
 
 #[derive(Clone, Copy)]
@@ -43,24 +42,23 @@ pub struct Twstat {
 pub fn read_twstat(s: &[u8], p: Place) -> Read<Twstat>
     ensures { Fields layout_twstat s.now p (twstat result.value) result.next }
 {
-    let r1 = numbers::read_u32(s, p);
-    let p1 = r1.next;
-    let fid = Fid(r1.value);
-    let r2 = stats::unix::read_stat(s, p1);
-    let p2 = r2.next;
-    let stat = r2.value;
-    let value = Twstat { fid, stat };
-    Read { value, next: p2 }
+    let fid = numbers::read_u32(s, p);
+    let stat = stats::unix::read_stat(s, fid.next);
+    Read {
+        value: Twstat {
+            fid: Fid(fid.value),
+            stat: stat.value,
+        },
+        next: stat.next,
+    }
 }
 
 pub fn write_twstat(out: &mut [u8], p: Place, lent: &[u8], m: Twstat) -> Place
     ensures { Written layout_twstat lent.now (twstat m) out.old p out.new result }
 {
     let p1 = laying::advanced(p, 4);
-    let stat = m.stat;
-    let end = stats::unix::measure_stat(lent, stat, p1);
+    let end = stats::unix::measure_stat(lent, m.stat, p1);
     let start = laying::begun(p, end, out.len());
-    let fid = m.fid;
-    let q1 = numbers::put_u32(out, start, fid.0);
-    stats::unix::put_stat(out, q1, lent, stat)
+    let q1 = numbers::put_u32(out, start, m.fid.0);
+    stats::unix::put_stat(out, q1, lent, m.stat)
 }

@@ -22,45 +22,36 @@ pub struct Tcreate {
 pub fn read_tcreate(s: &[u8], p: Place) -> Read<Tcreate>
     ensures { Fields layout_tcreate s.now p (tcreate result.value) result.next }
 {
-    let r1 = numbers::read_u32(s, p);
-    let p1 = r1.next;
-    let fid = Fid(r1.value);
-    let r2 = strings::read_str(s, p1);
-    let p2 = r2.next;
-    let name = r2.value;
-    let r3 = numbers::read_u32(s, p2);
-    let p3 = r3.next;
-    let r4 = numbers::read_u8(s, p3);
-    let p4 = r4.next;
-    let r5 = strings::read_str(s, p4);
-    let p5 = r5.next;
-    let extension = r5.value;
-    let value = Tcreate {
-        fid,
-        name,
-        perm: r3.value,
-        mode: r4.value,
-        extension,
-    };
-    Read { value, next: p5 }
+    let fid = numbers::read_u32(s, p);
+    let name = strings::read_str(s, fid.next);
+    let perm = numbers::read_u32(s, name.next);
+    let mode = numbers::read_u8(s, perm.next);
+    let extension = strings::read_str(s, mode.next);
+    Read {
+        value: Tcreate {
+            fid: Fid(fid.value),
+            name: name.value,
+            perm: perm.value,
+            mode: mode.value,
+            extension: extension.value,
+        },
+        next: extension.next,
+    }
 }
 
 pub fn write_tcreate(out: &mut [u8], p: Place, lent: &[u8], m: Tcreate) -> Place
     ensures { Written layout_tcreate lent.now (tcreate m) out.old p out.new result }
 {
     let p1 = laying::advanced(p, 4);
-    let name = m.name;
-    let p2 = laying::measure_str(lent, name, p1);
+    let p2 = laying::measure_str(lent, m.name, p1);
     let p3 = laying::advanced(p2, 5);
-    let extension = m.extension;
-    let end = laying::measure_str(lent, extension, p3);
+    let end = laying::measure_str(lent, m.extension, p3);
     let start = laying::begun(p, end, out.len());
-    let fid = m.fid;
-    let q1 = numbers::put_u32(out, start, fid.0);
-    let q2 = numbers::put_num(out, q1, name.len as u64, 2);
-    let q3 = strings::put_bytes(out, q2, lent, name);
+    let q1 = numbers::put_u32(out, start, m.fid.0);
+    let q2 = numbers::put_num(out, q1, m.name.len as u64, 2);
+    let q3 = strings::put_bytes(out, q2, lent, m.name);
     let q4 = numbers::put_u32(out, q3, m.perm);
     let q5 = numbers::put_u8(out, q4, m.mode);
-    let q6 = numbers::put_num(out, q5, extension.len as u64, 2);
-    strings::put_bytes(out, q6, lent, extension)
+    let q6 = numbers::put_num(out, q5, m.extension.len as u64, 2);
+    strings::put_bytes(out, q6, lent, m.extension)
 }

@@ -15,35 +15,29 @@ use unix::files::Tcreate;
 pub fn flat_tcreate(m: Tcreate, values: &mut [u64; WIDTH_T])
     ensures { values.new ≡ stored values.old 0 (flat_values (tcreate m)) }
 {
-    let fid = m.fid;
-    let name = m.name;
-    let extension = m.extension;
-    values[0] = fid.0 as u64;
-    values[1] = name.start as u64;
-    values[2] = name.len as u64;
+    values[0] = m.fid.0 as u64;
+    values[1] = m.name.start as u64;
+    values[2] = m.name.len as u64;
     values[3] = m.perm as u64;
     values[4] = m.mode as u64;
-    values[5] = extension.start as u64;
-    values[6] = extension.len as u64;
+    values[5] = m.extension.start as u64;
+    values[6] = m.extension.len as u64;
 }
 
 pub fn tcreate_of(v: [u64; WIDTH_T]) -> Tcreate
     ensures { tcreate result ≡ field_values layout_tcreate v }
 {
-    let fid = Fid((v[0] % U32) as u32);
-    let name = Span {
-        start: v[1] as usize,
-        len: v[2] as usize,
-    };
-    let extension = Span {
-        start: v[5] as usize,
-        len: v[6] as usize,
-    };
     Tcreate {
-        fid,
-        name,
+        fid: Fid((v[0] % U32) as u32),
+        name: Span {
+            start: v[1] as usize,
+            len: v[2] as usize,
+        },
         perm: (v[3] % U32) as u32,
         mode: (v[4] % U8) as u8,
-        extension,
+        extension: Span {
+            start: v[5] as usize,
+            len: v[6] as usize,
+        },
     }
 }

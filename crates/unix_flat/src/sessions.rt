@@ -18,33 +18,27 @@ use unix::sessions::Rerror;
 pub fn flat_tauth(m: Tauth, values: &mut [u64; WIDTH_T])
     ensures { values.new ≡ stored values.old 0 (flat_values (tauth m)) }
 {
-    let afid = m.afid;
-    let uname = m.uname;
-    let aname = m.aname;
-    values[0] = afid.0 as u64;
-    values[1] = uname.start as u64;
-    values[2] = uname.len as u64;
-    values[3] = aname.start as u64;
-    values[4] = aname.len as u64;
+    values[0] = m.afid.0 as u64;
+    values[1] = m.uname.start as u64;
+    values[2] = m.uname.len as u64;
+    values[3] = m.aname.start as u64;
+    values[4] = m.aname.len as u64;
     values[5] = m.n_uname as u64;
 }
 
 pub fn tauth_of(v: [u64; WIDTH_T]) -> Tauth
     ensures { tauth result ≡ field_values layout_tauth v }
 {
-    let afid = Fid((v[0] % U32) as u32);
-    let uname = Span {
-        start: v[1] as usize,
-        len: v[2] as usize,
-    };
-    let aname = Span {
-        start: v[3] as usize,
-        len: v[4] as usize,
-    };
     Tauth {
-        afid,
-        uname,
-        aname,
+        afid: Fid((v[0] % U32) as u32),
+        uname: Span {
+            start: v[1] as usize,
+            len: v[2] as usize,
+        },
+        aname: Span {
+            start: v[3] as usize,
+            len: v[4] as usize,
+        },
         n_uname: (v[5] % U32) as u32,
     }
 }
@@ -52,37 +46,29 @@ pub fn tauth_of(v: [u64; WIDTH_T]) -> Tauth
 pub fn flat_tattach(m: Tattach, values: &mut [u64; WIDTH_T])
     ensures { values.new ≡ stored values.old 0 (flat_values (tattach m)) }
 {
-    let fid = m.fid;
-    let afid = m.afid;
-    let uname = m.uname;
-    let aname = m.aname;
-    values[0] = fid.0 as u64;
-    values[1] = afid.0 as u64;
-    values[2] = uname.start as u64;
-    values[3] = uname.len as u64;
-    values[4] = aname.start as u64;
-    values[5] = aname.len as u64;
+    values[0] = m.fid.0 as u64;
+    values[1] = m.afid.0 as u64;
+    values[2] = m.uname.start as u64;
+    values[3] = m.uname.len as u64;
+    values[4] = m.aname.start as u64;
+    values[5] = m.aname.len as u64;
     values[6] = m.n_uname as u64;
 }
 
 pub fn tattach_of(v: [u64; WIDTH_T]) -> Tattach
     ensures { tattach result ≡ field_values layout_tattach v }
 {
-    let fid = Fid((v[0] % U32) as u32);
-    let afid = Fid((v[1] % U32) as u32);
-    let uname = Span {
-        start: v[2] as usize,
-        len: v[3] as usize,
-    };
-    let aname = Span {
-        start: v[4] as usize,
-        len: v[5] as usize,
-    };
     Tattach {
-        fid,
-        afid,
-        uname,
-        aname,
+        fid: Fid((v[0] % U32) as u32),
+        afid: Fid((v[1] % U32) as u32),
+        uname: Span {
+            start: v[2] as usize,
+            len: v[3] as usize,
+        },
+        aname: Span {
+            start: v[4] as usize,
+            len: v[5] as usize,
+        },
         n_uname: (v[6] % U32) as u32,
     }
 }
@@ -90,21 +76,19 @@ pub fn tattach_of(v: [u64; WIDTH_T]) -> Tattach
 pub fn flat_rerror(m: Rerror, values: &mut [u64; WIDTH_R])
     ensures { values.new ≡ stored values.old 0 (flat_values (rerror m)) }
 {
-    let ename = m.ename;
-    values[0] = ename.start as u64;
-    values[1] = ename.len as u64;
+    values[0] = m.ename.start as u64;
+    values[1] = m.ename.len as u64;
     values[2] = m.errno as u64;
 }
 
 pub fn rerror_of(v: [u64; WIDTH_R]) -> Rerror
     ensures { rerror result ≡ field_values layout_rerror v }
 {
-    let ename = Span {
-        start: v[0] as usize,
-        len: v[1] as usize,
-    };
     Rerror {
-        ename,
+        ename: Span {
+            start: v[0] as usize,
+            len: v[1] as usize,
+        },
         errno: (v[2] % U32) as u32,
     }
 }

@@ -12,11 +12,7 @@ pub(crate) fn read_rerror(s: &[u8], p: Place, values: &mut [u64; WIDTH_R]) -> Pl
     ensures { FlatRead (some layout_rerror) s.now p values.old values.new result }
 {
     let r = unix::sessions::read_rerror(s, p);
-    let next = r.next;
-    let Ok(_) = next else {
-        return next;
-    };
-    let m = r.value;
-    unix_flat::sessions::flat_rerror(m, values);
-    next
+    let end = r.next?;
+    unix_flat::sessions::flat_rerror(r.value, values);
+    Ok(end)
 }

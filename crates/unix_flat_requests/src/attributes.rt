@@ -12,11 +12,7 @@ pub(crate) fn read_twstat(s: &[u8], p: Place, values: &mut [u64; WIDTH_T]) -> Pl
     ensures { FlatRead (some layout_twstat) s.now p values.old values.new result }
 {
     let r = unix::attributes::read_twstat(s, p);
-    let next = r.next;
-    let Ok(_) = next else {
-        return next;
-    };
-    let m = r.value;
-    unix_flat::attributes::flat_twstat(m, values);
-    next
+    let end = r.next?;
+    unix_flat::attributes::flat_twstat(r.value, values);
+    Ok(end)
 }

@@ -12,11 +12,7 @@ pub(crate) fn read_tcreate(s: &[u8], p: Place, values: &mut [u64; WIDTH_T]) -> P
     ensures { FlatRead (some layout_tcreate) s.now p values.old values.new result }
 {
     let r = unix::files::read_tcreate(s, p);
-    let next = r.next;
-    let Ok(_) = next else {
-        return next;
-    };
-    let m = r.value;
-    unix_flat::files::flat_tcreate(m, values);
-    next
+    let end = r.next?;
+    unix_flat::files::flat_tcreate(r.value, values);
+    Ok(end)
 }

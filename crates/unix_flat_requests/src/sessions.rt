@@ -12,24 +12,16 @@ pub(crate) fn read_tauth(s: &[u8], p: Place, values: &mut [u64; WIDTH_T]) -> Pla
     ensures { FlatRead (some layout_tauth) s.now p values.old values.new result }
 {
     let r = messages::sessions::read_tauth(s, p);
-    let next = r.next;
-    let Ok(_) = next else {
-        return next;
-    };
-    let m = r.value;
-    unix_flat::sessions::flat_tauth(m, values);
-    next
+    let end = r.next?;
+    unix_flat::sessions::flat_tauth(r.value, values);
+    Ok(end)
 }
 
 pub(crate) fn read_tattach(s: &[u8], p: Place, values: &mut [u64; WIDTH_T]) -> Place
     ensures { FlatRead (some layout_tattach) s.now p values.old values.new result }
 {
     let r = messages::sessions::read_tattach(s, p);
-    let next = r.next;
-    let Ok(_) = next else {
-        return next;
-    };
-    let m = r.value;
-    unix_flat::sessions::flat_tattach(m, values);
-    next
+    let end = r.next?;
+    unix_flat::sessions::flat_tattach(r.value, values);
+    Ok(end)
 }

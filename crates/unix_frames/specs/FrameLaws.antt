@@ -1,7 +1,7 @@
 -- Written by tools/messages from crates/frames/specs/FrameLaws.antt.
 -- What the two readers answer at a position is what the definition reads there.
 use Rattle.numbers.specs.Place.{Place}
-use Rattle.std.specs.Prelude.{ℕ, ◌+◌, ◌-◌, min, ◌≡◌, List, length, take, drop}
+use Rattle.std.specs.Prelude.{ℕ, ◌+◌, ◌-◌, min, ◌≡◌, List, length, take, drop, Ok, Err}
 use Rattle.std.proofs.Common.{sym, ◌∙◌}
 use Rattle.std.proofs.Math.Path.{ap}
 use Rattle.numbers.specs.Numbers.{Bytes}
@@ -16,14 +16,10 @@ use Rattle.framing.specs.Standing.{Why}
 use Rattle.framing.proofs.Standing.{no_header, header_there}
 use Rattle.framing.specs.declared.Head.{Head}
 use Rattle.framing.specs.declared.Head.TheVariants as H
-use Rattle.unix_requests.specs.Views.{type_t, values_t, view_t}
+use Rattle.unix_requests.specs.Views.{type_t, values_t, view_t, Tbody}
 use Rattle.unix_requests.specs.declared.Tmessage.{Tmessage}
-use Rattle.unix_requests.specs.declared.Tbody.{Tbody}
-use Rattle.unix_requests.specs.declared.Tbody.TheVariants as M
-use Rattle.unix_replies.specs.Views.{type_r, values_r, view_r}
+use Rattle.unix_replies.specs.Views.{type_r, values_r, view_r, Rbody}
 use Rattle.unix_replies.specs.declared.Rmessage.{Rmessage}
-use Rattle.unix_replies.specs.declared.Rbody.{Rbody}
-use Rattle.unix_replies.specs.declared.Rbody.TheVariants as B
 use Rattle.unix_frames.specs.Views.{view_tframe, view_rframe}
 use Rattle.unix_frames.specs.declared.ReadTframe.TheVariants as T
 use Rattle.unix_frames.specs.declared.ReadRframe.TheVariants as F
@@ -32,20 +28,20 @@ use Rattle.unix_frames.specs.declared.ReadRframe.TheVariants as F
 
 module _ (ty at : ℕ) (s : List ℕ) {q : Place} (e : q ≡ body_place (length s) at) where
   module _ (b : Tbody) (v : view_t b ≡ read_body table_t ty s q) where
-    pub request_message : {m : Tmessage} {n used : ℕ} → b ≡ M.Message m n → used ≡ n - at → view_t (M.Message m used) ≡ body_from table_t ty s at
+    pub request_message : {m : Tmessage} {n used : ℕ} → b ≡ Ok (m, n) → used ≡ n - at → view_t (Ok (m, used)) ≡ body_from table_t ty s at
     unfolding view_t
     request_message {m} {n} f g = ap (accepted (type_t m) (values_t m)) g ∙ (rw f at (from_body table_t ty at s e v))
 
-    pub request_none : {k : Refusal} {i : ℕ} → b ≡ M.Refused k i → view_t (M.Refused k i) ≡ body_from table_t ty s at
+    pub request_none : {k : Refusal} {i : ℕ} → b ≡ Err (k, i) → view_t (Err (k, i)) ≡ body_from table_t ty s at
     unfolding view_t
     request_none f = rw f at (from_body table_t ty at s e v)
 
   module _ (b : Rbody) (v : view_r b ≡ read_body table_r ty s q) where
-    pub reply_message : {m : Rmessage} {n used : ℕ} → b ≡ B.Message m n → used ≡ n - at → view_r (B.Message m used) ≡ body_from table_r ty s at
+    pub reply_message : {m : Rmessage} {n used : ℕ} → b ≡ Ok (m, n) → used ≡ n - at → view_r (Ok (m, used)) ≡ body_from table_r ty s at
     unfolding view_r
     reply_message {m} {n} f g = ap (accepted (type_r m) (values_r m)) g ∙ (rw f at (from_body table_r ty at s e v))
 
-    pub reply_none : {k : Refusal} {i : ℕ} → b ≡ B.Refused k i → view_r (B.Refused k i) ≡ body_from table_r ty s at
+    pub reply_none : {k : Refusal} {i : ℕ} → b ≡ Err (k, i) → view_r (Err (k, i)) ≡ body_from table_r ty s at
     unfolding view_r
     reply_none f = rw f at (from_body table_r ty at s e v)
 
@@ -73,11 +69,11 @@ module _ (s : List ℕ) (p : ℕ) {at : ℕ} (m : at ≡ min p (length s)) (g : 
     rframe_is : framed at tag (view_r b) ≡ read_frame_at table_r s p
     rframe_is = ap (framed at tag) v ∙ header_there s p m g h table_r bs e
 
-    pub rframe_yes : (m : Rmessage) (used : ℕ) → b ≡ B.Message m used
+    pub rframe_yes : (m : Rmessage) (used : ℕ) → b ≡ Ok (m, used)
         → view_rframe (F.Frame (record { at = at; tag = record { 0 = tag }; msg = m }) used) ≡ refused_whole (read_frame_at table_r s p)
     unfolding view_rframe view_r
     rframe_yes m used f = ap (λ (x : Rbody). refused_whole (framed at tag (view_r x))) (sym f) ∙ ap refused_whole rframe_is
 
-    pub rframe_bad : {k : Refusal} {i : ℕ} → b ≡ B.Refused k i → view_rframe (F.Refused k i) ≡ refused_whole (read_frame_at table_r s p)
+    pub rframe_bad : {k : Refusal} {i : ℕ} → b ≡ Err (k, i) → view_rframe (F.Refused k i) ≡ refused_whole (read_frame_at table_r s p)
     unfolding view_rframe view_r
     rframe_bad f = ap (λ (x : Rbody). refused_whole (framed at tag (view_r x))) (sym f) ∙ ap refused_whole rframe_is

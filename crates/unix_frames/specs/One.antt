@@ -2,9 +2,8 @@
 -- Any two answers that the frame readers' promises allow are equal: an answer is determined by its view.
 use Rattle.std.specs.Prelude.{ℕ, ◌≡◌}
 use Rattle.std.proofs.Common.{arith, ap, ap₂, ◌∙◌}
-use Rattle.unix_requests.specs.Views.{view_t}
+use Rattle.unix_requests.specs.Views.{view_t, Tbody}
 use Rattle.unix_requests.specs.Built.{one_body}
-use Rattle.unix_requests.specs.declared.Tbody.{Tbody}
 use Rattle.unix_replies.specs.Views.{type_r, values_r}
 use Rattle.unix_replies.specs.Built.{one_message}
 use Rattle.unix_replies.specs.declared.Rmessage.{Rmessage}

@@ -1,12 +1,10 @@
 -- Written by tools/messages from crates/frames/specs/Views.antt.
 -- What the answers of the frame readers say.
 use Rattle.numbers.specs.Place.{Place}
-use Rattle.std.specs.Prelude.{ℕ, ◌≡◌, List, Err}
+use Rattle.std.specs.Prelude.{ℕ, ◌≡◌, List, Err, Ok}
 use Rattle.layouts.specs.Bodies.{accepted}
 use Rattle.numbers.specs.declared.Refusal.TheVariants as C
-use Rattle.unix_requests.specs.Views.{type_t, layout_t, values_t, view_t}
-use Rattle.unix_requests.specs.declared.Tbody.{Tbody}
-use Rattle.unix_requests.specs.declared.Tbody.TheVariants as M
+use Rattle.unix_requests.specs.Views.{type_t, layout_t, values_t, view_t, Tbody}
 use Rattle.unix_replies.specs.Views.{type_r, values_r}
 use Rattle.framing.specs.Frames.{Frame, headless, framed}
 use Rattle.framing.specs.Writing.{FrameWritten}
@@ -26,8 +24,8 @@ view_rframe (R.Refused k at) = headless k at
 
 -- a request's body written: 16 where it holds a refusal, and the output is as it was
 unfoldable pub TbodyWritten : List ℕ → ℕ → Tbody → List ℕ → List ℕ → Place → Type 0
-TbodyWritten lent tag (M.Message m n) o o' q = FrameWritten (layout_t m) (type_t m) tag lent (values_t m) o o' q
-TbodyWritten lent tag (M.Refused k at) o o' q = (o' ≡ o) × (q ≡ Err (C.HoldsRefusal, 0))
+TbodyWritten lent tag (Ok (m, n)) o o' q = FrameWritten (layout_t m) (type_t m) tag lent (values_t m) o o' q
+TbodyWritten lent tag (Err f) o o' q = (o' ≡ o) × (q ≡ Err (C.HoldsRefusal, 0))
 
 pub record TframeWritten (lent : List ℕ) (f : Tframe) (o o' : List ℕ) (q : Place) : Type 0 where
   pub is : TbodyWritten lent f.tag.0 f.msg o o' q

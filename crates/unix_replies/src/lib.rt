@@ -36,19 +36,12 @@ pub enum Rmessage {
 }
 
 // A body that was read: the message and the position after its fields; or why it is refused, and where.
-#[derive(Clone, Copy)]
-pub enum Rbody {
-    Message(Rmessage, usize),
-    Refused(Refusal, usize),
-}
+pub type Rbody = Result<(Rmessage, usize), Fault>;
 
 fn finish(m: Rmessage, end: Place) -> Rbody
     ensures { view_r result ≡ finish_at (type_r m) (values_r m) end }
 {
-    match end {
-        Ok(n) => Rbody::Message(m, n),
-        Err(Fault(k, n)) => Rbody::Refused(k, n),
-    }
+    Ok((m, end?))
 }
 
 // The type decides the body.
@@ -58,69 +51,49 @@ pub fn read_rmessage(s: &[u8], ty: u8, p: Place) -> Rbody
     match ty {
         101 => {
             let r = common::sessions::read_rversion(s, p);
-            let m = r.value;
-            let e = r.next;
-            finish(Rmessage::Version(m), e)
+            finish(Rmessage::Version(r.value), r.next)
         }
         103 => {
             let r = common::sessions::read_rauth(s, p);
-            let m = r.value;
-            let e = r.next;
-            finish(Rmessage::Auth(m), e)
+            finish(Rmessage::Auth(r.value), r.next)
         }
         105 => {
             let r = common::sessions::read_rattach(s, p);
-            let m = r.value;
-            let e = r.next;
-            finish(Rmessage::Attach(m), e)
+            finish(Rmessage::Attach(r.value), r.next)
         }
         107 => {
             let r = unix::sessions::read_rerror(s, p);
-            let m = r.value;
-            let e = r.next;
-            finish(Rmessage::Error(m), e)
+            finish(Rmessage::Error(r.value), r.next)
         }
         109 => finish(Rmessage::Flush, p),
         111 => {
             let r = common::walking::read_rwalk(s, p);
-            let m = r.value;
-            let e = r.next;
-            finish(Rmessage::Walk(m), e)
+            finish(Rmessage::Walk(r.value), r.next)
         }
         113 => {
             let r = plain::files::read_ropen(s, p);
-            let m = r.value;
-            let e = r.next;
-            finish(Rmessage::Open(m), e)
+            finish(Rmessage::Open(r.value), r.next)
         }
         115 => {
             let r = plain::files::read_rcreate(s, p);
-            let m = r.value;
-            let e = r.next;
-            finish(Rmessage::Create(m), e)
+            finish(Rmessage::Create(r.value), r.next)
         }
         117 => {
             let r = common::files::read_rread(s, p);
-            let m = r.value;
-            let e = r.next;
-            finish(Rmessage::Read(m), e)
+            finish(Rmessage::Read(r.value), r.next)
         }
         119 => {
             let r = common::files::read_rwrite(s, p);
-            let m = r.value;
-            let e = r.next;
-            finish(Rmessage::Write(m), e)
+            finish(Rmessage::Write(r.value), r.next)
         }
         121 => finish(Rmessage::Clunk, p),
         123 => finish(Rmessage::Remove, p),
         125 => {
             let r = unix::attributes::read_rstat(s, p);
-            let m = r.value;
-            let e = r.next;
-            finish(Rmessage::Stat(m), e)
+            finish(Rmessage::Stat(r.value), r.next)
         }
         127 => finish(Rmessage::Wstat, p),
-        _ => Rbody::Refused(Refusal::UnknownType, 0),
+        _ => Err(Fault(Refusal::UnknownType, 0)),
     }
 }
 

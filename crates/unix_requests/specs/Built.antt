@@ -1,15 +1,13 @@
 -- Written by tools/messages from its table of messages.
 -- A view says all: a message can be built again from its number and its values, so two messages, and two bodies, with one view are equal.
-use Rattle.std.specs.Prelude.{ℕ, ◌≡◌, refl, true, false, List, eqb}
+use Rattle.std.specs.Prelude.{ℕ, ◌≡◌, refl, true, false, List, eqb, Ok, Err}
 use Rattle.std.proofs.Common.{sym, ap, ap₂, ◌∙◌}
 use Rattle.fields.specs.Values.{Value}
 use Rattle.layouts.specs.Bodies.{Answer, accepted, refused}
-use Rattle.unix_requests.specs.Views.{type_t, values_t, view_t}
+use Rattle.unix_requests.specs.Views.{Tbody, type_t, values_t, view_t}
 use Rattle.unix_requests.specs.Made.{made_tversion, made_tauth, made_tattach, made_tflush, made_twalk, made_topen, made_tcreate, made_tread, made_twrite, made_tclunk, made_tremove, made_tstat, made_twstat}
 use Rattle.unix_requests.specs.declared.Tmessage.{Tmessage}
 use Rattle.unix_requests.specs.declared.Tmessage.TheVariants as M
-use Rattle.unix_requests.specs.declared.Tbody.{Tbody}
-use Rattle.unix_requests.specs.declared.Tbody.TheVariants as B
 
 unfoldable pub built : ℕ → List Value → Tmessage
 built ty vs =
@@ -84,13 +82,13 @@ one_message m m' e f = sym (rebuilt m) ∙ ap₂ built e f ∙ rebuilt m'
 
 -- the body that an answer stands for
 unfoldable pub body_in : Answer → Tbody
-body_in (accepted ty vs n) = B.Message (built ty vs) n
-body_in (refused k at) = B.Refused k at
+body_in (accepted ty vs n) = Ok (built ty vs, n)
+body_in (refused k at) = Err (k, at)
 
 rebodied : (r : Tbody) → body_in (view_t r) ≡ r
 unfolding body_in view_t
-rebodied (B.Message m n) = ap (λ (x : Tmessage). B.Message x n) (rebuilt m)
-rebodied (B.Refused k at) = refl
+rebodied (Ok (m, n)) = ap (λ (x : Tmessage). Ok (x, n)) (rebuilt m)
+rebodied (Err f) = refl
 
 pub one_body : (r r' : Tbody) → view_t r ≡ view_t r' → r ≡ r'
 one_body r r' e = sym (rebodied r) ∙ ap body_in e ∙ rebodied r'

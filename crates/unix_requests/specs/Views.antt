@@ -1,6 +1,6 @@
 -- Written by tools/messages from its table of messages.
 -- For each case of `Tmessage` its number (F3.2), its layout and its values.
-use Rattle.std.specs.Prelude.{ℕ, List}
+use Rattle.std.specs.Prelude.{ℕ, List, Result, Ok, Err}
 use Rattle.fields.specs.Layouts.{Layout}
 use Rattle.fields.specs.Values.{Value}
 use Rattle.layouts.specs.Tables.{layout_tversion, layout_tauth, layout_tattach, layout_tflush, layout_twalk, layout_tread, layout_twrite, layout_tclunk, layout_tremove}
@@ -11,10 +11,9 @@ use Rattle.messages.specs.Records.{tauth, tattach}
 use Rattle.plain.specs.Records.{topen, tstat}
 use Rattle.unix.specs.Records.{tcreate, twstat}
 use Rattle.layouts.specs.Bodies.{Answer, accepted, refused}
+use Rattle.numbers.specs.declared.Fault.{Fault}
 use Rattle.unix_requests.specs.declared.Tmessage.{Tmessage}
 use Rattle.unix_requests.specs.declared.Tmessage.TheVariants as M
-use Rattle.unix_requests.specs.declared.Tbody.{Tbody}
-use Rattle.unix_requests.specs.declared.Tbody.TheVariants as B
 
 abbrev pub type_t : Tmessage → ℕ
 type_t (M.Version m) = 100
@@ -61,7 +60,11 @@ values_t (M.Remove m) = tremove m
 values_t (M.Stat m) = tstat m
 values_t (M.Wstat m) = twstat m
 
+-- a body that was read, and where it ends; or its refusal
+abbrev pub Tbody : Type 0
+Tbody = Result (Tmessage × ℕ) Fault
+
 -- a body seen as its number, its values and where it ends; or its refusal
 unfoldable pub view_t : Tbody → Answer
-view_t (B.Message m n) = accepted (type_t m) (values_t m) n
-view_t (B.Refused k at) = refused k at
+view_t (Ok (m, n)) = accepted (type_t m) (values_t m) n
+view_t (Err f) = refused f.0 f.1

@@ -91,8 +91,7 @@ fn enums(table: &Table, direction: Direction, rows: &[&Message], cases: &[&Messa
         .map(|m| format!("use {}::{};\n", m.module(), m.record()))
         .collect();
     uses.extend([
-        "use numbers::Place;\n".to_string(),
-        "use numbers::Refusal;\n".to_string(),
+        "use numbers::{Fault, Place, Refusal};\n".to_string(),
     ]);
     let uses: String = uses.into_iter().collect();
     let holds: String = cases
@@ -115,10 +114,7 @@ ghost use Rattle.{krate}.specs.Views.{{type_{s}, layout_{s}, values_{s}, view_{s
 {holds}}}
 
 // A body that was read: the message and the position after its fields; or why it is refused, and where.
-{DERIVES}pub enum {d}body {{
-    Message({d}message, usize),
-    Refused(Refusal, usize),
-}}
+pub type {d}body = Result<({d}message, usize), Fault>;
 "
     )
 }
@@ -131,10 +127,7 @@ fn read(direction: Direction, rows: &[&Message]) -> String {
 fn finish(m: {d}message, end: Place) -> {d}body
     ensures {{ view_{small} result ≡ finish_at (type_{small} m) (values_{small} m) end }}
 {{
-    match end {{
-        Place::At(n) => {d}body::Message(m, n),
-        Place::Refused(k, n) => {d}body::Refused(k, n),
-    }}
+    Ok((m, end?))
 }}
 
 // The type decides the body.
@@ -142,7 +135,7 @@ pub fn read_{small}message(s: &[u8], ty: u8, p: Place) -> {d}body
     ensures {{ view_{small} result ≡ read_body table_{small} ty s.now p }}
 {{
     match ty {{
-{arms}        _ => {d}body::Refused(Refusal::UnknownType, 0),
+{arms}        _ => Err(Fault(Refusal::UnknownType, 0)),
     }}
 }}
 "
@@ -205,9 +198,7 @@ fn read_arm(m: &Message, d: char) -> String {
         false => format!(
             "        {} => {{
             let r = {}::read_{}(s, p);
-            let m = r.value;
-            let e = r.next;
-            finish({d}message::{}(m), e)
+            finish({d}message::{}(r.value), r.next)
         }}
 ",
             m.number,
@@ -243,15 +234,15 @@ fn views(table: &Table, direction: Direction, cases: &[&Message]) -> String {
     let (d, s) = (direction.letter(), direction.small());
     let krate = &table.dialect.named(direction.enums());
     let lists = match cases.iter().any(|m| m.is_empty()) {
-        true => "List, []",
-        false => "List",
+        true => "List, [], Result, Ok, Err",
+        false => "List, Result, Ok, Err",
     };
     let mut text = format!(
         "-- For each case of `{d}message` its number (F3.2), its layout and its values.\nuse Rattle.std.specs.Prelude.{{ℕ, {lists}}}\nuse Rattle.fields.specs.Layouts.{{Layout}}\nuse Rattle.fields.specs.Values.{{Value}}\n{}",
         layouts(cases, "", "")
     );
     text += &values_uses(table, cases);
-    text += "use Rattle.layouts.specs.Bodies.{Answer, accepted, refused}\n";
+    text += "use Rattle.layouts.specs.Bodies.{Answer, accepted, refused}\nuse Rattle.numbers.specs.declared.Fault.{Fault}\n";
     text += &declared(krate, d);
     text += &format!("\nabbrev pub type_{s} : {d}message → ℕ\n");
     for m in cases {
@@ -270,10 +261,14 @@ fn views(table: &Table, direction: Direction, cases: &[&Message]) -> String {
     }
     text + &format!(
         "
+-- a body that was read, and where it ends; or its refusal
+abbrev pub {d}body : Type 0
+{d}body = Result ({d}message × ℕ) Fault
+
 -- a body seen as its number, its values and where it ends; or its refusal
 unfoldable pub view_{s} : {d}body → Answer
-view_{s} (B.Message m n) = accepted (type_{s} m) (values_{s} m) n
-view_{s} (B.Refused k at) = refused k at
+view_{s} (Ok (m, n)) = accepted (type_{s} m) (values_{s} m) n
+view_{s} (Err f) = refused f.0 f.1
 "
     )
 }
@@ -282,8 +277,6 @@ fn declared(krate: &str, d: char) -> String {
     format!(
         "use Rattle.{krate}.specs.declared.{d}message.{{{d}message}}
 use Rattle.{krate}.specs.declared.{d}message.TheVariants as M
-use Rattle.{krate}.specs.declared.{d}body.{{{d}body}}
-use Rattle.{krate}.specs.declared.{d}body.TheVariants as B
 "
     )
 }
@@ -384,7 +377,7 @@ fn tests(rows: &[&Message], depth: usize) -> String {
 fn built(direction: Direction, krate: &str, rows: &[&Message], cases: &[&Message]) -> String {
     let (d, s) = (direction.letter(), direction.small());
     let mut text = "-- A view says all: a message can be built again from its number and its values, so two messages, and two bodies, with one view are equal.
-use Rattle.std.specs.Prelude.{ℕ, ◌≡◌, refl, true, false, List, eqb}
+use Rattle.std.specs.Prelude.{ℕ, ◌≡◌, refl, true, false, List, eqb, Ok, Err}
 use Rattle.std.proofs.Common.{sym, ap, ap₂, ◌∙◌}
 use Rattle.fields.specs.Values.{Value}
 use Rattle.layouts.specs.Bodies.{Answer, accepted, refused}
@@ -396,7 +389,7 @@ use Rattle.layouts.specs.Bodies.{Answer, accepted, refused}
         .map(|m| format!("made_{}", m.small()))
         .collect();
     text += &format!(
-        "use Rattle.{krate}.specs.Views.{{type_{s}, values_{s}, view_{s}}}\nuse Rattle.{krate}.specs.Made.{{{}}}\n{}",
+        "use Rattle.{krate}.specs.Views.{{{d}body, type_{s}, values_{s}, view_{s}}}\nuse Rattle.{krate}.specs.Made.{{{}}}\n{}",
         made.join(", "),
         declared(krate, d)
     );
@@ -416,13 +409,13 @@ one_message m m' e f = sym (rebuilt m) ∙ ap₂ built e f ∙ rebuilt m'
 
 -- the body that an answer stands for
 unfoldable pub body_in : Answer → {d}body
-body_in (accepted ty vs n) = B.Message (built ty vs) n
-body_in (refused k at) = B.Refused k at
+body_in (accepted ty vs n) = Ok (built ty vs, n)
+body_in (refused k at) = Err (k, at)
 
 rebodied : (r : {d}body) → body_in (view_{s} r) ≡ r
 unfolding body_in view_{s}
-rebodied (B.Message m n) = ap (λ (x : {d}message). B.Message x n) (rebuilt m)
-rebodied (B.Refused k at) = refl
+rebodied (Ok (m, n)) = ap (λ (x : {d}message). Ok (x, n)) (rebuilt m)
+rebodied (Err f) = refl
 
 pub one_body : (r r' : {d}body) → view_{s} r ≡ view_{s} r' → r ≡ r'
 one_body r r' e = sym (rebodied r) ∙ ap body_in e ∙ rebodied r'

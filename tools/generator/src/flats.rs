@@ -168,31 +168,35 @@ fn count(f: &Field) -> usize {
     }
 }
 
-/// A field's values, from what its record has been taken apart into.
+/// A field's values, of the record `m`.
 fn values(f: &Field) -> Vec<String> {
-    let name = &f.name;
+    let of = format!("m.{}", f.name);
     match f.kind {
-        Kind::Number(8) => vec![format!("m.{name}")],
-        Kind::Number(_) => vec![format!("m.{name} as u64")],
-        Kind::Qid => vec![
-            format!("{name}.ty as u64"),
-            format!("{name}.version as u64"),
-            format!("{name}.path"),
-        ],
-        Kind::Str | Kind::Data => {
-            vec![format!("{name}.start as u64"), format!("{name}.len as u64")]
-        }
+        Kind::Number(8) => vec![of],
+        Kind::Number(_) => vec![format!("{of} as u64")],
+        Kind::Qid => qid_values(&of),
+        Kind::Str | Kind::Data => span_values(&of),
         Kind::Names | Kind::Qids => {
-            vec![
-                format!("{name}.count as u64"),
-                "elements.start as u64".into(),
-                "elements.len as u64".into(),
-            ]
+            let mut all = vec![format!("{of}.count as u64")];
+            all.extend(span_values(&format!("{of}.elements")));
+            all
         }
-        Kind::Stat => stat_values(name),
-        Kind::UnixStat => more_values(name),
-        _ => vec![format!("{name}.0 as u64")],
+        Kind::Stat => stat_values(&of),
+        Kind::UnixStat => more_values(&of),
+        _ => vec![format!("{of}.0 as u64")],
     }
+}
+
+fn qid_values(qid: &str) -> Vec<String> {
+    vec![
+        format!("{qid}.ty as u64"),
+        format!("{qid}.version as u64"),
+        format!("{qid}.path"),
+    ]
+}
+
+fn span_values(span: &str) -> Vec<String> {
+    vec![format!("{span}.start as u64"), format!("{span}.len as u64")]
 }
 
 const STRINGS: [&str; 4] = ["name", "uid", "gid", "muid"];
@@ -200,48 +204,29 @@ const STRINGS: [&str; 4] = ["name", "uid", "gid", "muid"];
 /// The numbers that 9P2000.u's has after its extension.
 const IDS: [&str; 3] = ["n_uid", "n_gid", "n_muid"];
 
-/// A stat's values: what is a struct in it has been copied out of it.
+/// A stat's values.
 fn stat_values(stat: &str) -> Vec<String> {
     let number = |name: &str| format!("{stat}.{name} as u64");
     let mut all = vec![number("ty"), number("dev")];
-    all.extend(["qid.ty as u64", "qid.version as u64", "qid.path"].map(String::from));
+    all.extend(qid_values(&format!("{stat}.qid")));
     all.extend(["mode", "atime", "mtime"].map(number));
     all.push(format!("{stat}.length"));
     for name in STRINGS {
-        all.push(format!("{name}.start as u64"));
-        all.push(format!("{name}.len as u64"));
+        all.extend(span_values(&format!("{stat}.{name}")));
     }
     all
 }
 
 /// What a stat of 9P2000.u has after that of 9P2000.
 fn more_values(stat: &str) -> Vec<String> {
-    let extension = ["extension.start as u64", "extension.len as u64"].map(String::from);
     let ids = IDS.map(|id| format!("{stat}.{id} as u64"));
+    let extension = span_values(&format!("{stat}.extension"));
     extension.into_iter().chain(ids).collect()
 }
 
 fn flattened(m: &Message) -> String {
     let (record, small, width) = (m.record(), m.small(), m.direction.width());
     let mut text = format!("pub fn flat_{small}(m: {record}, values: &mut [u64; {width}])\n    ensures {{ values.new ≡ stored values.old 0 (flat_values ({small} m)) }}\n{{\n");
-    for f in &m.fields {
-        if !matches!(f.kind, Kind::Number(_)) {
-            text += &format!("    let {0} = m.{0};\n", f.name);
-        }
-        if matches!(f.kind, Kind::Names | Kind::Qids) {
-            text += &format!("    let elements = {}.elements;\n", f.name);
-        }
-        if f.kind == Kind::Stat {
-            for name in ["qid"].iter().chain(&STRINGS) {
-                text += &format!("    let {name} = {}.{name};\n", f.name);
-            }
-        }
-        if f.kind == Kind::UnixStat {
-            for name in ["plain", "extension"] {
-                text += &format!("    let {name} = {}.{name};\n", f.name);
-            }
-        }
-    }
     let mut all: Vec<(usize, String)> = m.fields.iter().flat_map(values).enumerate().collect();
     if let Some(at) = lengthened(m) {
         text += &shortened(m);
@@ -265,8 +250,8 @@ fn lengthened(m: &Message) -> Option<usize> {
 fn shortened(m: &Message) -> String {
     let (family, record, small) = (&m.family, m.record(), m.small());
     let fields = m.fields.iter().map(|f| match f.kind {
-        Kind::UnixStat => format!("{}: plain", f.name),
-        _ => f.name.clone(),
+        Kind::UnixStat => format!("{0}: m.{0}.plain", f.name),
+        _ => format!("{0}: m.{0}", f.name),
     });
     let fields: Vec<String> = fields.collect();
     format!(
@@ -282,22 +267,19 @@ fn put_longer(m: &Message, at: usize) -> String {
         "    let shorter = plain_flat::{}::{small}_of(v);\n",
         m.family
     );
-    for f in &m.fields {
-        text += &match f.kind {
-            Kind::UnixStat => format!("    let plain = shorter.{};\n", f.name),
-            _ => format!("    let {0} = shorter.{0};\n", f.name),
-        };
-    }
-    text += &format!(
-        "    let extension = Span {{ start: v[{at}] as usize, len: v[{}] as usize }};\n",
-        at + 1
-    );
     let ids = IDS.iter().zip(at + 2..);
     let ids: String = ids
         .map(|(id, i)| format!(", {id}: {}", narrowed(i, 4)))
         .collect();
-    text += &format!("    let stat = UnixStat {{ plain, extension{ids} }};\n");
-    let fields: Vec<&str> = m.fields.iter().map(|f| f.name.as_str()).collect();
+    let fields = m.fields.iter().map(|f| match f.kind {
+        Kind::UnixStat => format!(
+            "{0}: UnixStat {{ plain: shorter.{0}, extension: {1}{ids} }}",
+            f.name,
+            span(at)
+        ),
+        _ => format!("{0}: shorter.{0}", f.name),
+    });
+    let fields: Vec<String> = fields.collect();
     text + &format!("    {record} {{ {} }}\n}}\n", fields.join(", "))
 }
 
@@ -316,76 +298,67 @@ fn head_of(m: &Message) -> String {
 }
 
 fn put_together(m: &Message) -> String {
-    let (record, mut text) = (m.record(), head_of(m));
+    let (record, text) = (m.record(), head_of(m));
     let mut i = 0;
     let mut fields = vec![];
     for f in &m.fields {
-        let name = &f.name;
-        let span = |name: &str, i: usize| {
-            format!(
-                "    let {name} = Span {{ start: v[{i}] as usize, len: v[{}] as usize }};\n",
-                i + 1
-            )
-        };
-        match f.kind {
-            Kind::Number(width) => fields.push(format!("{name}: {}", narrowed(i, width))),
-            Kind::Qid => {
-                text += &format!(
-                    "    let {name} = Qid {{ ty: {}, version: {}, path: {} }};\n",
-                    narrowed(i, 1),
-                    narrowed(i + 1, 4),
-                    narrowed(i + 2, 8)
-                )
-            }
-            Kind::Str | Kind::Data => text += &span(name, i),
-            Kind::Names | Kind::Qids => {
-                text += &span("elements", i + 1);
-                text += &format!(
-                    "    let {name} = Part {{ count: {}, elements }};\n",
-                    narrowed(i, 2)
-                );
-            }
-            Kind::Stat => text += &put_stat(name, i),
-            kind => {
-                text += &format!(
-                    "    let {name} = {}({});\n",
-                    kind.ty(),
-                    narrowed(i, kind.width().unwrap_or(4))
-                )
-            }
-        }
-        if !matches!(f.kind, Kind::Number(_)) {
-            fields.push(name.clone());
-        }
+        fields.push(format!("{}: {}", f.name, made(f, i)));
         i += count(f);
     }
     text + &format!("    {record} {{ {} }}\n}}\n", fields.join(", "))
 }
 
-/// A stat of the values from the i-th on.
-fn put_stat(name: &str, i: usize) -> String {
-    let mut text = format!(
-        "    let qid = Qid {{ ty: {}, version: {}, path: {} }};\n",
-        narrowed(i + 2, 1),
-        narrowed(i + 3, 4),
-        narrowed(i + 4, 8)
-    );
-    for (k, string) in STRINGS.iter().enumerate() {
-        let at = i + 9 + 2 * k;
-        text += &format!(
-            "    let {string} = Span {{ start: v[{at}] as usize, len: v[{}] as usize }};\n",
-            at + 1
-        );
+/// A field of the values from the i-th on.
+fn made(f: &Field, i: usize) -> String {
+    match f.kind {
+        Kind::Number(width) => narrowed(i, width),
+        Kind::Qid => qid(i),
+        Kind::Str | Kind::Data => span(i),
+        Kind::Names | Kind::Qids => format!(
+            "Part {{ count: {}, elements: {} }}",
+            narrowed(i, 2),
+            span(i + 1)
+        ),
+        Kind::Stat => stat(i),
+        kind => format!(
+            "{}({})",
+            kind.ty(),
+            narrowed(i, kind.width().unwrap_or(4))
+        ),
     }
-    text + &format!(
-        "    let {name} = Stat {{ ty: {}, dev: {}, qid, mode: {}, atime: {}, mtime: {}, length: {}, {} }};\n",
+}
+
+fn qid(i: usize) -> String {
+    format!(
+        "Qid {{ ty: {}, version: {}, path: {} }}",
+        narrowed(i, 1),
+        narrowed(i + 1, 4),
+        narrowed(i + 2, 8)
+    )
+}
+
+fn span(i: usize) -> String {
+    format!(
+        "Span {{ start: v[{i}] as usize, len: v[{}] as usize }}",
+        i + 1
+    )
+}
+
+fn stat(i: usize) -> String {
+    let strings = STRINGS.iter().zip((i + 9..).step_by(2));
+    let strings: Vec<String> = strings
+        .map(|(string, at)| format!("{string}: {}", span(at)))
+        .collect();
+    format!(
+        "Stat {{ ty: {}, dev: {}, qid: {}, mode: {}, atime: {}, mtime: {}, length: {}, {} }}",
         narrowed(i, 2),
         narrowed(i + 1, 4),
+        qid(i + 2),
         narrowed(i + 5, 4),
         narrowed(i + 6, 4),
         narrowed(i + 7, 4),
         narrowed(i + 8, 8),
-        STRINGS.join(", ")
+        strings.join(", ")
     )
 }
 
@@ -438,12 +411,12 @@ fn reader(m: &Message, flat: &str) -> String {
         // The one test stands before what is read, so that nothing that was read has to wait for the last field's.
         Some(bytes) => (
             String::new(),
-            format!("flat::skip(s, p, {bytes})"),
+            format!("flat::skip(s, p, {bytes})?"),
             format!("    let r = {module}::read_{small}(s, p);\n"),
         ),
         None => (
             format!("    let r = {module}::read_{small}(s, p);\n"),
-            "r.next".to_string(),
+            "r.next?".to_string(),
             String::new(),
         ),
     };
@@ -452,13 +425,9 @@ fn reader(m: &Message, flat: &str) -> String {
 pub(crate) fn read_{small}(s: &[u8], p: Place, values: &mut [u64; {}]) -> Place
     ensures {{ FlatRead (some {}) s.now p values.old values.new result }}
 {{
-{read}    let next = {next};
-    let Place::At(_) = next else {{
-        return next;
-    }};
-{fields}    let m = r.value;
-    {flat}::{family}::flat_{small}(m, values);
-    next
+{read}    let end = {next};
+{fields}    {flat}::{family}::flat_{small}(r.value, values);
+    Ok(end)
 }}
 ",
         m.direction.width(),
@@ -471,18 +440,19 @@ fn reader_proof(krate: &str, m: &Message) -> String {
     let small = m.small();
     let mut text =
         "-- Refused, the lent values are as they were; accepted, the record's stand at their front.
-use mathlib.Core.Path.{refl}
+use Rattle.std.specs.Prelude.{refl}
+use Rattle.std.proofs.lemmas.Result.{err_from_is_err_and}
 use Rattle.flat.specs.FlatLaws.{flat_known, flat_refused, fields_skipped}
 "
         .to_string();
     text += &goals(krate, &format!("{}.read_{small}", m.family));
     text += &answer(
-        "returns-in_default",
-        "flat_refused (fields_skipped refl refl c.skip-next.ensures refl) c.in_default.is",
+        "returns-in_err-end",
+        "\n    let e = err_from_is_err_and c.from_residual.result c.from_residual.ensures.1 in\n    rw (e.1, e.2) (flat_refused (fields_skipped refl refl c.skip.ensures refl) c.in_err-end.was)",
     );
     text + &answer(
         "returns",
-        &format!("\n    flat_known (fields_skipped refl refl c.skip-next.ensures c.read_{small}-r.ensures.values) c.in-At.is c.flat_{small}.ensures"),
+        &format!("\n    flat_known (fields_skipped refl refl c.skip.ensures c.read_{small}-r.ensures.values) c.in_ok-end.was c.flat_{small}.ensures"),
     )
 }
 
@@ -506,7 +476,7 @@ fn bodies_head(table: &Table, direction: Direction) -> String {
         .map(|family| format!("mod {family};\n"))
         .collect();
     let refusal = match table.dialect.over {
-        None => "use numbers::Refusal;\n",
+        None => "use numbers::{Fault, Refusal};\n",
         Some(_) => "",
     };
     format!(
@@ -552,7 +522,7 @@ pub fn read_flat(s: &[u8], ty: u8, p: Place, values: &mut [u64; {width}]) -> Pla
 /// What answers for the types without a row of their own.
 fn rest(table: &Table, direction: Direction, call: &str) -> String {
     match table.dialect.over {
-        None => "Place::Refused(Refusal::UnknownType, 0)".to_string(),
+        None => "Err(Fault(Refusal::UnknownType, 0))".to_string(),
         Some(d) => format!(
             "{}::{call}",
             d.named(&format!("flat_{}", direction.enums()))

@@ -85,7 +85,7 @@ pub fn layouts(rows: &[&Message], before: &str, after: &str) -> String {
 
 fn source(table: &Table, krate: &str, family: &str, rows: &[&Message]) -> String {
     let mut lines = type_uses(rows);
-    lines.insert("use numbers::Place;".to_string());
+    lines.insert("use numbers::{Place, Read};".to_string());
     if any(rows, |k| k == Kind::Qid) {
         lines.insert("use layouts::qids;".to_string());
     }
@@ -119,7 +119,7 @@ fn structs(m: &Message) -> String {
         .map(|f| format!("    pub {}: {},\n", f.name, f.kind.ty()))
         .collect();
     format!(
-        "{DERIVES}pub struct {record} {{\n{fields}}}\n\n{DERIVES}pub struct Read{record} {{\n    pub value: {record},\n    pub next: Place,\n}}\n"
+        "{DERIVES}pub struct {record} {{\n{fields}}}\n"
     )
 }
 
@@ -148,39 +148,29 @@ fn readers(kind: Kind) -> &'static str {
     }
 }
 
-/// A plain number goes from the reader's answer into the record; anything else is a local first.
-fn is_plain(f: &Field) -> bool {
-    matches!(f.kind, Kind::Number(_))
-}
-
+/// Each field by the reader of its kind, which begins where the one before it ended.
 fn reader(m: &Message) -> String {
     let (record, small, layout) = (m.record(), m.small(), m.layout());
     let mut text = format!(
-        "pub fn read_{small}(s: &[u8], p: Place) -> Read{record}\n    ensures {{ Fields {layout} s.now p ({small} result.value) result.next }}\n{{\n"
+        "pub fn read_{small}(s: &[u8], p: Place) -> Read<{record}>\n    ensures {{ Fields {layout} s.now p ({small} result.value) result.next }}\n{{\n"
     );
     let mut before = "p".to_string();
     let mut values = vec![];
-    for (i, f) in m.fields.iter().enumerate() {
-        let n = i + 1;
+    for f in &m.fields {
+        let name = &f.name;
         text += &format!(
-            "    let r{n} = {}(s, {before});\n    let p{n} = r{n}.next;\n",
-            format_args!("{}::read_{}", readers(f.kind), called(f.kind))
+            "    let {name} = {}::read_{}(s, {before});\n",
+            readers(f.kind),
+            called(f.kind)
         );
-        match is_plain(f) {
-            true => values.push(format!("{}: r{n}.value", f.name)),
-            false => {
-                let value = match f.kind.is_wrapped() {
-                    true => format!("{}(r{n}.value)", f.kind.ty()),
-                    false => format!("r{n}.value"),
-                };
-                text += &format!("    let {} = {value};\n", f.name);
-                values.push(f.name.clone());
-            }
-        }
-        before = format!("p{n}");
+        values.push(match f.kind.is_wrapped() {
+            true => format!("{name}: {}({name}.value)", f.kind.ty()),
+            false => format!("{name}: {name}.value"),
+        });
+        before = format!("{name}.next");
     }
     text += &format!(
-        "    let value = {record} {{ {} }};\n    Read{record} {{ value, next: {before} }}\n}}\n",
+        "    Read {{ value: {record} {{ {} }}, next: {before} }}\n}}\n",
         values.join(", ")
     );
     text
@@ -192,8 +182,6 @@ enum Step<'a> {
     Numbers(Vec<u8>),
     Measure(&'a Field),
     Begun,
-    /// A local of its own, before the call that needs it.
-    Copy(String),
     /// A number of that width; its value in the code.
     Put(u8, String),
     /// The count of a field, and its bytes.
@@ -227,7 +215,7 @@ fn steps(m: &Message) -> Vec<Step<'_>> {
         match (widths(f.kind), all.last_mut()) {
             (Some(more), Some(Step::Numbers(run))) => run.extend(more),
             (Some(run), _) => all.push(Step::Numbers(run)),
-            (None, _) => all.extend([Step::Copy(f.name.clone()), Step::Measure(f)]),
+            (None, _) => all.push(Step::Measure(f)),
         }
     }
     all.push(Step::Begun);
@@ -236,24 +224,14 @@ fn steps(m: &Message) -> Vec<Step<'_>> {
         match f.kind {
             Kind::Number(width) => all.push(Step::Put(width, format!("m.{name}"))),
             Kind::Qid => {
-                all.push(Step::Copy(name.clone()));
                 for (width, part) in [(1, "ty"), (4, "version"), (8, "path")] {
-                    all.push(Step::Put(width, format!("{name}.{part}")));
+                    all.push(Step::Put(width, format!("m.{name}.{part}")));
                 }
             }
             kind => match kind.width() {
-                Some(width) => all.extend([
-                    Step::Copy(name.clone()),
-                    Step::Put(width, format!("{name}.0")),
-                ]),
+                Some(width) => all.push(Step::Put(width, format!("m.{name}.0"))),
                 None if kind.is_stat() => all.push(Step::Stat(f)),
-                None => {
-                    all.push(Step::Count(f));
-                    if is_part(kind) {
-                        all.push(Step::Copy(format!("{name}.elements")));
-                    }
-                    all.push(Step::Bytes(f));
-                }
+                None => all.extend([Step::Count(f), Step::Bytes(f)]),
             },
         }
     }
@@ -271,7 +249,6 @@ fn call_of(step: &Step) -> String {
         Step::Count(_) => "put_num".to_string(),
         Step::Bytes(_) => "put_bytes".to_string(),
         Step::Stat(_) => "put_stat".to_string(),
-        Step::Copy(_) => String::new(),
     }
 }
 
@@ -286,13 +263,6 @@ fn writer(m: &Message) -> String {
     let all = steps(m);
     let mut at = "p".to_string();
     for (step, local) in all.iter().zip(locals(&all)) {
-        if let Step::Copy(what) = step {
-            text += &match what.split_once('.') {
-                Some((_, part)) => format!("    let {part} = {what};\n"),
-                None => format!("    let {what} = m.{what};\n"),
-            };
-            continue;
-        }
         let call = written_call(step, &at);
         match local {
             Some(local) => {
@@ -305,13 +275,13 @@ fn writer(m: &Message) -> String {
     text
 }
 
-/// The local that holds the place to which each call has come; the last call's is answered, and a copy has none.
+/// The local that holds the place to which each call has come; the last call's is answered.
 fn locals(all: &[Step]) -> Vec<Option<String>> {
     let is_begun = |step: &Step| matches!(step, Step::Begun);
     let begun = all.iter().position(is_begun).unwrap_or(0);
     let mut n = 0;
-    let mut local = |(i, step): (usize, &Step)| {
-        if matches!(step, Step::Copy(_)) || i + 1 == all.len() {
+    let mut local = |i: usize| {
+        if i + 1 == all.len() {
             return None;
         }
         n = if i == begun { 0 } else { n + 1 };
@@ -322,34 +292,35 @@ fn locals(all: &[Step]) -> Vec<Option<String>> {
             _ => format!("q{n}"),
         })
     };
-    all.iter().enumerate().map(&mut local).collect()
+    (0..all.len()).map(&mut local).collect()
 }
 
 /// The call of a step at the place that it has come to.
 fn written_call(step: &Step, at: &str) -> String {
     let call = call_of(step);
     match step {
-        Step::Copy(what) => what.clone(),
         Step::Begun => format!("laying::{call}(p, {at}, out.len())"),
         Step::Numbers(run) => {
             let sum: usize = run.iter().map(|w| usize::from(*w)).sum();
             format!("laying::{call}({at}, {sum})")
         }
         Step::Measure(f) if f.kind.is_stat() => {
-            format!("{}::{call}(lent, {}, {at})", readers(f.kind), f.name)
+            format!("{}::{call}(lent, m.{}, {at})", readers(f.kind), f.name)
         }
-        Step::Measure(f) => format!("laying::{call}(lent, {}, {at})", f.name),
-        Step::Stat(f) => format!("{}::{call}(out, {at}, lent, {})", readers(f.kind), f.name),
+        Step::Measure(f) => format!("laying::{call}(lent, m.{}, {at})", f.name),
+        Step::Stat(f) => format!("{}::{call}(out, {at}, lent, m.{})", readers(f.kind), f.name),
         Step::Put(_, value) => format!("numbers::{call}(out, {at}, {value})"),
         Step::Count(f) if is_part(f.kind) => {
-            format!("numbers::{call}(out, {at}, {}.count)", f.name)
+            format!("numbers::{call}(out, {at}, m.{}.count)", f.name)
         }
         Step::Count(f) => {
             let width = if f.kind == Kind::Str { 2 } else { 4 };
-            format!("numbers::{call}(out, {at}, {}.len as u64, {width})", f.name)
+            format!("numbers::{call}(out, {at}, m.{}.len as u64, {width})", f.name)
         }
-        Step::Bytes(f) if is_part(f.kind) => format!("strings::{call}(out, {at}, lent, elements)"),
-        Step::Bytes(f) => format!("strings::{call}(out, {at}, lent, {})", f.name),
+        Step::Bytes(f) if is_part(f.kind) => {
+            format!("strings::{call}(out, {at}, lent, m.{}.elements)", f.name)
+        }
+        Step::Bytes(f) => format!("strings::{call}(out, {at}, lent, m.{})", f.name),
     }
 }
 
@@ -441,9 +412,9 @@ fn laws(m: &Message, all: &[Law]) -> String {
 }
 
 fn read_proof(m: &Message) -> String {
-    let parts: Vec<String> = (m.fields.iter().enumerate())
-        .map(|(i, f)| {
-            let call = format!("c.read_{}-r{}.ensures", called(f.kind), i + 1);
+    let parts: Vec<String> = (m.fields.iter())
+        .map(|f| {
+            let call = format!("c.read_{}-{}.ensures", called(f.kind), f.name);
             match f.kind {
                 Kind::Qid => format!("qid_fields {call}"),
                 Kind::Str => format!("field (string_field {call})"),
@@ -474,13 +445,11 @@ const MANY: usize = 16;
 
 /// What each call of a writer ensures, in order. The prover names a call after its function and the local that holds its answer.
 fn ensured(all: &[Step]) -> Vec<String> {
-    let steps = all.iter().zip(locals(all));
-    let calls = steps.filter(|(step, _)| !matches!(step, Step::Copy(_)));
     let fact = |(step, local): (&Step, Option<String>)| match local {
         Some(local) => format!("c.{}-{local}.ensures", call_of(step)),
         None => format!("c.{}.ensures", call_of(step)),
     };
-    calls.map(fact).collect()
+    all.iter().zip(locals(all)).map(fact).collect()
 }
 
 /// The terms that the fields are measured and put by, from the facts that the calls ensure, in order; and the fact of `begun`.
@@ -491,7 +460,6 @@ fn written_by(all: &[Step], facts: &[String]) -> (String, String, Vec<String>) {
         (vec![], vec![], String::new(), String::new());
     for step in all {
         match step {
-            Step::Copy(_) => {}
             Step::Numbers(run) => {
                 let others: String = run[1..].iter().map(|w| format!("{w} ∷ ")).collect();
                 measured.push(format!(
@@ -578,7 +546,7 @@ fn write_uses(m: &Message, all: &[Step], many: bool) -> String {
         text += &format!("use Rattle.fields.specs.Layouts.{{{}}}\n", kinds.join(", "));
     }
     if many {
-        text += &format!("use Rattle.numbers.specs.Places.{{Put}}\nuse Rattle.numbers.specs.declared.Place.{{Place}}\nuse Rattle.fields.specs.Values.{{val}}\nuse Rattle.laying.specs.Laying.{{PutAll}}\nuse Rattle.{}.{{{}}}\n", m.tables(), m.layout());
+        text += &format!("use Rattle.numbers.specs.Places.{{Put}}\nuse Rattle.numbers.specs.Place.{{Place}}\nuse Rattle.fields.specs.Values.{{val}}\nuse Rattle.laying.specs.Laying.{{PutAll}}\nuse Rattle.{}.{{{}}}\n", m.tables(), m.layout());
     }
     text += &format!(
         "use Rattle.laying.proofs.LayingLaws.{{{}}}\nuse Rattle.laying.proofs.WritingLaws.{{written}}\n",

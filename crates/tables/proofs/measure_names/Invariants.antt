@@ -1,11 +1,6 @@
--- The invariant: the names before the i-th are measured, whoever measures the others.
-use Prim.Native.Nat.{◌≤◌, ◌-◌}
-use lib.ListN.{length}
+-- The invariant: the names before this one are measured, whoever measures the others.
 use Rattle.tables.specs.TableLaws.{MeasuredTo}
 use Rattle.tables.proofs.measure_names.Given as goal
 
-abbrev pub invariant-loop-i : goal.invariant-loop-i
-invariant-loop-i l = (l.i ≤ length l.names) × MeasuredTo l.names l.lent l.initial.at l.i l.at
-
-abbrev pub decreases-loop-i : goal.decreases-loop-i
-decreases-loop-i l = length l.names - l.i
+abbrev pub invariant-loop-start : goal.invariant-loop-start
+invariant-loop-start l = MeasuredTo l.names l.lent l.initial.at l.start-index l.at

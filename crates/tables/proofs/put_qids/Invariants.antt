@@ -1,10 +1,7 @@
--- The first i qids are placed, in an output that is as long as it was. The measure is how many are left.
-use Rattle.std.specs.Prelude.{◌≡◌, ◌≤◌, ◌-◌, length}
+-- The first i qids are placed, in an output that is as long as it was.
+use Rattle.std.specs.Prelude.{◌≡◌, length}
 use Rattle.tables.specs.Qids.{placed}
 use Rattle.tables.proofs.put_qids.Given as goal
 
 abbrev pub invariant-loop-i : goal.invariant-loop-i
-invariant-loop-i l = (l.i ≤ l.count) × (length l.out ≡ length l.initial.out) × (l.out ≡ placed l.initial.out l.at l.qids l.i)
-
-abbrev pub decreases-loop-i : goal.decreases-loop-i
-decreases-loop-i l = l.count - l.i
+invariant-loop-i l = (length l.out ≡ length l.initial.out) × (l.out ≡ placed l.initial.out l.at l.qids l.i)

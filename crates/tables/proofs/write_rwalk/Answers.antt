@@ -1,19 +1,14 @@
--- What is put is the head and then the qids; the output is as long as it was, so that the place is the head's.
-use Rattle.std.specs.Prelude.{ℕ, ◌≡◌, length, List}
-use Rattle.std.proofs.Common.{sym, ap, ◌∙◌, subst}
-use Rattle.tables.specs.Tables.{RwalkWritten}
-use Rattle.tables.specs.Qids.{placed, rwalk_past, to_follow, headed}
-use Rattle.tables.specs.QidLaws.{rwalk_written}
+-- Refused, or the head is put and then the qids.
+use Rattle.std.proofs.lemmas.Result.{err_from_is_err_and}
+use Rattle.tables.specs.QidLaws.{rwalk_not, rwalk_put}
 use Rattle.tables.proofs.write_rwalk.Goals as goal
+
+pub returns-in_err-end : goal.returns-in_err-end
+returns-in_err-end c =
+    let a = c.args in
+    let e = err_from_is_err_and c.from_residual.result c.from_residual.ensures.1 in rw (e.1, e.2) (rwalk_not a.tag.0 a.qids.now a.out.now c.rwalk_past.ensures c.in_err-end.was)
 
 pub returns : goal.returns
 returns c =
     let a = c.args in
-    let o = a.out.now in
-    let t = a.qids.now in
-    let h = c.rwalk_head-count in
-    let len : length c.put_qids.new.out ≡ length o = c.put_qids.auto.out ∙ h.auto.out in
-    let past = c.rwalk_past.ensures ∙ ap (λ (n : ℕ). rwalk_past n (length t)) len in
-    let is : c.put_qids.new.out ≡ placed (headed o a.tag.0 (length t)) 9 t (to_follow (length o) (length t)) =
-    c.put_qids.ensures ∙ ap (λ (l : List ℕ). placed l 9 t h.result) h.ensures.1 ∙ ap (λ (k : ℕ). placed (headed o a.tag.0 (length t)) 9 t k) h.ensures.0 in
-    subst (λ (l : List ℕ). RwalkWritten a.tag.0 t o l c.rwalk_past.result) (sym is) (rwalk_written a.tag.0 t o past)
+    rwalk_put a.tag.0 a.qids.now a.out.now c.rwalk_past.ensures c.in_ok-end.was c.put_header.ensures c.put_u16.ensures c.put_qids.ensures

@@ -5,4 +5,4 @@ use Rattle.common.proofs.files.read_rread.Goals as goal
 
 pub returns : goal.returns
 returns c =
-    field c.read_data-r1.ensures done
+    field c.read_data-data.ensures done

@@ -5,4 +5,4 @@ use Rattle.common.proofs.files.read_rwrite.Goals as goal
 
 pub returns : goal.returns
 returns c =
-    field (number_field c.read_u32-r1.ensures) done
+    field (number_field c.read_u32-count.ensures) done

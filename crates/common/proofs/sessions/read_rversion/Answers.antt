@@ -5,4 +5,4 @@ use Rattle.common.proofs.sessions.read_rversion.Goals as goal
 
 pub returns : goal.returns
 returns c =
-    field (number_field c.read_u32-r1.ensures) (field (string_field c.read_str-r2.ensures) done)
+    field (number_field c.read_u32-msize.ensures) (field (string_field c.read_str-version.ensures) done)

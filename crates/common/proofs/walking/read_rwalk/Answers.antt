@@ -5,4 +5,4 @@ use Rattle.common.proofs.walking.read_rwalk.Goals as goal
 
 pub returns : goal.returns
 returns c =
-    field c.read_qids-r1.ensures done
+    field c.read_qids-wqids.ensures done

@@ -5,4 +5,4 @@ use Rattle.common.proofs.walking.read_twalk.Goals as goal
 
 pub returns : goal.returns
 returns c =
-    field (number_field c.read_u32-r1.ensures) (field (number_field c.read_u32-r2.ensures) (field c.read_names-r3.ensures done))
+    field (number_field c.read_u32-fid.ensures) (field (number_field c.read_u32-newfid.ensures) (field c.read_names-wnames.ensures done))

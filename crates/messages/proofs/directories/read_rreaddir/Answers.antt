@@ -5,4 +5,4 @@ use Rattle.messages.proofs.directories.read_rreaddir.Goals as goal
 
 pub returns : goal.returns
 returns c =
-    field c.read_data-r1.ensures done
+    field c.read_data-data.ensures done

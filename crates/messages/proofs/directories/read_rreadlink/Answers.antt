@@ -5,4 +5,4 @@ use Rattle.messages.proofs.directories.read_rreadlink.Goals as goal
 
 pub returns : goal.returns
 returns c =
-    field (string_field c.read_str-r1.ensures) done
+    field (string_field c.read_str-target.ensures) done

@@ -5,4 +5,4 @@ use Rattle.messages.proofs.directories.read_tlink.Goals as goal
 
 pub returns : goal.returns
 returns c =
-    field (number_field c.read_u32-r1.ensures) (field (number_field c.read_u32-r2.ensures) (field (string_field c.read_str-r3.ensures) done))
+    field (number_field c.read_u32-dfid.ensures) (field (number_field c.read_u32-fid.ensures) (field (string_field c.read_str-name.ensures) done))

@@ -5,4 +5,4 @@ use Rattle.messages.proofs.directories.read_treaddir.Goals as goal
 
 pub returns : goal.returns
 returns c =
-    field (number_field c.read_u32-r1.ensures) (field (number_field c.read_u64-r2.ensures) (field (number_field c.read_u32-r3.ensures) done))
+    field (number_field c.read_u32-fid.ensures) (field (number_field c.read_u64-offset.ensures) (field (number_field c.read_u32-count.ensures) done))

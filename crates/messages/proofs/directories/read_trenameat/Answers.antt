@@ -5,4 +5,4 @@ use Rattle.messages.proofs.directories.read_trenameat.Goals as goal
 
 pub returns : goal.returns
 returns c =
-    field (number_field c.read_u32-r1.ensures) (field (string_field c.read_str-r2.ensures) (field (number_field c.read_u32-r3.ensures) (field (string_field c.read_str-r4.ensures) done)))
+    field (number_field c.read_u32-olddirfid.ensures) (field (string_field c.read_str-oldname.ensures) (field (number_field c.read_u32-newdirfid.ensures) (field (string_field c.read_str-newname.ensures) done)))

@@ -5,4 +5,4 @@ use Rattle.messages.proofs.files.read_tfsync.Goals as goal
 
 pub returns : goal.returns
 returns c =
-    field (number_field c.read_u32-r1.ensures) (field (number_field c.read_u32-r2.ensures) done)
+    field (number_field c.read_u32-fid.ensures) (field (number_field c.read_u32-datasync.ensures) done)

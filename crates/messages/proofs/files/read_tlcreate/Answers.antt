@@ -5,4 +5,4 @@ use Rattle.messages.proofs.files.read_tlcreate.Goals as goal
 
 pub returns : goal.returns
 returns c =
-    field (number_field c.read_u32-r1.ensures) (field (string_field c.read_str-r2.ensures) (field (number_field c.read_u32-r3.ensures) (field (number_field c.read_u32-r4.ensures) (field (number_field c.read_u32-r5.ensures) done))))
+    field (number_field c.read_u32-fid.ensures) (field (string_field c.read_str-name.ensures) (field (number_field c.read_u32-flags.ensures) (field (number_field c.read_u32-mode.ensures) (field (number_field c.read_u32-gid.ensures) done))))

@@ -5,4 +5,4 @@ use Rattle.metadata.proofs.attributes.read_rgetattr.Goals as goal
 
 pub returns : goal.returns
 returns c =
-    field (number_field c.read_u64-r1.ensures) (qid_fields c.read_qid-r2.ensures (field (number_field c.read_u32-r3.ensures) (field (number_field c.read_u32-r4.ensures) (field (number_field c.read_u32-r5.ensures) (field (number_field c.read_u64-r6.ensures) (field (number_field c.read_u64-r7.ensures) (field (number_field c.read_u64-r8.ensures) (field (number_field c.read_u64-r9.ensures) (field (number_field c.read_u64-r10.ensures) (field (number_field c.read_u64-r11.ensures) (field (number_field c.read_u64-r12.ensures) (field (number_field c.read_u64-r13.ensures) (field (number_field c.read_u64-r14.ensures) (field (number_field c.read_u64-r15.ensures) (field (number_field c.read_u64-r16.ensures) (field (number_field c.read_u64-r17.ensures) (field (number_field c.read_u64-r18.ensures) (field (number_field c.read_u64-r19.ensures) (field (number_field c.read_u64-r20.ensures) done)))))))))))))))))))
+    field (number_field c.read_u64-valid.ensures) (qid_fields c.read_qid-qid.ensures (field (number_field c.read_u32-mode.ensures) (field (number_field c.read_u32-uid.ensures) (field (number_field c.read_u32-gid.ensures) (field (number_field c.read_u64-nlink.ensures) (field (number_field c.read_u64-rdev.ensures) (field (number_field c.read_u64-size.ensures) (field (number_field c.read_u64-blksize.ensures) (field (number_field c.read_u64-blocks.ensures) (field (number_field c.read_u64-atime_sec.ensures) (field (number_field c.read_u64-atime_nsec.ensures) (field (number_field c.read_u64-mtime_sec.ensures) (field (number_field c.read_u64-mtime_nsec.ensures) (field (number_field c.read_u64-ctime_sec.ensures) (field (number_field c.read_u64-ctime_nsec.ensures) (field (number_field c.read_u64-btime_sec.ensures) (field (number_field c.read_u64-btime_nsec.ensures) (field (number_field c.read_u64-gen_.ensures) (field (number_field c.read_u64-data_version.ensures) done)))))))))))))))))))

@@ -5,4 +5,4 @@ use Rattle.metadata.proofs.attributes.read_rstatfs.Goals as goal
 
 pub returns : goal.returns
 returns c =
-    field (number_field c.read_u32-r1.ensures) (field (number_field c.read_u32-r2.ensures) (field (number_field c.read_u64-r3.ensures) (field (number_field c.read_u64-r4.ensures) (field (number_field c.read_u64-r5.ensures) (field (number_field c.read_u64-r6.ensures) (field (number_field c.read_u64-r7.ensures) (field (number_field c.read_u64-r8.ensures) (field (number_field c.read_u32-r9.ensures) done))))))))
+    field (number_field c.read_u32-ty.ensures) (field (number_field c.read_u32-bsize.ensures) (field (number_field c.read_u64-blocks.ensures) (field (number_field c.read_u64-bfree.ensures) (field (number_field c.read_u64-bavail.ensures) (field (number_field c.read_u64-files.ensures) (field (number_field c.read_u64-ffree.ensures) (field (number_field c.read_u64-fsid.ensures) (field (number_field c.read_u32-namelen.ensures) done))))))))

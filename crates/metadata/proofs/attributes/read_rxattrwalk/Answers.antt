@@ -5,4 +5,4 @@ use Rattle.metadata.proofs.attributes.read_rxattrwalk.Goals as goal
 
 pub returns : goal.returns
 returns c =
-    field (number_field c.read_u64-r1.ensures) done
+    field (number_field c.read_u64-size.ensures) done

@@ -5,4 +5,4 @@ use Rattle.metadata.proofs.attributes.read_tgetattr.Goals as goal
 
 pub returns : goal.returns
 returns c =
-    field (number_field c.read_u32-r1.ensures) (field (number_field c.read_u64-r2.ensures) done)
+    field (number_field c.read_u32-fid.ensures) (field (number_field c.read_u64-request_mask.ensures) done)

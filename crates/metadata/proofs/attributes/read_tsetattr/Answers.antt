@@ -5,4 +5,4 @@ use Rattle.metadata.proofs.attributes.read_tsetattr.Goals as goal
 
 pub returns : goal.returns
 returns c =
-    field (number_field c.read_u32-r1.ensures) (field (number_field c.read_u32-r2.ensures) (field (number_field c.read_u32-r3.ensures) (field (number_field c.read_u32-r4.ensures) (field (number_field c.read_u32-r5.ensures) (field (number_field c.read_u64-r6.ensures) (field (number_field c.read_u64-r7.ensures) (field (number_field c.read_u64-r8.ensures) (field (number_field c.read_u64-r9.ensures) (field (number_field c.read_u64-r10.ensures) done)))))))))
+    field (number_field c.read_u32-fid.ensures) (field (number_field c.read_u32-valid.ensures) (field (number_field c.read_u32-mode.ensures) (field (number_field c.read_u32-uid.ensures) (field (number_field c.read_u32-gid.ensures) (field (number_field c.read_u64-size.ensures) (field (number_field c.read_u64-atime_sec.ensures) (field (number_field c.read_u64-atime_nsec.ensures) (field (number_field c.read_u64-mtime_sec.ensures) (field (number_field c.read_u64-mtime_nsec.ensures) done)))))))))

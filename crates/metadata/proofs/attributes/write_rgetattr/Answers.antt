@@ -1,12 +1,12 @@
 -- Written by tools/messages from its table of messages.
 -- Each field measured, then each field put, by the law of every writer.
 -- over plain variables: said of the code itself, each field would carry the types of all that follow, which took 2.7 GB
-use Rattle.numbers.specs.Place.{Place}
 use Prim.Native.Nat.{ℕ}
 use mathlib.Core.List.{List, [], ◌∷◌}
 use Rattle.numbers.specs.Numbers.{to_le}
 use Rattle.numbers.proofs.Numbers.{bytes_all}
 use Rattle.numbers.specs.Places.{Put}
+use Rattle.numbers.specs.Place.{Place}
 use Rattle.fields.specs.Values.{val}
 use Rattle.laying.specs.Laying.{PutAll}
 use Rattle.layouts.specs.Tables.{layout_rgetattr}

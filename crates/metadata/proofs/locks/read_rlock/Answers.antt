@@ -5,4 +5,4 @@ use Rattle.metadata.proofs.locks.read_rlock.Goals as goal
 
 pub returns : goal.returns
 returns c =
-    field (number_field c.read_u8-r1.ensures) done
+    field (number_field c.read_u8-status.ensures) done

@@ -5,4 +5,4 @@ use Rattle.metadata.proofs.locks.read_tlock.Goals as goal
 
 pub returns : goal.returns
 returns c =
-    field (number_field c.read_u32-r1.ensures) (field (number_field c.read_u8-r2.ensures) (field (number_field c.read_u32-r3.ensures) (field (number_field c.read_u64-r4.ensures) (field (number_field c.read_u64-r5.ensures) (field (number_field c.read_u32-r6.ensures) (field (string_field c.read_str-r7.ensures) done))))))
+    field (number_field c.read_u32-fid.ensures) (field (number_field c.read_u8-type_.ensures) (field (number_field c.read_u32-flags.ensures) (field (number_field c.read_u64-start.ensures) (field (number_field c.read_u64-length.ensures) (field (number_field c.read_u32-proc_id.ensures) (field (string_field c.read_str-client_id.ensures) done))))))

@@ -5,4 +5,4 @@ use Rattle.plain.proofs.attributes.read_tstat.Goals as goal
 
 pub returns : goal.returns
 returns c =
-    field (number_field c.read_u32-r1.ensures) done
+    field (number_field c.read_u32-fid.ensures) done

@@ -5,4 +5,4 @@ use Rattle.plain.proofs.files.read_ropen.Goals as goal
 
 pub returns : goal.returns
 returns c =
-    qid_fields c.read_qid-r1.ensures (field (number_field c.read_u32-r2.ensures) done)
+    qid_fields c.read_qid-qid.ensures (field (number_field c.read_u32-iounit.ensures) done)

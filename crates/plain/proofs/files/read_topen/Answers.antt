@@ -5,4 +5,4 @@ use Rattle.plain.proofs.files.read_topen.Goals as goal
 
 pub returns : goal.returns
 returns c =
-    field (number_field c.read_u32-r1.ensures) (field (number_field c.read_u8-r2.ensures) done)
+    field (number_field c.read_u32-fid.ensures) (field (number_field c.read_u8-mode.ensures) done)

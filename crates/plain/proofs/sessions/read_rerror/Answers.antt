@@ -5,4 +5,4 @@ use Rattle.plain.proofs.sessions.read_rerror.Goals as goal
 
 pub returns : goal.returns
 returns c =
-    field (string_field c.read_str-r1.ensures) done
+    field (string_field c.read_str-ename.ensures) done

@@ -5,4 +5,4 @@ use Rattle.plain.proofs.sessions.read_tauth.Goals as goal
 
 pub returns : goal.returns
 returns c =
-    field (number_field c.read_u32-r1.ensures) (field (string_field c.read_str-r2.ensures) (field (string_field c.read_str-r3.ensures) done))
+    field (number_field c.read_u32-afid.ensures) (field (string_field c.read_str-uname.ensures) (field (string_field c.read_str-aname.ensures) done))

@@ -5,4 +5,4 @@ use Rattle.unix.proofs.attributes.read_rstat.Goals as goal
 
 pub returns : goal.returns
 returns c =
-    field c.read_stat-r1.ensures done
+    field c.read_stat-stat.ensures done

@@ -5,4 +5,4 @@ use Rattle.unix.proofs.attributes.read_twstat.Goals as goal
 
 pub returns : goal.returns
 returns c =
-    field (number_field c.read_u32-r1.ensures) (field c.read_stat-r2.ensures done)
+    field (number_field c.read_u32-fid.ensures) (field c.read_stat-stat.ensures done)

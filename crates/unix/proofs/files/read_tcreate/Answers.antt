@@ -5,4 +5,4 @@ use Rattle.unix.proofs.files.read_tcreate.Goals as goal
 
 pub returns : goal.returns
 returns c =
-    field (number_field c.read_u32-r1.ensures) (field (string_field c.read_str-r2.ensures) (field (number_field c.read_u32-r3.ensures) (field (number_field c.read_u8-r4.ensures) (field (string_field c.read_str-r5.ensures) done))))
+    field (number_field c.read_u32-fid.ensures) (field (string_field c.read_str-name.ensures) (field (number_field c.read_u32-perm.ensures) (field (number_field c.read_u8-mode.ensures) (field (string_field c.read_str-extension.ensures) done))))

@@ -5,4 +5,4 @@ use Rattle.unix.proofs.sessions.read_rerror.Goals as goal
 
 pub returns : goal.returns
 returns c =
-    field (string_field c.read_str-r1.ensures) (field (number_field c.read_u32-r2.ensures) done)
+    field (string_field c.read_str-ename.ensures) (field (number_field c.read_u32-errno.ensures) done)
