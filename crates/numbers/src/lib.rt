@@ -59,6 +59,15 @@ impl From<Fault> for Refusal {
     }
 }
 
+// A refusal that has no place of its own.
+impl From<Refusal> for Fault {
+    ghost from_gives = { λ k f. f ≡ (k, 0) };
+
+    fn from(k: Refusal) -> Fault {
+        Fault(k, 0)
+    }
+}
+
 // Where a reading or a writing stands: at a position, or refused. It goes through the fields by value, so that a record's reader is one
 // straight line: whatever is asked at a refused place answers the same refusal.
 pub type Place = Result<usize, Fault>;
