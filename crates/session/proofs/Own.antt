@@ -1,13 +1,12 @@
 -- What holds of the definitions in specs/Own.antt.
-use Rattle.std.specs.Prelude.{ℕ, ◌<◌, ◌≡◌, refl, Bool, true, false, cond, List, eqb}
+use Rattle.std.specs.Prelude.{ℕ, ◌<◌, ◌≡◌, refl, Bool, true, false, cond, List, eqb, Result, Ok, Err}
 use Rattle.std.proofs.Common.{arith, sym, ◌∙◌}
+use Rattle.numbers.specs.declared.Refusal.{Refusal}
 use Rattle.numbers.specs.declared.Refusal.TheVariants as R
 use Rattle.numbers.specs.declared.Place.TheVariants as P
 use Rattle.layouts.specs.Tables.{table_t}
 use Rattle.pairs.specs.Pairs.{rlerror, pairs}
 use Rattle.places.specs.declared.Places.{Places}
-use Rattle.places.specs.declared.Spot.{Spot}
-use Rattle.places.specs.declared.Spot.TheVariants as S
 use Rattle.places.specs.Reads.{OnlyFull}
 use Rattle.places.proofs.ReadLaws.{added_only_full, walked_only_full}
 use Rattle.session.specs.declared.Request.{Request}
@@ -54,9 +53,9 @@ asked_own s tag r =
     either (has tag s.tags) (refuses s R.TagOpen) (unless (unfit s.fids r) s t) (omega arith, omega arith)
     (unless_own (unfit s.fids r) s t (unfit_own s.fids r) (either (has free s.tags) (accepts (opened s tag r)) (refuses s R.TableFull) tt (omega arith, omega arith)))
 
-given_own : (s : Session) (fid : ℕ) (p : Places) (t : Spot) → OnlyFull t → Own (given_at s fid p t).answer
-given_own s fid p (S.Refused k) f = rw f (omega arith, omega arith)
-given_own s fid p (S.At i) f =
+given_own : (s : Session) (fid : ℕ) (p : Places) (t : Result ℕ Refusal) → OnlyFull t → Own (given_at s fid p t).answer
+given_own s fid p (Err k) f = rw f (omega arith, omega arith)
+given_own s fid p (Ok i) f =
     let a : Stepped = accepts (held s (row_of fid s.fids) fid i p) in
     let b : Stepped = accepts (held s (row_of free s.fids) fid i p) in
     let c : Stepped = refuses s R.TableFull in
@@ -65,7 +64,7 @@ given_own s fid p (S.At i) f =
 reached_full : (bs : List ℕ) (s : Session) (w : Way) (r : Request) → FitFor bs r w → OnlyFull (reached bs s w r).at
 unfolding reached
 reached_full bs s Y.Root r f = added_only_full s.places s.places.used 0 0
-reached_full bs s Y.Walk r f = walked_only_full bs r.count (P.At r.start) (record { places = s.places; at = S.At (place_of s r.known) }) f.1 tt
+reached_full bs s Y.Walk r f = walked_only_full bs r.count (P.At r.start) (record { places = s.places; at = Ok (place_of s r.known) }) f.1 tt
 reached_full bs s Y.Child r f = added_only_full s.places (place_of s r.known) r.start r.len
 reached_full bs s Y.Copy r f = tt
 

@@ -1,5 +1,5 @@
 -- What holds of the definitions in specs/Sound.antt.
-use Rattle.std.specs.Prelude.{ℕ, ◌<◌, ◌≡◌, Bool, cond, List, eqb}
+use Rattle.std.specs.Prelude.{ℕ, ◌<◌, ◌≡◌, Bool, cond, List, eqb, Result, Ok, Err}
 use Rattle.std.proofs.Common.{arith, ◌∙◌, inl, inr, length-set, get_or-set_other, eqb-true}
 use Rattle.std.proofs.Math.Path.{refl, sym}
 use Rattle.std.proofs.Math.Bool.{true, false}
@@ -8,12 +8,11 @@ use Rattle.std.proofs.lemmas.List.{length-replicate, get_or-replicate}
 use Rattle.std.proofs.Math.Seq.{get_or-set_same}
 use Rattle.std.proofs.lemmas.Bool.{eqb-false}
 use Rattle.numbers.specs.Numbers.{Bytes}
+use Rattle.numbers.specs.declared.Refusal.{Refusal}
 use Rattle.numbers.specs.declared.Refusal.TheVariants as R
 use Rattle.numbers.specs.declared.Place.TheVariants as P
 use Rattle.layouts.specs.Tables.{table_t}
 use Rattle.pairs.specs.Pairs.{rlerror, pairs}
-use Rattle.places.specs.declared.Spot.{Spot}
-use Rattle.places.specs.declared.Spot.TheVariants as S
 use Rattle.places.specs.declared.Reached.{Reached}
 use Rattle.places.specs.Sound.{Inside, Grown}
 use Rattle.places.proofs.Sound.{unused_sound, kept_same, added_grown, walked_grown}
@@ -130,9 +129,9 @@ module _ {bs : List ℕ} {s : Session} (d : Sound bs s) where
   -- ---- a fid that is given a place
 
   module _ {r : Reached} (g : Grown s.places r) (n : Named bs r.places) where
-    held_sound : (row fid i : ℕ) → row < 64 → r.at ≡ S.At i → ((j : ℕ) → j < 64 → (j ≡ row → ⊥) → get_or s.fids j 0 ≡ fid → fid ≡ free) → Sound bs (held s row fid i r.places)
+    held_sound : (row fid i : ℕ) → row < 64 → r.at ≡ Ok i → ((j : ℕ) → j < 64 → (j ≡ row → ⊥) → get_or s.fids j 0 ≡ fid → fid ≡ free) → Sound bs (held s row fid i r.places)
     held_sound row fid i l e f =
-        let q : Inside r.places (S.At i) = rw e at g.inside in
+        let q : Inside r.places (Ok i) = rw e at g.inside in
         let k = g.kept.more in
         let o = d.ats in
         record {
@@ -152,7 +151,7 @@ module _ {bs : List ℕ} {s : Session} (d : Sound bs s) where
     unfolding given
     given_sound fid = go r.at refl
       where
-        row : (i : ℕ) → r.at ≡ S.At i → (b c : Bool) → has fid s.fids ≡ b → has free s.fids ≡ c
+        row : (i : ℕ) → r.at ≡ Ok i → (b c : Bool) → has fid s.fids ≡ b → has free s.fids ≡ c
             → Sound bs (cond {A = Stepped} b (accepts (held s (row_of fid s.fids) fid i r.places)) (cond c (accepts (held s (row_of free s.fids) fid i r.places)) (refuses s R.TableFull))).session
         row i e true c h k =
             held_sound (row_of fid s.fids) fid i (has_row fid s.fids h) e
@@ -160,9 +159,9 @@ module _ {bs : List ℕ} {s : Session} (d : Sound bs s) where
         row i e false true h k = held_sound (row_of free s.fids) fid i (has_row free s.fids k) e (λ j a b f. absurd (has_not fid s.fids h j a f))
         row i e false false h k = d
 
-        go : (t : Spot) → r.at ≡ t → Sound bs (given_at s fid r.places t).session
-        go (S.Refused k) e = d
-        go (S.At i) e = row i e (has fid s.fids) (has free s.fids) refl refl
+        go : (t : Result ℕ Refusal) → r.at ≡ t → Sound bs (given_at s fid r.places t).session
+        go (Err k) e = d
+        go (Ok i) e = row i e (has fid s.fids) (has free s.fids) refl refl
 
   -- ---- the place that is given
 
@@ -182,7 +181,7 @@ fit_known fids r e l = go (has r.new fids) (eqb r.known none) (has r.known fids)
     go false false false h f = absurd (let q : ◌≡◌ {A = ℕ} 0 1 = cc in omega arith)
 
 module _ {bs : List ℕ} (b : Bytes bs) {s : Session} (d : Sound bs s) (r : Request) where
-  stays : r.known < free → has r.known s.fids ≡ true → Grown s.places (record { places = s.places; at = S.At (place_of s r.known) })
+  stays : r.known < free → has r.known s.fids ≡ true → Grown s.places (record { places = s.places; at = Ok (place_of s r.known) })
   stays l h = record { sound = d.places; inside = place_inside d r.known h l; kept = kept_same s.places }
 
   reached_grown : (w : Way) → FitFor bs r w → (r.known < free → has r.known s.fids ≡ true) → Grown s.places (reached bs s w r) × Named bs (reached bs s w r).places

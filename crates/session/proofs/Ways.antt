@@ -1,4 +1,5 @@
 -- For each way through the code: what the definition says there.
+use Rattle.std.specs.Prelude.{Ok, Err}
 use Prim.Native.Nat.{ℕ, ◌<◌, ◌≤◌}
 use native.Mathlib.Omega.{arith}
 use mathlib.Core.Path.{◌≡◌, refl, sym, ap, ◌∙◌}
@@ -18,7 +19,6 @@ use Rattle.numbers.specs.declared.Place.TheVariants as P
 use Rattle.layouts.specs.Tables.{table_t}
 use Rattle.pairs.specs.Pairs.{rlerror, pairs}
 use Rattle.places.specs.declared.Places.{Places}
-use Rattle.places.specs.declared.Spot.TheVariants as S
 use Rattle.places.specs.declared.Reached.{Reached}
 use Rattle.places.specs.Places.{unused, root, child, walked, path}
 use Rattle.session.specs.declared.Request.{Request}
@@ -175,7 +175,7 @@ module _ (bs : List ℕ) (s : Session) (r : Request) {from : ℕ} (e : from ≡ 
   unfolding reached
   reach_root h f = rw h f
 
-  pub reach_walk : {w : Way} {t : Reached} → w ≡ Y.Walk → t ≡ walked bs r.count (P.At r.start) (record { places = s.places; at = S.At from }) → t ≡ reached bs s w r
+  pub reach_walk : {w : Way} {t : Reached} → w ≡ Y.Walk → t ≡ walked bs r.count (P.At r.start) (record { places = s.places; at = Ok from }) → t ≡ reached bs s w r
   unfolding reached
   reach_walk h f = rw (h, ← e) f
 
@@ -183,16 +183,16 @@ module _ (bs : List ℕ) (s : Session) (r : Request) {from : ℕ} (e : from ≡ 
   unfolding reached
   reach_child h f = rw (h, ← e) f
 
-  pub reach_copy : {w : Way} → w ≡ Y.Copy → ◌≡◌ {A = Reached} (record { places = s.places; at = S.At from }) (reached bs s w r)
+  pub reach_copy : {w : Way} → w ≡ Y.Copy → ◌≡◌ {A = Reached} (record { places = s.places; at = Ok from }) (reached bs s w r)
   unfolding reached
   reach_copy h = rw (h, ← e)
 
 module _ (s : Session) (fid : ℕ) (to : Reached) {t : Stepped} where
-  pub give_refused : {k : Refusal} → to.at ≡ S.Refused k → t ≡ refuses s k → t ≡ given s fid to
+  pub give_refused : {k : Refusal} → to.at ≡ Err k → t ≡ refuses s k → t ≡ given s fid to
   unfolding given
   give_refused h f = rw h f
 
-  module _ {place i : ℕ} (h : to.at ≡ S.At place) (e : i ≡ row_of fid s.fids) where
+  module _ {place i : ℕ} (h : to.at ≡ Ok place) (e : i ≡ row_of fid s.fids) where
     pub give_known : {u : Session} → i < 64 → u ≡ held s i fid place to.places → t ≡ accepts u → t ≡ given s fid to
     unfolding given
     give_known g f d = rw (h, ← e, lt-ltb i 64 g) (d ∙ rw f)

@@ -1,5 +1,5 @@
 -- The rules of a session, frame by frame (F15.5 to F15.9), on the record itself, so that every row of it is determined.
-use Rattle.std.specs.Prelude.{ℕ, Bool, true, false, cond, List, get_or, set, replicate, eqb}
+use Rattle.std.specs.Prelude.{ℕ, Bool, true, false, cond, List, get_or, set, replicate, eqb, Result, Ok, Err}
 use Rattle.numbers.specs.Places.{Put}
 use Rattle.numbers.specs.declared.Refusal.{Refusal}
 use Rattle.numbers.specs.declared.Refusal.TheVariants as R
@@ -8,8 +8,6 @@ use Rattle.numbers.specs.declared.Place.TheVariants as P
 use Rattle.layouts.specs.Tables.{table_t}
 use Rattle.pairs.specs.Pairs.{rlerror, pairs}
 use Rattle.places.specs.declared.Places.{Places}
-use Rattle.places.specs.declared.Spot.{Spot}
-use Rattle.places.specs.declared.Spot.TheVariants as S
 use Rattle.places.specs.declared.Reached.{Reached}
 use Rattle.places.specs.Places.{unused, root, child, walked, path}
 use Rattle.session.specs.declared.Request.{Request}
@@ -101,18 +99,18 @@ place_of s fid = cond (has fid s.fids) (get_or s.at (row_of fid s.fids) 0) 0
 -- the place that is given: a new root; where a walk from the fid's place ends; a child of that place; that place itself
 unfoldable pub reached : List ℕ → Session → Way → Request → Reached
 reached bs s Y.Root r = root s.places
-reached bs s Y.Walk r = walked bs r.count (P.At r.start) (record { places = s.places; at = S.At (place_of s r.known) })
+reached bs s Y.Walk r = walked bs r.count (P.At r.start) (record { places = s.places; at = Ok (place_of s r.known) })
 reached bs s Y.Child r = child s.places (place_of s r.known) r.start r.len
-reached bs s Y.Copy r = record { places = s.places; at = S.At (place_of s r.known) }
+reached bs s Y.Copy r = record { places = s.places; at = Ok (place_of s r.known) }
 
 -- a fid at a row, with its place
 abbrev pub held : Session → ℕ → ℕ → ℕ → Places → Session
 held s row fid i p = record { tags = s.tags; requests = s.requests; fids = set s.fids row fid; at = set s.at row i; places = p }
 
 -- a known fid keeps its row, a new one takes the first that is free; 24, of places or of fids
-abbrev pub given_at : Session → ℕ → Places → Spot → Stepped
-given_at s fid p (S.Refused k) = refuses s k
-given_at s fid p (S.At i) =
+abbrev pub given_at : Session → ℕ → Places → Result ℕ Refusal → Stepped
+given_at s fid p (Err k) = refuses s k
+given_at s fid p (Ok i) =
     cond (has fid s.fids) (accepts (held s (row_of fid s.fids) fid i p)) (cond (has free s.fids) (accepts (held s (row_of free s.fids) fid i p)) (refuses s R.TableFull))
 
 unfoldable pub given : Session → ℕ → Reached → Stepped

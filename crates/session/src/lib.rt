@@ -13,7 +13,7 @@ ghost use Rattle.session.specs.Rules.{fresh, accepts, refuses, unless, unfit, as
 use layouts::ids::Tag;
 use numbers::{Place, Refusal};
 use pairs::Mark;
-use places::{Places, Reached, Spot};
+use places::{Places, Reached};
 use strings::Span;
 
 // No tag and no fid is so large: a row that is free, and a fid that is not asked for.
@@ -273,8 +273,10 @@ fn reach(s: Session, way: Way, r: Request, stretch: &[u8]) -> Reached
             places::child(p, from, name)
         }
         Way::Copy => {
-            let at = Spot::At(from);
-            Reached { places: p, at }
+            Reached {
+                places: p,
+                at: Ok(from),
+            }
         }
     }
 }
@@ -298,7 +300,7 @@ fn give(s: Session, fid: u64, to: Reached) -> Stepped
     let at = to.at;
     let p = to.places;
     match at {
-        Spot::At(place) => {
+        Ok(place) => {
             let i = find(&s.fids, fid);
             if i < 64 {
                 return accepts(held(s, i, fid, place, p));
@@ -309,7 +311,7 @@ fn give(s: Session, fid: u64, to: Reached) -> Stepped
             }
             refuses(s, Refusal::TableFull)
         }
-        Spot::Refused(k) => refuses(s, k),
+        Err(k) => refuses(s, k),
     }
 }
 

@@ -2,11 +2,11 @@
 use mathlib.Core.Path.{◌≡◌}
 use lib.ListN.{length}
 use lib.Dec.{leb}
-use Rattle.places.specs.Places.{path_in}
+use Rattle.places.specs.Places.{path}
 use Rattle.places.proofs.fits.Given as goal
 
 abbrev pub invariant-loop-at : goal.invariant-loop-at
-invariant-loop-at l = leb (length (path_in l.stretch l.older l.starts l.lens l.at)) l.left ≡ leb (length (path_in l.stretch l.older l.starts l.lens l.place)) l.room
+invariant-loop-at l = leb (length (path l.stretch l.p l.at)) l.left ≡ leb (length (path l.stretch l.p l.place)) l.room
 
 abbrev pub decreases-loop-at : goal.decreases-loop-at
 decreases-loop-at l = l.at
