@@ -11,8 +11,6 @@ use Rattle.places.specs.Reads.{OnlyFull}
 use Rattle.places.proofs.ReadLaws.{added_only_full, walked_only_full}
 use Rattle.session.specs.declared.Request.{Request}
 use Rattle.session.specs.declared.Session.{Session}
-use Rattle.session.specs.declared.Answer.{Answer}
-use Rattle.session.specs.declared.Answer.TheVariants.{Accepted, Refused}
 use Rattle.session.specs.declared.Stepped.{Stepped}
 use Rattle.session.specs.declared.Effect.{Effect}
 use Rattle.session.specs.declared.Effect.TheVariants as E
@@ -36,15 +34,15 @@ unfit_own : (fids : List ℕ) (r : Request) → Own (unfit fids r)
 unfolding unfit
 unfit_own fids r = go (has r.new fids) (eqb r.known none) (has r.known fids)
   where
-    go : (x y z : Bool) → Own (cond x (Refused R.FidInUse) (cond y Accepted (cond z Accepted (Refused R.FidUnknown))))
+    go : (x y z : Bool) → Own (cond x (Err R.FidInUse) (cond y (Ok tt) (cond z (Ok tt) (Err R.FidUnknown))))
     go true y z = (omega arith, omega arith)
     go false true z = tt
     go false false true = tt
     go false false false = (omega arith, omega arith)
 
-unless_own : (a : Answer) (s : Session) (t : Stepped) → Own a → Own t.answer → Own (unless a s t).answer
-unless_own Accepted s t f g = g
-unless_own (Refused k) s t f g = f
+unless_own : (a : Result (Unit {0}) Refusal) (s : Session) (t : Stepped) → Own a → Own t.answer → Own (unless a s t).answer
+unless_own (Ok u) s t f g = g
+unless_own (Err k) s t f g = f
 
 asked_own : (s : Session) (tag : ℕ) (r : Request) → Own (asked s tag r).answer
 unfolding asked
@@ -77,9 +75,9 @@ done_own bs s E.Drops r f = unless_own (unfit s.fids r) s (accepts (dropped s r.
 done_own bs s (E.Gives w) r f =
     unless_own (unfit s.fids r) s (given s r.to (reached bs s w r)) (unfit_own s.fids r) (given_own s r.to (reached bs s w r).places (reached bs s w r).at (reached_full bs s w r f))
 
-closing_own : (s : Session) (tag : ℕ) (t : Session) (a : Answer) → Own a → Own (closing s tag t a).answer
-closing_own s tag t Accepted f = tt
-closing_own s tag t (Refused k) f = f
+closing_own : (s : Session) (tag : ℕ) (t : Session) (a : Result (Unit {0}) Refusal) → Own a → Own (closing s tag t a).answer
+closing_own s tag t (Ok u) f = tt
+closing_own s tag t (Err k) f = f
 
 answered_own : {bs : List ℕ} {s : Session} → Sound bs s → (tag ty n : ℕ) → tag < free → Own (answered bs s tag ty n).answer
 unfolding answered replied finished

@@ -20,8 +20,6 @@ use Rattle.places.specs.Paths.{Named}
 use Rattle.places.proofs.Names.{added_named, walked_named}
 use Rattle.session.specs.declared.Request.{Request}
 use Rattle.session.specs.declared.Session.{Session}
-use Rattle.session.specs.declared.Answer.{Answer}
-use Rattle.session.specs.declared.Answer.TheVariants.{Accepted, Refused}
 use Rattle.session.specs.declared.Stepped.{Stepped}
 use Rattle.session.specs.declared.Effect.{Effect}
 use Rattle.session.specs.declared.Effect.TheVariants as E
@@ -170,11 +168,11 @@ module _ {bs : List ℕ} {s : Session} (d : Sound bs s) where
   place_inside fid h l = rw h (d.inside (row_of fid s.fids) (has_row fid s.fids h) (λ z. let k = has_key fid s.fids h in not_free l (sym k ∙ z)))
 
 -- an accepted request's fid is known, if it asks for one
-fit_known : (fids : List ℕ) (r : Request) → unfit fids r ≡ Accepted → r.known < free → has r.known fids ≡ true
+fit_known : (fids : List ℕ) (r : Request) → unfit fids r ≡ Ok tt → r.known < free → has r.known fids ≡ true
 unfolding unfit
 fit_known fids r e l = go (has r.new fids) (eqb r.known none) (has r.known fids) refl e
   where
-    go : (x y z : Bool) → eqb r.known none ≡ y → cond x (Refused R.FidInUse) (cond y Accepted (cond z Accepted (Refused R.FidUnknown))) ≡ Accepted → z ≡ true
+    go : (x y z : Bool) → eqb r.known none ≡ y → ◌≡◌ {A = Result (Unit {0}) Refusal} (cond x (Err R.FidInUse) (cond y (Ok tt) (cond z (Ok tt) (Err R.FidUnknown)))) (Ok tt) → z ≡ true
     go true y z h f = absurd (let q : ◌≡◌ {A = ℕ} 0 1 = cc in omega arith)
     go false true z h f = absurd (let q = eqb-true r.known none h in omega arith)
     go false false true h f = refl
@@ -196,9 +194,9 @@ module _ {bs : List ℕ} (b : Bytes bs) {s : Session} (d : Sound bs s) (r : Requ
 
   -- ---- a reply
 
-  unless_sound : (a : Answer) (t : Stepped) → (a ≡ Accepted → Sound bs t.session) → Sound bs (unless a s t).session
-  unless_sound Accepted t f = f refl
-  unless_sound (Refused k) t f = d
+  unless_sound : (a : Result (Unit {0}) Refusal) (t : Stepped) → (a ≡ Ok tt → Sound bs t.session) → Sound bs (unless a s t).session
+  unless_sound (Ok u) t f = f refl
+  unless_sound (Err k) t f = d
 
   done_sound : (e : Effect) → FitEffect bs r e → Sound bs (done bs s e r).session
   unfolding done
@@ -247,9 +245,9 @@ module _ {bs : List ℕ} (b : Bytes bs) {s : Session} (d : Sound bs s) where
   unfolding finished
   finished_sound tag t e = go t.answer
     where
-      go : (a : Answer) → Sound bs (closing s tag t.session a).session
-      go Accepted = closed_sound e tag
-      go (Refused k) = d
+      go : (a : Result (Unit {0}) Refusal) → Sound bs (closing s tag t.session a).session
+      go (Ok u) = closed_sound e tag
+      go (Err k) = d
 
   answered_sound : (tag ty n : ℕ) → tag < free → Sound bs (answered bs s tag ty n).session
   unfolding answered replied

@@ -1,5 +1,5 @@
 -- What holds of the definitions in specs/Words.antt.
-use Rattle.std.specs.Prelude.{ℕ, ◌<◌, ◌≡◌, Bool, List, ◌⊎◌, Ok}
+use Rattle.std.specs.Prelude.{ℕ, ◌<◌, ◌≡◌, Bool, List, ◌⊎◌, Ok, Err}
 use Rattle.std.proofs.Common.{arith, ◌∙◌, inl, inr, ⊎_elim, get_or-set_same}
 use Rattle.std.proofs.Math.Path.{refl, sym, ap}
 use Rattle.std.proofs.Math.Bool.{true, false, cond}
@@ -14,7 +14,6 @@ use Rattle.places.specs.Sound.{Grown}
 use Rattle.places.proofs.Paths.{path_kept}
 use Rattle.session.specs.declared.Request.{Request}
 use Rattle.session.specs.declared.Session.{Session}
-use Rattle.session.specs.declared.Answer.TheVariants.{Accepted, Refused}
 use Rattle.session.specs.declared.Effect.TheVariants as E
 use Rattle.session.specs.Rows.{row_of, has}
 use Rattle.session.specs.Rules.{free, blank, fresh, accepts, refuses, unfit, opened, asked, closed, dropped, place_of, held, given, done}
@@ -32,11 +31,11 @@ module _ (s : Session) (tag : ℕ) (r : Request) where
   asked_tag_open h = rw h
 
   module _ (h : has tag s.tags ≡ false) where
-    pub asked_not_fit : {k : Refusal} → unfit s.fids r ≡ Refused k → asked s tag r ≡ refuses s k
+    pub asked_not_fit : {k : Refusal} → unfit s.fids r ≡ Err k → asked s tag r ≡ refuses s k
     unfolding asked
     asked_not_fit f = rw (h, f)
 
-    module _ (f : unfit s.fids r ≡ Accepted) where
+    module _ (f : unfit s.fids r ≡ Ok tt) where
       -- exactly where no row is free
       pub asked_no_row : has free s.tags ≡ false → asked s tag r ≡ refuses s R.TableFull
       unfolding asked
