@@ -144,48 +144,49 @@ fn put_name(out: &mut [u8], n: usize, stretch: &[u8], name: Span) -> usize
     n + 1 + text.len()
 }
 
-// The name by which a place was reached.
-fn name_of(p: &Places, place: u8) -> Span
-    ensures { (result.start ≡ get_or p.now.starts place 0) × (result.len ≡ get_or p.now.lens place 0) }
-{
-    let i = place as usize;
-    Span {
-        start: p.starts[i],
-        len: p.lens[i],
-    }
-}
-
-// The path of a place over the front of the output: that of the older place, and then the name. The place's number falls. Its length.
-fn put_path(out: &mut [u8], p: &Places, place: u8, stretch: &[u8]) -> usize
-    requires { length (path stretch.now p.now place) ≤ length out.old }
-    ensures { (result ≡ length (path stretch.now p.now place)) × (out.new ≡ over out.old 0 (path stretch.now p.now place)) }
-{
-    let older = p.older[place as usize];
-    if older >= place {
-        return 0;
-    }
-    let n = put_path(out, p, older, stretch);
-    put_name(out, n, stretch, name_of(p, place))
-}
-
-// Whether the path of a place has at most so many bytes. No sum is formed that could wrap.
-#[tactic(auto, using(crate::proofs::PathLaws::fits_root, crate::proofs::PathLaws::fits_not, crate::proofs::PathLaws::fits_older))]
-fn fits(p: &Places, place: u8, stretch: &[u8], room: usize) -> bool
-    ensures { result ≡ leb (length (path stretch.now p.now place)) room }
-{
-    let mut at = place;
-    let mut left = room;
-    loop {
-        let older = p.older[at as usize];
-        if older >= at {
-            return true;
+impl Places {
+    // The name by which a place was reached.
+    fn name_of(&self, place: u8) -> Span
+        ensures { (result.start ≡ get_or self.now.starts place 0) × (result.len ≡ get_or self.now.lens place 0) }
+    {
+        let i = place as usize;
+        Span {
+            start: self.starts[i],
+            len: self.lens[i],
         }
-        let text = strings::shown(stretch, name_of(p, at));
-        if left <= text.len() {
-            return false;
+    }
+
+    // The path of a place over the front of the output: that of the older place, and then the name. The place's number falls. Its length.
+    fn put_path(&self, out: &mut [u8], place: u8, stretch: &[u8]) -> usize
+        requires { length (path stretch.now self.now place) ≤ length out.old }
+        ensures { (result ≡ length (path stretch.now self.now place)) × (out.new ≡ over out.old 0 (path stretch.now self.now place)) }
+    {
+        let older = self.older[place as usize];
+        if older >= place {
+            return 0;
         }
-        left = left - text.len() - 1;
-        at = older;
+        let n = self.put_path(out, older, stretch);
+        put_name(out, n, stretch, self.name_of(place))
+    }
+
+    // Whether the path of a place has at most so many bytes. No sum is formed that could wrap.
+    fn fits(&self, place: u8, stretch: &[u8], room: usize) -> bool
+        ensures { result ≡ leb (length (path stretch.now self.now place)) room }
+    {
+        let mut at = place;
+        let mut left = room;
+        loop {
+            let older = self.older[at as usize];
+            if older >= at {
+                return true;
+            }
+            let text = strings::shown(stretch, self.name_of(at));
+            if left <= text.len() {
+                return false;
+            }
+            left = left - text.len() - 1;
+            at = older;
+        }
     }
 }
 
@@ -193,8 +194,8 @@ fn fits(p: &Places, place: u8, stretch: &[u8], room: usize) -> bool
 pub fn write_path(out: &mut [u8], p: Places, place: u8, stretch: &[u8]) -> Place
     ensures { Put (path stretch.now p place) out.old (Place.At 0) out.new result }
 {
-    if fits(&p, place, stretch, out.len()) {
-        let n = put_path(out, &p, place, stretch);
+    if p.fits(place, stretch, out.len()) {
+        let n = p.put_path(out, place, stretch);
         return Place::At(n);
     }
     Place::Refused(Refusal::NoRoom, 0)

@@ -3,10 +3,10 @@ use mathlib.Core.Path.{◌≡◌}
 use lib.ListN.{length}
 use lib.Dec.{leb}
 use Rattle.places.specs.Places.{path}
-use Rattle.places.proofs.fits.Given as goal
+use Rattle.places.proofs.Places.fits.Given as goal
 
 abbrev pub invariant-loop-at : goal.invariant-loop-at
-invariant-loop-at l = leb (length (path l.stretch l.p l.at)) l.left ≡ leb (length (path l.stretch l.p l.place)) l.room
+invariant-loop-at l = leb (length (path l.stretch l.self l.at)) l.left ≡ leb (length (path l.stretch l.self l.place)) l.room
 
 abbrev pub decreases-loop-at : goal.decreases-loop-at
 decreases-loop-at l = l.at
