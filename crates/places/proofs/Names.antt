@@ -2,7 +2,7 @@
 use Rattle.numbers.specs.Place.{Place}
 use Prim.Native.Nat.{ℕ, zero, suc, ◌+◌, ◌-◌, ◌≤◌}
 use native.Mathlib.Omega.{arith}
-use Rattle.std.specs.Prelude.{◌≡◌, Bool, cond, List, length, get_or, drop, Ok, Err}
+use Rattle.std.specs.Prelude.{◌≡◌, Bool, cond, List, length, get_or, drop, Result as Outcome, Ok, Err}
 use Rattle.std.proofs.Math.Path.{refl}
 use Rattle.std.proofs.Common.{sym, ap, ◌∙◌, length-append, length-drop}
 use Rattle.std.proofs.Math.Bool.{true, false}
@@ -14,13 +14,12 @@ use Rattle.numbers.proofs.Numbers.{length_to_le, bytes_drop}
 use Rattle.numbers.specs.Reading.{Reading, ok, bad}
 use Rattle.numbers.proofs.ReadingLaws.{or_else}
 use Rattle.numbers.specs.Places.{rest_at}
+use Rattle.numbers.specs.declared.Refusal.{Refusal}
 use Rattle.numbers.specs.declared.Refusal.TheVariants as R
 use Rattle.strings.specs.Strings.{read_string, string_bytes}
 use Rattle.strings.specs.Spans.{bytes_in, start_in, str_start, str_len, past_str}
 use Rattle.strings.proofs.StringLaws.{took_string}
 use Rattle.places.specs.declared.Places.{Places}
-use Rattle.places.specs.declared.Spot.{Spot}
-use Rattle.places.specs.declared.Spot.TheVariants.{At, Refused}
 use Rattle.places.specs.declared.Reached.{Reached}
 use Rattle.places.specs.Places.{rowed, added, child, name_in, is_up, step, stepped, onward, walked}
 use Rattle.places.specs.Sound.{Sound, Grown}
@@ -49,7 +48,7 @@ module _ (s : List ℕ) where
   unfolding added
   added_named {p} d n o x y h = go (ltb p.used 256) refl
     where
-      go : (b : Bool) → ltb p.used 256 ≡ b → Named s (cond {A = Reached} b (record { places = rowed p o x y; at = At p.used }) (record { places = p; at = Refused R.TableFull })).places
+      go : (b : Bool) → ltb p.used 256 ≡ b → Named s (cond {A = Reached} b (record { places = rowed p o x y; at = Ok p.used }) (record { places = p; at = Err R.TableFull })).places
       go false e = n
       go true e = λ i k.
           let u = ltb-true p.used 256 e in
@@ -63,7 +62,7 @@ module _ (s : List ℕ) where
   unfolding step
   step_named {p} d n from x y h = go (is_up (name_in s x y))
     where
-      go : (b : Bool) → Named s (cond {A = Reached} b (record { places = p; at = At (get_or p.older from 0) }) (child p from x y)).places
+      go : (b : Bool) → Named s (cond {A = Reached} b (record { places = p; at = Ok (get_or p.older from 0) }) (child p from x y)).places
       go true = n
       go false = added_named d n from x y h
 
@@ -72,10 +71,10 @@ module _ (s : List ℕ) where
     unfolding onward
     onward_named {p} {r} g n q = go r.at refl (past_str s q) refl
       where
-        go : (t : Spot) → r.at ≡ t → (u : Place) → past_str s q ≡ u → Named s (stepped s (str_start s q) (str_len s q) u r t).places
-        go (Refused k) e u f = n
-        go (At from) e (Err w) f = n
-        go (At from) e (Ok j) f = step_named g.sound n from (str_start s q) (str_len s q) (string_inside s b q f)
+        go : (t : Outcome ℕ Refusal) → r.at ≡ t → (u : Place) → past_str s q ≡ u → Named s (stepped s (str_start s q) (str_len s q) u r t).places
+        go (Err k) e u f = n
+        go (Ok from) e (Err w) f = n
+        go (Ok from) e (Ok j) f = step_named g.sound n from (str_start s q) (str_len s q) (string_inside s b q f)
 
     pub walked_named : (m : ℕ) (q : Place) {p : Places} {r : Reached} → Grown p r → Named s r.places → Named s (walked s m q r).places
     unfolding walked

@@ -50,46 +50,37 @@ module _ (s os xs ys : List ℕ) where
   unfolding path_within
   path_root i h = rw (le-ltb _ _ h)
 
-  pub path_longer : (i : ℕ) → get_or os i 0 < i → length (path_in s os xs ys i) ≡ length (path_in s os xs ys (get_or os i 0)) + suc (length (name_in s (get_or xs i 0) (get_or ys i 0)))
-  path_longer i h = ap length (path_child i h) ∙ length-append (path_in s os xs ys (get_or os i 0)) (47 ∷ name_in s (get_or xs i 0) (get_or ys i 0))
+  -- a root fits any room, and nothing is put for it
+  pub fits_root : (i l : ℕ) → i ≤ get_or os i 0 → true ≡ leb (length (path_in s os xs ys i)) l
+  fits_root i l h = rw (path_root i h) (sym (le-leb 0 l (omega arith)))
 
-  -- ---- whether it fits so many bytes; j is i as an index
+  pub put_root : (i : ℕ) (o : List ℕ) → i ≤ get_or os i 0 → (0 ≡ length (path_in s os xs ys i)) × (o ≡ over o 0 (path_in s os xs ys i))
+  put_root i o h = (rw (path_root i h), rw (path_root i h))
 
-  pub fits_root : {i j : ℕ} (l : ℕ) → j ≡ i → i ≤ get_or os j 0 → true ≡ leb (length (path_in s os xs ys i)) l
-  fits_root {i} {j} l e h = let k : i ≤ get_or os i 0 = rw e at h in rw (path_root i k) (sym (le-leb 0 l (omega arith)))
+  -- a child, whose name is shown by the span x y
+  module _ {i x y : ℕ} (h : get_or os i 0 < i) (a : x ≡ get_or xs i 0) (b : y ≡ get_or ys i 0) where
+    pub path_longer : length (path_in s os xs ys i) ≡ length (path_in s os xs ys (get_or os i 0)) + suc (length (name_in s x y))
+    path_longer = ap length (path_child i h) ∙ length-append (path_in s os xs ys (get_or os i 0)) (47 ∷ name_in s (get_or xs i 0) (get_or ys i 0)) ∙ rw (a, b)
 
-  module _ {i j : ℕ} {t : List ℕ} (l : ℕ) (e : j ≡ i) (h : get_or os j 0 < i) (f : t ≡ name_in s (get_or xs j 0) (get_or ys j 0)) where
-    falls : get_or os i 0 < i
-    falls = rw e at h
+    module _ {t : List ℕ} (l : ℕ) (f : t ≡ name_in s x y) where
+      longer : length (path_in s os xs ys i) ≡ length (path_in s os xs ys (get_or os i 0)) + suc (length t)
+      longer = path_longer ∙ rw f
 
-    longer : length (path_in s os xs ys i) ≡ length (path_in s os xs ys (get_or os j 0)) + suc (length t)
-    longer = path_longer i falls ∙ rw (f, e)
+      pub fits_not : l ≤ length t → false ≡ leb (length (path_in s os xs ys i)) l
+      fits_not g = sym (lt-leb (length (path_in s os xs ys i)) l (let k = longer in omega arith))
 
-    pub fits_not : l ≤ length t → false ≡ leb (length (path_in s os xs ys i)) l
-    fits_not g = sym (lt-leb (length (path_in s os xs ys i)) l (let k = longer in omega arith))
+      pub fits_older : length t < l → leb (length (path_in s os xs ys (get_or os i 0))) (l - length t - 1) ≡ leb (length (path_in s os xs ys i)) l
+      fits_older g = leb_less (length (path_in s os xs ys (get_or os i 0))) (length t) l g ∙ ap (λ (n : ℕ). leb n l) (sym longer)
 
-    pub fits_older : length t < l → leb (length (path_in s os xs ys (get_or os j 0))) (l - length t - 1) ≡ leb (length (path_in s os xs ys i)) l
-    fits_older g = leb_less (length (path_in s os xs ys (get_or os j 0))) (length t) l g ∙ ap (λ (n : ℕ). leb n l) (sym longer)
+    put_child : path_in s os xs ys i ≡ path_in s os xs ys (get_or os i 0) ++ (47 ∷ name_in s x y)
+    put_child = path_child i h ∙ rw (a, b)
 
-  -- ---- how it is put
-
-  pub put_root : {i j : ℕ} (o : List ℕ) → j ≡ i → i ≤ get_or os j 0 → (0 ≡ length (path_in s os xs ys i)) × (o ≡ over o 0 (path_in s os xs ys i))
-  put_root {i} {j} o e h = let k : i ≤ get_or os i 0 = rw e at h in (rw (path_root i k), rw (path_root i k))
-
-  module _ {i j : ℕ} (o : List ℕ) (e : j ≡ i) (h : get_or os j 0 < i) (g : length (path_in s os xs ys i) ≤ length o) where
-    put_falls : get_or os i 0 < i
-    put_falls = rw e at h
-
-    pub put_longer : length (path_in s os xs ys i) ≡ length (path_in s os xs ys (get_or os j 0)) + suc (length (name_in s (get_or xs j 0) (get_or ys j 0)))
-    put_longer = path_longer i put_falls ∙ rw e
-
-    put_child : path_in s os xs ys i ≡ path_in s os xs ys (get_or os j 0) ++ (47 ∷ name_in s (get_or xs j 0) (get_or ys j 0))
-    put_child = path_child i put_falls ∙ rw e
-
-    pub put_older : {o1 o2 : List ℕ} {n : ℕ} → n ≡ length (path_in s os xs ys (get_or os j 0)) → o1 ≡ over o 0 (path_in s os xs ys (get_or os j 0)) → o2 ≡ over o1 n (47 ∷ name_in s (get_or xs j 0) (get_or ys j 0)) → o2 ≡ over o 0 (path_in s os xs ys i)
-    put_older {o1} {o2} {n} z w f =
-        let k : length (path_in s os xs ys (get_or os j 0) ++ (47 ∷ name_in s (get_or xs j 0) (get_or ys j 0))) ≤ length o = rw put_child at g in
-        f ∙ rw (z, w) (front_then o (path_in s os xs ys (get_or os j 0)) (47 ∷ name_in s (get_or xs j 0) (get_or ys j 0)) k) ∙ ap (over o 0) (sym put_child)
+    pub put_older : (o : List ℕ) {o1 o2 : List ℕ} {n m : ℕ} → length (path_in s os xs ys i) ≤ length o → n ≡ length (path_in s os xs ys (get_or os i 0))
+        → o1 ≡ over o 0 (path_in s os xs ys (get_or os i 0)) → m ≡ n + suc (length (name_in s x y)) → o2 ≡ over o1 n (47 ∷ name_in s x y)
+        → (m ≡ length (path_in s os xs ys i)) × (o2 ≡ over o 0 (path_in s os xs ys i))
+    put_older o g z w e f =
+        let k : length (path_in s os xs ys (get_or os i 0) ++ (47 ∷ name_in s x y)) ≤ length o = rw put_child at g in
+        (e ∙ rw z (sym path_longer), f ∙ rw (z, w) (front_then o (path_in s os xs ys (get_or os i 0)) (47 ∷ name_in s x y) k) ∙ ap (over o 0) (sym put_child))
 
 -- ---- a name
 

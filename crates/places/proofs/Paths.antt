@@ -1,7 +1,7 @@
 -- What holds of the definitions in specs/Paths.antt.
-use Prim.Native.Nat.{ℕ, zero, suc, ◌+◌, ◌-◌, ◌<◌, ◌≤◌}
+use Prim.Native.Nat.{ℕ, zero, suc, ◌+◌, ◌<◌, ◌≤◌}
 use Rattle.std.proofs.Common.{arith, sym, ap₂, ◌∙◌, length-append, length-drop, get_or-set_same}
-use Rattle.std.specs.Prelude.{◌≡◌, Bool, length, get_or, set, take, drop}
+use Rattle.std.specs.Prelude.{◌≡◌, Bool, length, get_or, set, take, drop, Ok}
 use Rattle.std.proofs.Math.Path.{refl, ap}
 use Rattle.std.proofs.Math.Bool.{true, false, cond}
 use mathlib.Core.List.{List, [], ◌∷◌, ◌++◌}
@@ -11,7 +11,6 @@ use borrow.Author.Tests.{ltb-true, lt-ltb}
 use Rattle.strings.specs.Spans.{bytes_in}
 use Rattle.strings.proofs.SpanLaws.{shown_in}
 use Rattle.places.specs.declared.Places.{Places}
-use Rattle.places.specs.declared.Spot.TheVariants.{At}
 use Rattle.places.specs.Places.{rowed, added, root, child, name_in, is_up, step, path_within, path}
 use Rattle.places.proofs.PathLaws.{path_child, path_root}
 use Rattle.places.specs.Sound.{Sound, Kept}
@@ -64,11 +63,11 @@ module _ {p : Places} (d : Sound p) (s : List ℕ) (h : p.used < 256) where
 
 -- `..` goes to the older place and makes none; a root stays
 module _ (s : List ℕ) (p : Places) (from x y : ℕ) (u : is_up (name_in s x y) ≡ true) where
-  pub up_older : step s p from x y ≡ record { places = p; at = At (get_or p.older from 0) }
+  pub up_older : step s p from x y ≡ record { places = p; at = Ok (get_or p.older from 0) }
   unfolding step
   up_older = rw u
 
-  pub up_root : get_or p.older from 0 ≡ from → step s p from x y ≡ record { places = p; at = At from }
+  pub up_root : get_or p.older from 0 ≡ from → step s p from x y ≡ record { places = p; at = Ok from }
   up_root e = up_older ∙ rw e
 
 pub name_longer : (s t : List ℕ) (x y : ℕ) → x + y ≤ length s → name_in (s ++ t) x y ≡ name_in s x y

@@ -1,14 +1,13 @@
 -- What holds of the definitions in specs/Sound.antt.
 use Rattle.numbers.specs.Place.{Place}
-use Rattle.std.specs.Prelude.{ℕ, zero, suc, ◌<◌, ◌≤◌, ◌≡◌, refl, Bool, true, false, cond, List, get_or, ltb, Ok, Err}
+use Rattle.std.specs.Prelude.{ℕ, zero, suc, ◌<◌, ◌≤◌, ◌≡◌, refl, Bool, true, false, cond, List, get_or, ltb, Result, Ok, Err}
 use Rattle.std.proofs.Common.{arith, not-suc-le-zero, ◌∙◌, length-set, get_or-set_same, get_or-set_other, ltb-true}
 use Rattle.std.proofs.lemmas.List.{length-replicate}
 use Rattle.numbers.proofs.ReadingLaws.{or_else}
+use Rattle.numbers.specs.declared.Refusal.{Refusal}
 use Rattle.numbers.specs.declared.Refusal.TheVariants as R
 use Rattle.strings.specs.Spans.{str_start, str_len, past_str}
 use Rattle.places.specs.declared.Places.{Places}
-use Rattle.places.specs.declared.Spot.{Spot}
-use Rattle.places.specs.declared.Spot.TheVariants.{At, Refused}
 use Rattle.places.specs.declared.Reached.{Reached}
 use Rattle.places.specs.Places.{unused, rowed, added, child, name_in, is_up, step, stepped, onward, walked}
 use Rattle.places.specs.Sound.{Sound, Inside, Kept, Grown}
@@ -63,7 +62,7 @@ pub added_grown : {p : Places} → Sound p → (o x y : ℕ) → o ≤ p.used �
 unfolding added
 added_grown {p} s o x y g = go (ltb p.used 256) refl
   where
-    go : (b : Bool) → ltb p.used 256 ≡ b → Grown p (cond b (record { places = rowed p o x y; at = At p.used }) (record { places = p; at = Refused R.TableFull }))
+    go : (b : Bool) → ltb p.used 256 ≡ b → Grown p (cond b (record { places = rowed p o x y; at = Ok p.used }) (record { places = p; at = Err R.TableFull }))
     go true e = let h = ltb-true p.used 256 e in record { sound = rowed_sound s o x y h g; inside = omega arith; kept = rowed_kept s o x y h }
     go false e = record { sound = s; inside = tt; kept = kept_same p }
 
@@ -73,7 +72,7 @@ pub step_grown : {p : Places} → Sound p → (s : List ℕ) (from x y : ℕ) �
 unfolding step
 step_grown {p} d s from x y h = go (is_up (name_in s x y))
   where
-    go : (b : Bool) → Grown p (cond b (record { places = p; at = At (get_or p.older from 0) }) (child p from x y))
+    go : (b : Bool) → Grown p (cond b (record { places = p; at = Ok (get_or p.older from 0) }) (child p from x y))
     go true = record { sound = d; inside = let k = d.falls from h in omega arith; kept = kept_same p }
     go false = added_grown d from x y (omega arith)
 
@@ -81,11 +80,11 @@ pub onward_grown : {p : Places} {r : Reached} → Grown p r → (s : List ℕ) (
 unfolding onward
 onward_grown {p} {r} g s x y q = go r.at refl q
   where
-    go : (t : Spot) → r.at ≡ t → (q : Place) → Grown p (stepped s x y q r t)
-    go (Refused k) e q = g
-    go (At from) e (Err f) = record { sound = g.sound; inside = tt; kept = g.kept }
-    go (At from) e (Ok n) =
-        let i : Inside r.places (At from) = rw e at g.inside in
+    go : (t : Result ℕ Refusal) → r.at ≡ t → (q : Place) → Grown p (stepped s x y q r t)
+    go (Err k) e q = g
+    go (Ok from) e (Err f) = record { sound = g.sound; inside = tt; kept = g.kept }
+    go (Ok from) e (Ok n) =
+        let i : Inside r.places (Ok from) = rw e at g.inside in
         let w = step_grown g.sound s from x y i in
         record { sound = w.sound; inside = w.inside; kept = kept_then g.kept w.kept }
 

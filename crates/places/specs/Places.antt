@@ -1,11 +1,10 @@
 -- The places of a session: each is a root, or was reached from an older place by a name (F15.3, F15.4).
 use Rattle.numbers.specs.Place.{Place}
-use Rattle.std.specs.Prelude.{ℕ, zero, suc, ◌+◌, Bool, false, cond, List, [], ◌∷◌, ◌++◌, length, get_or, set, replicate, ltb, eqb, Ok, Err}
+use Rattle.std.specs.Prelude.{ℕ, zero, suc, ◌+◌, Bool, false, cond, List, [], ◌∷◌, ◌++◌, length, get_or, set, replicate, ltb, eqb, Result, Ok, Err}
+use Rattle.numbers.specs.declared.Refusal.{Refusal}
 use Rattle.numbers.specs.declared.Refusal.TheVariants as R
 use Rattle.strings.specs.Spans.{bytes_in, show_span, str_start, str_len, past_str}
 use Rattle.places.specs.declared.Places.{Places}
-use Rattle.places.specs.declared.Spot.{Spot}
-use Rattle.places.specs.declared.Spot.TheVariants.{At, Refused}
 use Rattle.places.specs.declared.Reached.{Reached}
 
 -- ---- a new place
@@ -19,7 +18,7 @@ rowed p o x y = record { older = set p.older p.used o; starts = set p.starts p.u
 
 -- a new place is the next row; 24 where all 256 are used
 unfoldable pub added : Places → ℕ → ℕ → ℕ → Reached
-added p o x y = cond (ltb p.used 256) (record { places = rowed p o x y; at = At p.used }) (record { places = p; at = Refused R.TableFull })
+added p o x y = cond (ltb p.used 256) (record { places = rowed p o x y; at = Ok p.used }) (record { places = p; at = Err R.TableFull })
 
 -- a root's older place is itself
 abbrev pub root : Places → Reached
@@ -40,16 +39,16 @@ is_up bs = cond (eqb (length bs) 2) (cond (eqb (get_or bs 0 0) 46) (eqb (get_or 
 
 -- up is the older place, and makes none; else a child
 unfoldable pub step : List ℕ → Places → ℕ → ℕ → ℕ → Reached
-step s p from x y = cond (is_up (name_in s x y)) (record { places = p; at = At (get_or p.older from 0) }) (child p from x y)
+step s p from x y = cond (is_up (name_in s x y)) (record { places = p; at = Ok (get_or p.older from 0) }) (child p from x y)
 
 -- one step more, by the string that was read; a refused walk stays refused
 abbrev pub named : List ℕ → Places → ℕ → ℕ → ℕ → Place → Reached
 named s p from x y (Ok q) = step s p from x y
-named s p from x y (Err f) = record { places = p; at = Refused f.0 }
+named s p from x y (Err f) = record { places = p; at = Err f.0 }
 
-abbrev pub stepped : List ℕ → ℕ → ℕ → Place → Reached → Spot → Reached
-stepped s x y q r (At from) = named s r.places from x y q
-stepped s x y q r (Refused k) = r
+abbrev pub stepped : List ℕ → ℕ → ℕ → Place → Reached → Result ℕ Refusal → Reached
+stepped s x y q r (Ok from) = named s r.places from x y q
+stepped s x y q r (Err k) = r
 
 unfoldable pub onward : List ℕ → ℕ → ℕ → Place → Reached → Reached
 onward s x y q r = stepped s x y q r r.at

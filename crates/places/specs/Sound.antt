@@ -1,8 +1,7 @@
 -- What holds of the places of any session: each older place is not above its own, and all are below the used ones. What is kept of them.
-use Rattle.std.specs.Prelude.{ℕ, ◌<◌, ◌≤◌, ◌≡◌, length, get_or}
+use Rattle.std.specs.Prelude.{ℕ, ◌<◌, ◌≤◌, ◌≡◌, length, get_or, Result, Ok, Err}
+use Rattle.numbers.specs.declared.Refusal.{Refusal}
 use Rattle.places.specs.declared.Places.{Places}
-use Rattle.places.specs.declared.Spot.{Spot}
-use Rattle.places.specs.declared.Spot.TheVariants.{At, Refused}
 use Rattle.places.specs.declared.Reached.{Reached}
 
 pub record Sound (p : Places) : Type 0 where
@@ -13,9 +12,9 @@ pub record Sound (p : Places) : Type 0 where
   pub falls : (i : ℕ) → i < p.used → get_or p.older i 0 ≤ i
 
 -- a place below the used ones
-abbrev pub Inside : Places → Spot → Type 0
-Inside p (At i) = i < p.used
-Inside p (Refused k) = Unit {0}
+abbrev pub Inside : Places → Result ℕ Refusal → Type 0
+Inside p (Ok i) = i < p.used
+Inside p (Err k) = Unit {0}
 
 -- the places of p are those of q too, with the rows that they had
 pub record Kept (p q : Places) : Type 0 where

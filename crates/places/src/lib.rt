@@ -3,9 +3,9 @@
 
 #![tactic(auto)]
 
-ghost use Rattle.std.specs.Prelude.{◌≡◌, suc, ◌+◌, ◌≤◌, ◌<◌, ◌∷◌, length, leb};
+ghost use Rattle.std.specs.Prelude.{◌≡◌, suc, ◌+◌, ◌≤◌, ◌<◌, ◌∷◌, length, leb, get_or, Ok};
 ghost use Rattle.numbers.specs.Places.{over, Put};
-ghost use Rattle.places.specs.Places.{unused, rowed, root, child, is_up, step, onward, walked, name_in, path_in, path};
+ghost use Rattle.places.specs.Places.{unused, added, root, child, is_up, step, onward, walked, name_in, path};
 
 use numbers::{Fault, Place, Read, Refusal};
 use strings::Span;
@@ -20,83 +20,61 @@ pub struct Places {
     pub used: usize,
 }
 
-// Where a step ends: at a place; or why at none.
-#[derive(Clone, Copy)]
-pub enum Spot {
-    At(u8),
-    Refused(Refusal),
-}
-
-// The places as they are after a step, and where it ends.
+// The places as they are after a step, and where it ends; or why at none.
 #[derive(Clone, Copy)]
 pub struct Reached {
     pub places: Places,
-    pub at: Spot,
+    pub at: Result<u8, Refusal>,
 }
 
 // No places.
 pub fn empty() -> Places
     ensures { result ≡ unused }
 {
-    let older = [0u8; 256];
-    let starts = [0usize; 256];
-    let lens = [0usize; 256];
     Places {
-        older,
-        starts,
-        lens,
+        older: [0; 256],
+        starts: [0; 256],
+        lens: [0; 256],
         used: 0,
     }
 }
 
-fn wide(x: u8) -> usize
-    ensures { (result ≡ x) × (result < 256) }
+// A new place, the next row; or 24.
+#[tactic(auto, unfolding(crate::specs::Places::added))]
+fn add(p: Places, older: usize, name: Span) -> Reached
+    requires { p.used < 256 → older < 256 }
+    ensures { result ≡ added p older name.start name.len }
 {
-    x as usize
-}
-
-// The next row, `i`, filled.
-fn put_row(p: Places, i: usize, older: u8, name: Span) -> Places
-    requires { (i < 256) × (p.used ≡ i) }
-    ensures { result ≡ rowed p older name.start name.len }
-{
-    let mut q = p;
-    q.older[i] = older;
-    q.starts[i] = name.start;
-    q.lens[i] = name.len;
-    q.used = i + 1;
-    q
+    let i = p.used;
+    if i >= 256 {
+        return Reached {
+            places: p,
+            at: Err(Refusal::TableFull),
+        };
+    }
+    let mut places = p;
+    places.older[i] = older as u8;
+    places.starts[i] = name.start;
+    places.lens[i] = name.len;
+    places.used = i + 1;
+    Reached {
+        places,
+        at: Ok(i as u8),
+    }
 }
 
 // A new root; or 24.
 pub fn root(p: Places) -> Reached
     ensures { result ≡ root p }
 {
-    let i = p.used;
-    if i < 256 {
-        let me = i as u8;
-        let none = Span { start: 0, len: 0 };
-        let places = put_row(p, i, me, none);
-        let at = Spot::At(me);
-        return Reached { places, at };
-    }
-    let at = Spot::Refused(Refusal::TableFull);
-    Reached { places: p, at }
+    add(p, p.used, Span { start: 0, len: 0 })
 }
 
 // A new place, reached from another by a name, whatever the name; or 24.
 pub fn child(p: Places, from: u8, name: Span) -> Reached
     ensures { result ≡ child p from name.start name.len }
 {
-    let i = p.used;
-    if i < 256 {
-        let me = i as u8;
-        let places = put_row(p, i, from, name);
-        let at = Spot::At(me);
-        return Reached { places, at };
-    }
-    let at = Spot::Refused(Refusal::TableFull);
-    Reached { places: p, at }
+    add(p, from as usize, name)
 }
 
 // Whether a name is `..`.
@@ -104,66 +82,53 @@ fn is_up(stretch: &[u8], name: Span) -> bool
     ensures { result ≡ is_up (name_in stretch.now name.start name.len) }
 {
     let text = strings::shown(stretch, name);
-    if text.len() == 2 {
-        if text[0] == b'.' {
-            return text[1] == b'.';
-        }
-    }
-    false
+    text.len() == 2 && text[0] == b'.' && text[1] == b'.'
 }
 
 // One step of a walk: `..` makes no place.
+#[tactic(auto, unfolding(crate::specs::Places::step))]
 pub fn step(p: Places, from: u8, stretch: &[u8], name: Span) -> Reached
     ensures { result ≡ step stretch.now p from name.start name.len }
 {
     if is_up(stretch, name) {
-        let i = wide(from);
-        let older = p.older[i];
-        let at = Spot::At(older);
-        return Reached { places: p, at };
+        return Reached {
+            places: p,
+            at: Ok(p.older[from as usize]),
+        };
     }
     child(p, from, name)
 }
 
 // One step more by a name that was read; a walk that is refused stays so.
+#[tactic(auto, unfolding(crate::specs::Places::onward))]
 fn onward(r: Reached, stretch: &[u8], name: Read<Span>) -> Reached
     ensures { result ≡ onward stretch.now name.value.start name.value.len name.next r }
 {
-    let at = r.at;
-    let Spot::At(from) = at else {
+    let Ok(from) = r.at else {
         return r;
     };
-    let p = r.places;
-    let next = name.next;
-    match next {
-        Ok(_) => {
-            let v = name.value;
-            step(p, from, stretch, v)
-        }
-        Err(Fault(k, _)) => {
-            let at = Spot::Refused(k);
-            Reached { places: p, at }
-        }
+    match name.next {
+        Ok(_) => step(r.places, from, stretch, name.value),
+        Err(Fault(k, _)) => Reached {
+            places: r.places,
+            at: Err(k),
+        },
     }
 }
 
 // The steps of a walk by so many names, which stand at a place of the stretch one after the other.
 pub fn walk(p: Places, from: u8, stretch: &[u8], names: usize, count: u16) -> Reached
-    ensures { result ≡ walked stretch.now count (Ok names) (record { places = p; at = Spot.At from }) }
+    ensures { result ≡ walked stretch.now count (Ok names) (record { places = p; at = Ok from }) }
 {
-    let start = Spot::At(from);
     let mut r = Reached {
         places: p,
-        at: start,
+        at: Ok(from),
     };
     let mut place = Ok(names);
-    let mut i: u16 = 0;
-    while i < count {
+    for _ in 0..count {
         let name = strings::read_str(stretch, place);
         r = onward(r, stretch, name);
-        let next = name.next;
-        place = next;
-        i += 1;
+        place = name.next;
     }
     r
 }
@@ -174,61 +139,54 @@ fn put_name(out: &mut [u8], n: usize, stretch: &[u8], name: Span) -> usize
     ensures { (result ≡ n + suc (length (name_in stretch.now name.start name.len))) × (out.new ≡ over out.old n (47 ∷ name_in stretch.now name.start name.len)) }
 {
     let slash = numbers::put_u8(out, Ok(n), b'/');
-    strings::put_bytes(out, slash, stretch, name);
+    let _ = strings::put_bytes(out, slash, stretch, name);
     let text = strings::shown(stretch, name);
     n + 1 + text.len()
 }
 
-// The path of a place over the front of the output: that of the older place, and then the name. The place's number falls. Its length.
-fn put_path<'a>(
-    out: &mut [u8],
-    older: &'a [u8; 256],
-    starts: &'a [usize; 256],
-    lens: &'a [usize; 256],
-    place: u8,
-    stretch: &[u8],
-) -> usize
-    requires { length (path_in stretch.now older.now starts.now lens.now place) ≤ length out.old }
-    ensures { (result ≡ length (path_in stretch.now older.now starts.now lens.now place)) × (out.new ≡ over out.old 0 (path_in stretch.now older.now starts.now lens.now place)) }
-{
-    let i = wide(place);
-    let o = older[i];
-    if o < place {
-        let n = put_path(out, older, starts, lens, o, stretch);
-        let start = starts[i];
-        let len = lens[i];
-        return put_name(out, n, stretch, Span { start, len });
+impl Places {
+    // The name by which a place was reached.
+    fn name_of(&self, place: u8) -> Span
+        ensures { (result.start ≡ get_or self.now.starts place 0) × (result.len ≡ get_or self.now.lens place 0) }
+    {
+        let i = place as usize;
+        Span {
+            start: self.starts[i],
+            len: self.lens[i],
+        }
     }
-    0
-}
 
-// Whether the path of a place has at most so many bytes. No sum is formed that could wrap.
-fn fits<'a>(
-    older: &'a [u8; 256],
-    starts: &'a [usize; 256],
-    lens: &'a [usize; 256],
-    place: u8,
-    stretch: &[u8],
-    room: usize,
-) -> bool
-    ensures { result ≡ leb (length (path_in stretch.now older.now starts.now lens.now place)) room }
-{
-    let mut at = place;
-    let mut left = room;
-    loop {
-        let i = wide(at);
-        let o = older[i];
-        if at <= o {
-            return true;
+    // The path of a place over the front of the output: that of the older place, and then the name. The place's number falls. Its length.
+    fn put_path(&self, out: &mut [u8], place: u8, stretch: &[u8]) -> usize
+        requires { length (path stretch.now self.now place) ≤ length out.old }
+        ensures { (result ≡ length (path stretch.now self.now place)) × (out.new ≡ over out.old 0 (path stretch.now self.now place)) }
+    {
+        let older = self.older[place as usize];
+        if older >= place {
+            return 0;
         }
-        let start = starts[i];
-        let len = lens[i];
-        let text = strings::shown(stretch, Span { start, len });
-        if left <= text.len() {
-            return false;
+        let n = self.put_path(out, older, stretch);
+        put_name(out, n, stretch, self.name_of(place))
+    }
+
+    // Whether the path of a place has at most so many bytes. No sum is formed that could wrap.
+    fn fits(&self, place: u8, stretch: &[u8], room: usize) -> bool
+        ensures { result ≡ leb (length (path stretch.now self.now place)) room }
+    {
+        let mut at = place;
+        let mut left = room;
+        loop {
+            let older = self.older[at as usize];
+            if older >= at {
+                return true;
+            }
+            let text = strings::shown(stretch, self.name_of(at));
+            if left <= text.len() {
+                return false;
+            }
+            left = left - text.len() - 1;
+            at = older;
         }
-        left = left - text.len() - 1;
-        at = o;
     }
 }
 
@@ -236,8 +194,8 @@ fn fits<'a>(
 pub fn write_path(out: &mut [u8], p: Places, place: u8, stretch: &[u8]) -> Place
     ensures { Put (path stretch.now p place) out.old (Ok 0) out.new result }
 {
-    if fits(&p.older, &p.starts, &p.lens, place, stretch, out.len()) {
-        let n = put_path(out, &p.older, &p.starts, &p.lens, place, stretch);
+    if p.fits(place, stretch, out.len()) {
+        let n = p.put_path(out, place, stretch);
         return Ok(n);
     }
     Err(Fault(Refusal::NoRoom, 0))

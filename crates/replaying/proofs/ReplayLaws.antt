@@ -2,7 +2,7 @@
 use Rattle.numbers.specs.Place.{Place}
 use Prim.Native.Nat.{ℕ, suc, ◌+◌, ◌-◌, ◌≤◌, ◌<◌}
 use native.Mathlib.Omega.{arith}
-use Rattle.std.specs.Prelude.{◌≡◌, refl, Bool, true, false, cond, List, ◌∷◌, length, take, drop, Ok}
+use Rattle.std.specs.Prelude.{◌≡◌, refl, Bool, true, false, cond, List, ◌∷◌, length, take, drop, Result, Ok, Err}
 use Rattle.std.proofs.Common.{sym, ◌∙◌, length-append, length-take-le, lt-ltb, le-ltb}
 use Rattle.std.proofs.Math.Path.{ap}
 use Rattle.io.specs.Counts.{IsPrefixLen}
@@ -32,8 +32,6 @@ use Rattle.session.specs.Rules.{fresh, stepped}
 use Rattle.session.specs.declared.Session.{Session}
 use Rattle.session.specs.declared.Event.{Event}
 use Rattle.session.specs.declared.Stepped.{Stepped}
-use Rattle.session.specs.declared.Answer.{Answer as Told}
-use Rattle.session.specs.declared.Answer.TheVariants.{Accepted, Refused}
 use Rattle.events.specs.Events.{event_of}
 use Rattle.replaying.specs.Replays.{answer_of, told, replayed, replay, text, LinesPut, ReplayPut, Replayed}
 use Rattle.replaying.specs.ReplayLaws.{Upto}
@@ -46,9 +44,9 @@ unfolding stepped event_of
 number_same bs s ty tag (refused k at) = refl
 number_same bs s ty tag (accepted t vs used) = go (stepped bs s (event_of ty tag (accepted t vs used))).answer
   where
-    go : (b : Told) → answer_of b ≡ answer_number (told b (accepted t vs used))
-    go Accepted = refl
-    go (Refused k) = refl
+    go : (b : Result (Unit {0}) Refusal) → answer_of b ≡ answer_number (told b (accepted t vs used))
+    go (Ok u) = refl
+    go (Err k) = refl
 
 module _ {bs o : List ℕ} {p₀ : Place} where
   pub upto_none : {s : Session} → s ≡ fresh → Upto bs o p₀ s 0 0 o p₀

@@ -1,6 +1,7 @@
 -- A recording followed (F15.8, F15.11): the fold of the session over the listing of its stretch, and the text.
 use Rattle.numbers.specs.Place.{Place}
-use Rattle.std.specs.Prelude.{ℕ, ◌≡◌, cond, List, [], ◌∷◌, length, ltb, Ok}
+use Rattle.std.specs.Prelude.{ℕ, ◌≡◌, cond, List, [], ◌∷◌, length, ltb, Result, Ok, Err}
+use Rattle.numbers.specs.declared.Refusal.{Refusal}
 use Rattle.numbers.specs.Refusals.{number_of}
 use Rattle.numbers.specs.Places.{over}
 use Rattle.numbers.specs.declared.Refusal.TheVariants as R
@@ -11,20 +12,18 @@ use Rattle.listing.specs.Text.{PiecesPut, joined, header, stop_word, last_pieces
 use Rattle.sealing.specs.Trailers.{stretch_in, sealed}
 use Rattle.session.specs.Rules.{fresh, stepped}
 use Rattle.session.specs.declared.Session.{Session}
-use Rattle.session.specs.declared.Answer.{Answer as Told}
-use Rattle.session.specs.declared.Answer.TheVariants.{Accepted, Refused}
 use Rattle.events.specs.Events.{event_of}
 
 -- ---- the fold (F15.8)
 
-abbrev pub answer_of : Told → ℕ
-answer_of Accepted = 0
-answer_of (Refused k) = number_of k
+abbrev pub answer_of : Result (Unit {0}) Refusal → ℕ
+answer_of (Ok u) = 0
+answer_of (Err k) = number_of k
 
 -- what is listed of a frame: what was read, where the session accepts it; else the session's refusal
-abbrev pub told : Told → Answer → Answer
-told Accepted a = a
-told (Refused k) a = refused k 0
+abbrev pub told : Result (Unit {0}) Refusal → Answer → Answer
+told (Ok u) a = a
+told (Err k) a = refused k 0
 
 -- each frame is answered by the session that those before it leave; bs is the stretch
 unfoldable pub replayed : List ℕ → Session → Listing → Listing

@@ -6,16 +6,15 @@ ghost use Rattle.std.specs.Prelude.{◌≡◌};
 ghost use Rattle.replaying.specs.Replays.{answer_of, LinesPut, ReplayPut, Replayed};
 
 use numbers::{Place, Refusal};
-use session::Answer;
 use stretch::Step;
 
 // 0, or the number of the refusal.
-pub fn answer_of(a: Answer) -> u8
+pub fn answer_of(a: Result<(), Refusal>) -> u8
     ensures { result ≡ answer_of a }
 {
     match a {
-        Answer::Accepted => 0,
-        Answer::Refused(k) => numbers::number(k),
+        Ok(()) => 0,
+        Err(k) => numbers::number(k),
     }
 }
 
@@ -32,10 +31,8 @@ fn put_lines(out: &mut [u8], from: Place, stretch: &[u8]) -> Place
         match step {
             Step::Frame(l) => {
                 let d = session::turn(s, stretch, events::event_of(l));
-                let answer = d.answer;
-                p = listing::put_frame(out, p, l, answer_of(answer));
-                let t = d.session;
-                s = t;
+                p = listing::put_frame(out, p, l, answer_of(d.answer));
+                s = d.session;
                 at = l.next;
                 n += 1;
             }

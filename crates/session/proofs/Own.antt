@@ -1,18 +1,15 @@
 -- What holds of the definitions in specs/Own.antt.
-use Rattle.std.specs.Prelude.{ℕ, ◌<◌, ◌≡◌, refl, Bool, true, false, cond, List, eqb, Ok}
+use Rattle.std.specs.Prelude.{ℕ, ◌<◌, ◌≡◌, refl, Bool, true, false, cond, List, eqb, Result, Ok, Err}
 use Rattle.std.proofs.Common.{arith, sym, ◌∙◌}
+use Rattle.numbers.specs.declared.Refusal.{Refusal}
 use Rattle.numbers.specs.declared.Refusal.TheVariants as R
 use Rattle.layouts.specs.Tables.{table_t}
 use Rattle.pairs.specs.Pairs.{rlerror, pairs}
 use Rattle.places.specs.declared.Places.{Places}
-use Rattle.places.specs.declared.Spot.{Spot}
-use Rattle.places.specs.declared.Spot.TheVariants as S
 use Rattle.places.specs.Reads.{OnlyFull}
 use Rattle.places.proofs.ReadLaws.{added_only_full, walked_only_full}
 use Rattle.session.specs.declared.Request.{Request}
 use Rattle.session.specs.declared.Session.{Session}
-use Rattle.session.specs.declared.Answer.{Answer}
-use Rattle.session.specs.declared.Answer.TheVariants.{Accepted, Refused}
 use Rattle.session.specs.declared.Stepped.{Stepped}
 use Rattle.session.specs.declared.Effect.{Effect}
 use Rattle.session.specs.declared.Effect.TheVariants as E
@@ -36,15 +33,15 @@ unfit_own : (fids : List ℕ) (r : Request) → Own (unfit fids r)
 unfolding unfit
 unfit_own fids r = go (has r.new fids) (eqb r.known none) (has r.known fids)
   where
-    go : (x y z : Bool) → Own (cond x (Refused R.FidInUse) (cond y Accepted (cond z Accepted (Refused R.FidUnknown))))
+    go : (x y z : Bool) → Own (cond x (Err R.FidInUse) (cond y (Ok tt) (cond z (Ok tt) (Err R.FidUnknown))))
     go true y z = (omega arith, omega arith)
     go false true z = tt
     go false false true = tt
     go false false false = (omega arith, omega arith)
 
-unless_own : (a : Answer) (s : Session) (t : Stepped) → Own a → Own t.answer → Own (unless a s t).answer
-unless_own Accepted s t f g = g
-unless_own (Refused k) s t f g = f
+unless_own : (a : Result (Unit {0}) Refusal) (s : Session) (t : Stepped) → Own a → Own t.answer → Own (unless a s t).answer
+unless_own (Ok u) s t f g = g
+unless_own (Err k) s t f g = f
 
 asked_own : (s : Session) (tag : ℕ) (r : Request) → Own (asked s tag r).answer
 unfolding asked
@@ -53,9 +50,9 @@ asked_own s tag r =
     either (has tag s.tags) (refuses s R.TagOpen) (unless (unfit s.fids r) s t) (omega arith, omega arith)
     (unless_own (unfit s.fids r) s t (unfit_own s.fids r) (either (has free s.tags) (accepts (opened s tag r)) (refuses s R.TableFull) tt (omega arith, omega arith)))
 
-given_own : (s : Session) (fid : ℕ) (p : Places) (t : Spot) → OnlyFull t → Own (given_at s fid p t).answer
-given_own s fid p (S.Refused k) f = rw f (omega arith, omega arith)
-given_own s fid p (S.At i) f =
+given_own : (s : Session) (fid : ℕ) (p : Places) (t : Result ℕ Refusal) → OnlyFull t → Own (given_at s fid p t).answer
+given_own s fid p (Err k) f = rw f (omega arith, omega arith)
+given_own s fid p (Ok i) f =
     let a : Stepped = accepts (held s (row_of fid s.fids) fid i p) in
     let b : Stepped = accepts (held s (row_of free s.fids) fid i p) in
     let c : Stepped = refuses s R.TableFull in
@@ -64,7 +61,7 @@ given_own s fid p (S.At i) f =
 reached_full : (bs : List ℕ) (s : Session) (w : Way) (r : Request) → FitFor bs r w → OnlyFull (reached bs s w r).at
 unfolding reached
 reached_full bs s Y.Root r f = added_only_full s.places s.places.used 0 0
-reached_full bs s Y.Walk r f = walked_only_full bs r.count (Ok r.start) (record { places = s.places; at = S.At (place_of s r.known) }) f.1 tt
+reached_full bs s Y.Walk r f = walked_only_full bs r.count (Ok r.start) (record { places = s.places; at = Ok (place_of s r.known) }) f.1 tt
 reached_full bs s Y.Child r f = added_only_full s.places (place_of s r.known) r.start r.len
 reached_full bs s Y.Copy r f = tt
 
@@ -77,9 +74,9 @@ done_own bs s E.Drops r f = unless_own (unfit s.fids r) s (accepts (dropped s r.
 done_own bs s (E.Gives w) r f =
     unless_own (unfit s.fids r) s (given s r.to (reached bs s w r)) (unfit_own s.fids r) (given_own s r.to (reached bs s w r).places (reached bs s w r).at (reached_full bs s w r f))
 
-closing_own : (s : Session) (tag : ℕ) (t : Session) (a : Answer) → Own a → Own (closing s tag t a).answer
-closing_own s tag t Accepted f = tt
-closing_own s tag t (Refused k) f = f
+closing_own : (s : Session) (tag : ℕ) (t : Session) (a : Result (Unit {0}) Refusal) → Own a → Own (closing s tag t a).answer
+closing_own s tag t (Ok u) f = tt
+closing_own s tag t (Err k) f = f
 
 answered_own : {bs : List ℕ} {s : Session} → Sound bs s → (tag ty n : ℕ) → tag < free → Own (answered bs s tag ty n).answer
 unfolding answered replied finished

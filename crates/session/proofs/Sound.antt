@@ -1,5 +1,5 @@
 -- What holds of the definitions in specs/Sound.antt.
-use Rattle.std.specs.Prelude.{ℕ, ◌<◌, ◌≡◌, Bool, cond, List, eqb, Ok}
+use Rattle.std.specs.Prelude.{ℕ, ◌<◌, ◌≡◌, Bool, cond, List, eqb, Result, Ok, Err}
 use Rattle.std.proofs.Common.{arith, ◌∙◌, inl, inr, length-set, get_or-set_other, eqb-true}
 use Rattle.std.proofs.Math.Path.{refl, sym}
 use Rattle.std.proofs.Math.Bool.{true, false}
@@ -8,11 +8,10 @@ use Rattle.std.proofs.lemmas.List.{length-replicate, get_or-replicate}
 use Rattle.std.proofs.Math.Seq.{get_or-set_same}
 use Rattle.std.proofs.lemmas.Bool.{eqb-false}
 use Rattle.numbers.specs.Numbers.{Bytes}
+use Rattle.numbers.specs.declared.Refusal.{Refusal}
 use Rattle.numbers.specs.declared.Refusal.TheVariants as R
 use Rattle.layouts.specs.Tables.{table_t}
 use Rattle.pairs.specs.Pairs.{rlerror, pairs}
-use Rattle.places.specs.declared.Spot.{Spot}
-use Rattle.places.specs.declared.Spot.TheVariants as S
 use Rattle.places.specs.declared.Reached.{Reached}
 use Rattle.places.specs.Sound.{Inside, Grown}
 use Rattle.places.proofs.Sound.{unused_sound, kept_same, added_grown, walked_grown}
@@ -20,8 +19,6 @@ use Rattle.places.specs.Paths.{Named}
 use Rattle.places.proofs.Names.{added_named, walked_named}
 use Rattle.session.specs.declared.Request.{Request}
 use Rattle.session.specs.declared.Session.{Session}
-use Rattle.session.specs.declared.Answer.{Answer}
-use Rattle.session.specs.declared.Answer.TheVariants.{Accepted, Refused}
 use Rattle.session.specs.declared.Stepped.{Stepped}
 use Rattle.session.specs.declared.Effect.{Effect}
 use Rattle.session.specs.declared.Effect.TheVariants as E
@@ -129,9 +126,9 @@ module _ {bs : List ℕ} {s : Session} (d : Sound bs s) where
   -- ---- a fid that is given a place
 
   module _ {r : Reached} (g : Grown s.places r) (n : Named bs r.places) where
-    held_sound : (row fid i : ℕ) → row < 64 → r.at ≡ S.At i → ((j : ℕ) → j < 64 → (j ≡ row → ⊥) → get_or s.fids j 0 ≡ fid → fid ≡ free) → Sound bs (held s row fid i r.places)
+    held_sound : (row fid i : ℕ) → row < 64 → r.at ≡ Ok i → ((j : ℕ) → j < 64 → (j ≡ row → ⊥) → get_or s.fids j 0 ≡ fid → fid ≡ free) → Sound bs (held s row fid i r.places)
     held_sound row fid i l e f =
-        let q : Inside r.places (S.At i) = rw e at g.inside in
+        let q : Inside r.places (Ok i) = rw e at g.inside in
         let k = g.kept.more in
         let o = d.ats in
         record {
@@ -151,7 +148,7 @@ module _ {bs : List ℕ} {s : Session} (d : Sound bs s) where
     unfolding given
     given_sound fid = go r.at refl
       where
-        row : (i : ℕ) → r.at ≡ S.At i → (b c : Bool) → has fid s.fids ≡ b → has free s.fids ≡ c
+        row : (i : ℕ) → r.at ≡ Ok i → (b c : Bool) → has fid s.fids ≡ b → has free s.fids ≡ c
             → Sound bs (cond {A = Stepped} b (accepts (held s (row_of fid s.fids) fid i r.places)) (cond c (accepts (held s (row_of free s.fids) fid i r.places)) (refuses s R.TableFull))).session
         row i e true c h k =
             held_sound (row_of fid s.fids) fid i (has_row fid s.fids h) e
@@ -159,9 +156,9 @@ module _ {bs : List ℕ} {s : Session} (d : Sound bs s) where
         row i e false true h k = held_sound (row_of free s.fids) fid i (has_row free s.fids k) e (λ j a b f. absurd (has_not fid s.fids h j a f))
         row i e false false h k = d
 
-        go : (t : Spot) → r.at ≡ t → Sound bs (given_at s fid r.places t).session
-        go (S.Refused k) e = d
-        go (S.At i) e = row i e (has fid s.fids) (has free s.fids) refl refl
+        go : (t : Result ℕ Refusal) → r.at ≡ t → Sound bs (given_at s fid r.places t).session
+        go (Err k) e = d
+        go (Ok i) e = row i e (has fid s.fids) (has free s.fids) refl refl
 
   -- ---- the place that is given
 
@@ -170,18 +167,18 @@ module _ {bs : List ℕ} {s : Session} (d : Sound bs s) where
   place_inside fid h l = rw h (d.inside (row_of fid s.fids) (has_row fid s.fids h) (λ z. let k = has_key fid s.fids h in not_free l (sym k ∙ z)))
 
 -- an accepted request's fid is known, if it asks for one
-fit_known : (fids : List ℕ) (r : Request) → unfit fids r ≡ Accepted → r.known < free → has r.known fids ≡ true
+fit_known : (fids : List ℕ) (r : Request) → unfit fids r ≡ Ok tt → r.known < free → has r.known fids ≡ true
 unfolding unfit
 fit_known fids r e l = go (has r.new fids) (eqb r.known none) (has r.known fids) refl e
   where
-    go : (x y z : Bool) → eqb r.known none ≡ y → cond x (Refused R.FidInUse) (cond y Accepted (cond z Accepted (Refused R.FidUnknown))) ≡ Accepted → z ≡ true
+    go : (x y z : Bool) → eqb r.known none ≡ y → ◌≡◌ {A = Result (Unit {0}) Refusal} (cond x (Err R.FidInUse) (cond y (Ok tt) (cond z (Ok tt) (Err R.FidUnknown)))) (Ok tt) → z ≡ true
     go true y z h f = absurd (let q : ◌≡◌ {A = ℕ} 0 1 = cc in omega arith)
     go false true z h f = absurd (let q = eqb-true r.known none h in omega arith)
     go false false true h f = refl
     go false false false h f = absurd (let q : ◌≡◌ {A = ℕ} 0 1 = cc in omega arith)
 
 module _ {bs : List ℕ} (b : Bytes bs) {s : Session} (d : Sound bs s) (r : Request) where
-  stays : r.known < free → has r.known s.fids ≡ true → Grown s.places (record { places = s.places; at = S.At (place_of s r.known) })
+  stays : r.known < free → has r.known s.fids ≡ true → Grown s.places (record { places = s.places; at = Ok (place_of s r.known) })
   stays l h = record { sound = d.places; inside = place_inside d r.known h l; kept = kept_same s.places }
 
   reached_grown : (w : Way) → FitFor bs r w → (r.known < free → has r.known s.fids ≡ true) → Grown s.places (reached bs s w r) × Named bs (reached bs s w r).places
@@ -196,9 +193,9 @@ module _ {bs : List ℕ} (b : Bytes bs) {s : Session} (d : Sound bs s) (r : Requ
 
   -- ---- a reply
 
-  unless_sound : (a : Answer) (t : Stepped) → (a ≡ Accepted → Sound bs t.session) → Sound bs (unless a s t).session
-  unless_sound Accepted t f = f refl
-  unless_sound (Refused k) t f = d
+  unless_sound : (a : Result (Unit {0}) Refusal) (t : Stepped) → (a ≡ Ok tt → Sound bs t.session) → Sound bs (unless a s t).session
+  unless_sound (Ok u) t f = f refl
+  unless_sound (Err k) t f = d
 
   done_sound : (e : Effect) → FitEffect bs r e → Sound bs (done bs s e r).session
   unfolding done
@@ -247,9 +244,9 @@ module _ {bs : List ℕ} (b : Bytes bs) {s : Session} (d : Sound bs s) where
   unfolding finished
   finished_sound tag t e = go t.answer
     where
-      go : (a : Answer) → Sound bs (closing s tag t.session a).session
-      go Accepted = closed_sound e tag
-      go (Refused k) = d
+      go : (a : Result (Unit {0}) Refusal) → Sound bs (closing s tag t.session a).session
+      go (Ok u) = closed_sound e tag
+      go (Err k) = d
 
   answered_sound : (tag ty n : ℕ) → tag < free → Sound bs (answered bs s tag ty n).session
   unfolding answered replied

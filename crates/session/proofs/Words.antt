@@ -1,5 +1,5 @@
 -- What holds of the definitions in specs/Words.antt.
-use Rattle.std.specs.Prelude.{ℕ, ◌<◌, ◌≡◌, Bool, List, ◌⊎◌}
+use Rattle.std.specs.Prelude.{ℕ, ◌<◌, ◌≡◌, Bool, List, ◌⊎◌, Ok, Err}
 use Rattle.std.proofs.Common.{arith, ◌∙◌, inl, inr, ⊎_elim, get_or-set_same}
 use Rattle.std.proofs.Math.Path.{refl, sym, ap}
 use Rattle.std.proofs.Math.Bool.{true, false, cond}
@@ -8,14 +8,12 @@ use Rattle.std.proofs.Math.Seq.{get_or-set_other}
 use borrow.Author.Tests.{lt-ltb}
 use Rattle.numbers.specs.declared.Refusal.{Refusal}
 use Rattle.numbers.specs.declared.Refusal.TheVariants as R
-use Rattle.places.specs.declared.Spot.TheVariants as S
 use Rattle.places.specs.declared.Reached.{Reached}
 use Rattle.places.specs.Places.{path}
 use Rattle.places.specs.Sound.{Grown}
 use Rattle.places.proofs.Paths.{path_kept}
 use Rattle.session.specs.declared.Request.{Request}
 use Rattle.session.specs.declared.Session.{Session}
-use Rattle.session.specs.declared.Answer.TheVariants.{Accepted, Refused}
 use Rattle.session.specs.declared.Effect.TheVariants as E
 use Rattle.session.specs.Rows.{row_of, has}
 use Rattle.session.specs.Rules.{free, blank, fresh, accepts, refuses, unfit, opened, asked, closed, dropped, place_of, held, given, done}
@@ -33,11 +31,11 @@ module _ (s : Session) (tag : ℕ) (r : Request) where
   asked_tag_open h = rw h
 
   module _ (h : has tag s.tags ≡ false) where
-    pub asked_not_fit : {k : Refusal} → unfit s.fids r ≡ Refused k → asked s tag r ≡ refuses s k
+    pub asked_not_fit : {k : Refusal} → unfit s.fids r ≡ Err k → asked s tag r ≡ refuses s k
     unfolding asked
     asked_not_fit f = rw (h, f)
 
-    module _ (f : unfit s.fids r ≡ Accepted) where
+    module _ (f : unfit s.fids r ≡ Ok tt) where
       -- exactly where no row is free
       pub asked_no_row : has free s.tags ≡ false → asked s tag r ≡ refuses s R.TableFull
       unfolding asked
@@ -147,7 +145,7 @@ module _ {bs : List ℕ} {s : Session} (d : Sound bs s) {r : Reached} (g : Grown
   }
 
 -- a known fid keeps its row; a new one takes a free row, and 24 is answered exactly where there is none
-module _ {bs : List ℕ} {s : Session} (d : Sound bs s) {r : Reached} (g : Grown s.places r) (fid : ℕ) (l : fid < free) {i : ℕ} (e : r.at ≡ S.At i) where
+module _ {bs : List ℕ} {s : Session} (d : Sound bs s) {r : Reached} (g : Grown s.places r) (fid : ℕ) (l : fid < free) {i : ℕ} (e : r.at ≡ Ok i) where
   pub gives_known : has fid s.fids ≡ true → (given s fid r ≡ accepts (held s (row_of fid s.fids) fid i r.places)) × Gives bs s fid i (given s fid r).session
   unfolding given
   gives_known h = (rw (e, h), rw (e, h) (held_gives d g fid i (row_of fid s.fids) (has_row fid s.fids h) (λ j a b f. b (d.fids.one j (row_of fid s.fids) a (has_row fid s.fids h) (f ∙ sym (has_key fid s.fids h)) (λ z. not_free l (sym f ∙ z)))) (inl (has_key fid s.fids h))))

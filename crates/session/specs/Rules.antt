@@ -1,20 +1,16 @@
 -- The rules of a session, frame by frame (F15.5 to F15.9), on the record itself, so that every row of it is determined.
 use Rattle.numbers.specs.Place.{Place}
-use Rattle.std.specs.Prelude.{ℕ, Bool, true, false, cond, List, get_or, set, replicate, eqb, Ok, Err}
+use Rattle.std.specs.Prelude.{ℕ, Bool, true, false, cond, List, get_or, set, replicate, eqb, Result, Ok, Err}
 use Rattle.numbers.specs.Places.{Put}
 use Rattle.numbers.specs.declared.Refusal.{Refusal}
 use Rattle.numbers.specs.declared.Refusal.TheVariants as R
 use Rattle.layouts.specs.Tables.{table_t}
 use Rattle.pairs.specs.Pairs.{rlerror, pairs}
 use Rattle.places.specs.declared.Places.{Places}
-use Rattle.places.specs.declared.Spot.{Spot}
-use Rattle.places.specs.declared.Spot.TheVariants as S
 use Rattle.places.specs.declared.Reached.{Reached}
 use Rattle.places.specs.Places.{unused, root, child, walked, path}
 use Rattle.session.specs.declared.Request.{Request}
 use Rattle.session.specs.declared.Session.{Session}
-use Rattle.session.specs.declared.Answer.{Answer}
-use Rattle.session.specs.declared.Answer.TheVariants.{Accepted, Refused}
 use Rattle.session.specs.declared.Stepped.{Stepped}
 use Rattle.session.specs.declared.Effect.{Effect}
 use Rattle.session.specs.declared.Effect.TheVariants as E
@@ -41,22 +37,22 @@ abbrev pub fresh : Session
 fresh = record { tags = replicate 64 free; requests = replicate 64 blank; fids = replicate 64 free; at = replicate 64 0; places = unused }
 
 abbrev pub accepts : Session → Stepped
-accepts t = record { session = t; answer = Accepted }
+accepts t = record { session = t; answer = Ok tt }
 
 -- a frame that is refused changes nothing
 abbrev pub refuses : Session → Refusal → Stepped
-refuses s k = record { session = s; answer = Refused k }
+refuses s k = record { session = s; answer = Err k }
 
 -- what is refused first answers
-abbrev pub unless : Answer → Session → Stepped → Stepped
-unless Accepted s t = t
-unless (Refused k) s t = refuses s k
+abbrev pub unless : Result (Unit {0}) Refusal → Session → Stepped → Stepped
+unless (Ok u) s t = t
+unless (Err k) s t = refuses s k
 
 -- ---- a request (F15.5)
 
 -- the fid that must be new is in use: 22; the one that must be known is not: 23
-unfoldable pub unfit : List ℕ → Request → Answer
-unfit fids r = cond (has r.new fids) (Refused R.FidInUse) (cond (eqb r.known none) Accepted (cond (has r.known fids) Accepted (Refused R.FidUnknown)))
+unfoldable pub unfit : List ℕ → Request → Result (Unit {0}) Refusal
+unfit fids r = cond (has r.new fids) (Err R.FidInUse) (cond (eqb r.known none) (Ok tt) (cond (has r.known fids) (Ok tt) (Err R.FidUnknown)))
 
 -- the tag and the request take the first free row
 abbrev pub opened : Session → ℕ → Request → Session
@@ -84,6 +80,10 @@ effect_of ty reply whole =
     (cond (eqb ty 104) (E.Gives Y.Root)
     (cond (eqb ty 110) (cond whole (E.Gives Y.Walk) E.Nothing) (cond (eqb ty 14) (E.Gives Y.Child) (cond (eqb ty 30) (E.Gives Y.Copy) (on_clunk ty E.Nothing))))))))
 
+-- a table without a key: its row is free
+abbrev pub freed : ℕ → List ℕ → List ℕ
+freed k xs = cond (has k xs) (set xs (row_of k xs) free) xs
+
 -- an open tag is closed: its row is free
 unfoldable pub closed : Session → ℕ → Session
 closed s tag =
@@ -100,18 +100,22 @@ place_of s fid = cond (has fid s.fids) (get_or s.at (row_of fid s.fids) 0) 0
 -- the place that is given: a new root; where a walk from the fid's place ends; a child of that place; that place itself
 unfoldable pub reached : List ℕ → Session → Way → Request → Reached
 reached bs s Y.Root r = root s.places
-reached bs s Y.Walk r = walked bs r.count (Ok r.start) (record { places = s.places; at = S.At (place_of s r.known) })
+reached bs s Y.Walk r = walked bs r.count (Ok r.start) (record { places = s.places; at = Ok (place_of s r.known) })
 reached bs s Y.Child r = child s.places (place_of s r.known) r.start r.len
-reached bs s Y.Copy r = record { places = s.places; at = S.At (place_of s r.known) }
+reached bs s Y.Copy r = record { places = s.places; at = Ok (place_of s r.known) }
 
 -- a fid at a row, with its place
 abbrev pub held : Session → ℕ → ℕ → ℕ → Places → Session
 held s row fid i p = record { tags = s.tags; requests = s.requests; fids = set s.fids row fid; at = set s.at row i; places = p }
 
+-- the row that a fid is to have: its own, or else the first that is free
+abbrev pub seat : ℕ → List ℕ → ℕ
+seat fid fids = cond (has fid fids) (row_of fid fids) (row_of free fids)
+
 -- a known fid keeps its row, a new one takes the first that is free; 24, of places or of fids
-abbrev pub given_at : Session → ℕ → Places → Spot → Stepped
-given_at s fid p (S.Refused k) = refuses s k
-given_at s fid p (S.At i) =
+abbrev pub given_at : Session → ℕ → Places → Result ℕ Refusal → Stepped
+given_at s fid p (Err k) = refuses s k
+given_at s fid p (Ok i) =
     cond (has fid s.fids) (accepts (held s (row_of fid s.fids) fid i p)) (cond (has free s.fids) (accepts (held s (row_of free s.fids) fid i p)) (refuses s R.TableFull))
 
 unfoldable pub given : Session → ℕ → Reached → Stepped
@@ -128,9 +132,9 @@ done bs s (E.Gives w) r = unless (unfit s.fids r) s (given s r.to (reached bs s 
 -- ---- a reply (F15.6)
 
 -- the reply's tag is closed, unless it is refused
-abbrev pub closing : Session → ℕ → Session → Answer → Stepped
-closing s tag t Accepted = accepts (closed t tag)
-closing s tag t (Refused k) = refuses s k
+abbrev pub closing : Session → ℕ → Session → Result (Unit {0}) Refusal → Stepped
+closing s tag t (Ok u) = accepts (closed t tag)
+closing s tag t (Err k) = refuses s k
 
 unfoldable pub finished : Session → ℕ → Stepped → Stepped
 finished s tag d = closing s tag d.session d.answer

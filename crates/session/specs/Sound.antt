@@ -7,7 +7,6 @@ use Rattle.places.specs.Reads.{NamesRead}
 use Rattle.places.specs.Paths.{Named}
 use Rattle.session.specs.declared.Request.{Request}
 use Rattle.session.specs.declared.Session.{Session}
-use Rattle.session.specs.declared.Answer.TheVariants.{Refused}
 use Rattle.session.specs.declared.Effect.{Effect}
 use Rattle.session.specs.declared.Effect.TheVariants as E
 use Rattle.session.specs.declared.Way.{Way}

@@ -6,14 +6,14 @@
 ghost use Rattle.std.specs.Prelude.{◌≡◌, ◌+◌, ◌<◌};
 ghost use Rattle.layouts.specs.Tables.{table_t};
 ghost use Rattle.pairs.specs.Pairs.{rlerror, pairs};
-ghost use Rattle.session.specs.Rows.{row_of};
+ghost use Rattle.session.specs.Rows.{row_of, has, IsRow};
 ghost use Rattle.session.specs.About.{first_fid, fid_given, answered_fid, fid_of};
-ghost use Rattle.session.specs.Rules.{fresh, accepts, refuses, unless, unfit, asked, effect_of, only_closes, closed, dropped, place_of, reached, held, given, done, finished, replied, answered, stepped, FidPath};
+ghost use Rattle.session.specs.Rules.{fresh, accepts, refuses, unless, unfit, asked, effect_of, only_closes, freed, closed, dropped, place_of, reached, seat, held, given, done, finished, replied, answered, stepped, FidPath};
 
 use layouts::ids::Tag;
 use numbers::{Fault, Place, Refusal};
 use pairs::Mark;
-use places::{Places, Reached, Spot};
+use places::{Places, Reached};
 use strings::Span;
 
 // No tag and no fid is so large: a row that is free, and a fid that is not asked for.
@@ -65,21 +65,15 @@ pub struct Event {
     pub what: What,
 }
 
-#[derive(Clone, Copy)]
-pub enum Answer {
-    Accepted,
-    Refused(Refusal),
-}
-
-// The session after a frame, and what is answered. Refused, it is the session before.
+// The session after a frame, and what is answered. Refused, it is the session before, and therefore no `Result<Session, Refusal>`.
 #[derive(Clone, Copy)]
 pub struct Stepped {
     pub session: Session,
-    pub answer: Answer,
+    pub answer: Result<(), Refusal>,
 }
 
 // How a fid comes to its place.
-#[derive(Clone, Copy)]
+#[derive(Clone, Copy, Debug, PartialEq, Eq)]
 pub enum Way {
     Root,
     Walk,
@@ -88,7 +82,7 @@ pub enum Way {
 }
 
 // What an answering reply does.
-#[derive(Clone, Copy)]
+#[derive(Clone, Copy, Debug, PartialEq, Eq)]
 pub enum Effect {
     Nothing,
     Empties,
@@ -111,89 +105,92 @@ pub fn fresh() -> Session
         start: 0,
         len: 0,
     };
-    let tags = [FREE; 64];
-    let requests = [blank; 64];
-    let fids = [FREE; 64];
-    let at = [0u8; 64];
-    let places = places::empty();
     Session {
-        tags,
-        requests,
-        fids,
-        at,
-        places,
+        tags: [FREE; 64],
+        requests: [blank; 64],
+        fids: [FREE; 64],
+        at: [0; 64],
+        places: places::empty(),
     }
 }
 
-// The first row that has the key; 64 where none has.
-fn find(keys: &[u64; 64], key: u64) -> usize
-    ensures { result ≡ row_of key keys.now }
+// The first row that has the key.
+fn find(keys: &[u64; 64], key: u64) -> Option<usize>
+    ensures { IsRow (row_of key keys.now) result }
 {
-    let mut i = 0;
-    while i < 64 {
-        if keys[i] == key {
-            return i;
-        }
-        i += 1;
+    keys.iter().position(|&k| k == key)
+}
+
+// Whether a row has the key.
+fn has(keys: &[u64; 64], key: u64) -> bool
+    ensures { result ≡ has key keys.now }
+{
+    find(keys, key).is_some()
+}
+
+// The key's row is free.
+fn release(keys: &mut [u64; 64], key: u64)
+    ensures { keys.new ≡ freed key keys.old }
+{
+    if let Some(i) = find(keys, key) {
+        keys[i] = FREE;
     }
-    i
 }
 
 // Whether the fids are as a request asks: 22, then 23.
-fn unfit(fids: &[u64; 64], r: Request) -> Answer
+#[tactic(auto, unfolding(crate::specs::Rules::unfit))]
+fn unfit(fids: &[u64; 64], r: Request) -> Result<(), Refusal>
     ensures { result ≡ unfit fids.now r }
 {
-    if find(fids, r.new) < 64 {
-        return Answer::Refused(Refusal::FidInUse);
+    if has(fids, r.new) {
+        return Err(Refusal::FidInUse);
     }
-    if r.known == NONE {
-        return Answer::Accepted;
+    if r.known == NONE || has(fids, r.known) {
+        return Ok(());
     }
-    if find(fids, r.known) < 64 {
-        return Answer::Accepted;
-    }
-    Answer::Refused(Refusal::FidUnknown)
+    Err(Refusal::FidUnknown)
 }
 
 fn accepts(session: Session) -> Stepped
     ensures { result ≡ accepts session }
 {
-    let answer = Answer::Accepted;
-    Stepped { session, answer }
+    Stepped {
+        session,
+        answer: Ok(()),
+    }
 }
 
 fn refuses(session: Session, k: Refusal) -> Stepped
     ensures { result ≡ refuses session k }
 {
-    let answer = Answer::Refused(k);
-    Stepped { session, answer }
+    Stepped {
+        session,
+        answer: Err(k),
+    }
 }
 
 // A request: 20, 22, 23, 24.
+#[tactic(auto, unfolding(crate::specs::Rules::asked))]
 fn ask(s: Session, tag: u16, r: Request) -> Stepped
     ensures { result ≡ asked s tag r }
 {
-    if find(&s.tags, tag as u64) < 64 {
+    if has(&s.tags, tag as u64) {
         return refuses(s, Refusal::TagOpen);
     }
-    let fit = unfit(&s.fids, r);
-    let Answer::Accepted = fit else {
-        return Stepped {
-            session: s,
-            answer: fit,
-        };
-    };
-    let i = find(&s.tags, FREE);
-    if i < 64 {
-        let mut t = s;
-        t.tags[i] = tag as u64;
-        t.requests[i] = r;
-        return accepts(t);
+    if let Err(k) = unfit(&s.fids, r) {
+        return refuses(s, k);
     }
-    refuses(s, Refusal::TableFull)
+    let Some(i) = find(&s.tags, FREE) else {
+        return refuses(s, Refusal::TableFull);
+    };
+    let mut t = s;
+    t.tags[i] = tag as u64;
+    t.requests[i] = r;
+    accepts(t)
 }
 
 // What the reply of a type does to a request of one; of an Rwalk, whether it has as many qids as names.
+#[tactic(auto, unfolding(crate::specs::Rules::effect_of))]
 fn effect_of(asked: u8, ty: u8, whole: bool) -> Effect
     ensures { result ≡ effect_of asked ty whole }
 {
@@ -207,12 +204,7 @@ fn effect_of(asked: u8, ty: u8, whole: bool) -> Effect
         100 => Effect::Empties,
         108 => Effect::Flushes,
         102 | 104 => Effect::Gives(Way::Root),
-        110 => {
-            if whole {
-                return Effect::Gives(Way::Walk);
-            }
-            Effect::Nothing
-        }
+        110 if whole => Effect::Gives(Way::Walk),
         14 => Effect::Gives(Way::Child),
         30 => Effect::Gives(Way::Copy),
         120 | 122 => Effect::Drops,
@@ -221,62 +213,63 @@ fn effect_of(asked: u8, ty: u8, whole: bool) -> Effect
 }
 
 // The tag's row is free.
+#[tactic(auto, unfolding(crate::specs::Rules::closed))]
 fn closed(s: Session, tag: u64) -> Session
     ensures { result ≡ closed s tag }
 {
-    let i = find(&s.tags, tag);
-    if i < 64 {
-        let mut t = s;
-        t.tags[i] = FREE;
-        return t;
-    }
-    s
+    let mut t = s;
+    release(&mut t.tags, tag);
+    t
 }
 
 // The fid's row is free.
+#[tactic(auto, unfolding(crate::specs::Rules::dropped))]
 fn dropped(s: Session, fid: u64) -> Session
     ensures { result ≡ dropped s fid }
 {
-    let i = find(&s.fids, fid);
-    if i < 64 {
-        let mut t = s;
-        t.fids[i] = FREE;
-        return t;
-    }
-    s
+    let mut t = s;
+    release(&mut t.fids, fid);
+    t
 }
 
+#[tactic(auto, unfolding(crate::specs::Rules::place_of))]
 fn place_of(s: Session, fid: u64) -> u8
     ensures { result ≡ place_of s fid }
 {
-    let i = find(&s.fids, fid);
-    if i < 64 {
-        return s.at[i];
+    match find(&s.fids, fid) {
+        Some(i) => s.at[i],
+        None => 0,
     }
-    0
 }
 
 // The place that a fid is given, among the places as they then are; 24.
+#[tactic(auto, unfolding(crate::specs::Rules::reached))]
 fn reach(s: Session, way: Way, r: Request, stretch: &[u8]) -> Reached
     ensures { result ≡ reached stretch.now s way r }
 {
-    let p = s.places;
     let from = place_of(s, r.known);
     match way {
-        Way::Root => places::root(p),
-        Way::Walk => places::walk(p, from, stretch, r.start, r.count),
+        Way::Root => places::root(s.places),
+        Way::Walk => places::walk(s.places, from, stretch, r.start, r.count),
         Way::Child => {
             let name = Span {
                 start: r.start,
                 len: r.len,
             };
-            places::child(p, from, name)
+            places::child(s.places, from, name)
         }
-        Way::Copy => {
-            let at = Spot::At(from);
-            Reached { places: p, at }
-        }
+        Way::Copy => Reached {
+            places: s.places,
+            at: Ok(from),
+        },
     }
+}
+
+// The row that a fid is to have: its own, or else the first that is free.
+fn seat(fids: &[u64; 64], fid: u64) -> Option<usize>
+    ensures { IsRow (seat fid fids.now) result }
+{
+    find(fids, fid).or_else(|| find(fids, FREE))
 }
 
 // The fid at a row, with its place.
@@ -292,24 +285,17 @@ fn held(s: Session, i: usize, fid: u64, place: u8, p: Places) -> Session
 }
 
 // A fid is given the place that was reached; 24.
+#[tactic(auto, unfolding(crate::specs::Rules::given))]
 fn give(s: Session, fid: u64, to: Reached) -> Stepped
     ensures { result ≡ given s fid to }
 {
-    let at = to.at;
-    let p = to.places;
-    match at {
-        Spot::At(place) => {
-            let i = find(&s.fids, fid);
-            if i < 64 {
-                return accepts(held(s, i, fid, place, p));
-            }
-            let j = find(&s.fids, FREE);
-            if j < 64 {
-                return accepts(held(s, j, fid, place, p));
-            }
-            refuses(s, Refusal::TableFull)
-        }
-        Spot::Refused(k) => refuses(s, k),
+    let place = match to.at {
+        Ok(place) => place,
+        Err(k) => return refuses(s, k),
+    };
+    match seat(&s.fids, fid) {
+        Some(i) => accepts(held(s, i, fid, place, to.places)),
+        None => refuses(s, Refusal::TableFull),
     }
 }
 
@@ -317,13 +303,9 @@ fn give(s: Session, fid: u64, to: Reached) -> Stepped
 fn drops(s: Session, r: Request) -> Stepped
     ensures { result ≡ unless (unfit s.fids r) s (accepts (dropped s r.to)) }
 {
-    let fit = unfit(&s.fids, r);
-    let Answer::Accepted = fit else {
-        return Stepped {
-            session: s,
-            answer: fit,
-        };
-    };
+    if let Err(k) = unfit(&s.fids, r) {
+        return refuses(s, k);
+    }
     accepts(dropped(s, r.to))
 }
 
@@ -331,17 +313,14 @@ fn drops(s: Session, r: Request) -> Stepped
 fn gives(s: Session, way: Way, r: Request, stretch: &[u8]) -> Stepped
     ensures { result ≡ unless (unfit s.fids r) s (given s r.to (reached stretch.now s way r)) }
 {
-    let fit = unfit(&s.fids, r);
-    let Answer::Accepted = fit else {
-        return Stepped {
-            session: s,
-            answer: fit,
-        };
-    };
+    if let Err(k) = unfit(&s.fids, r) {
+        return refuses(s, k);
+    }
     give(s, r.to, reach(s, way, r, stretch))
 }
 
 // What an answering reply leaves, but for its tag, which is still open.
+#[tactic(auto, unfolding(crate::specs::Rules::done))]
 fn done(s: Session, e: Effect, r: Request, stretch: &[u8]) -> Stepped
     ensures { result ≡ done stretch.now s e r }
 {
@@ -355,14 +334,14 @@ fn done(s: Session, e: Effect, r: Request, stretch: &[u8]) -> Stepped
 }
 
 // The tag is closed, unless the reply is refused.
+#[tactic(auto, unfolding(crate::specs::Rules::finished))]
 fn finish(s: Session, tag: u16, d: Stepped) -> Stepped
     ensures { result ≡ finished s tag d }
 {
-    let answer = d.answer;
     let t = d.session;
-    match answer {
-        Answer::Accepted => accepts(closed(t, tag as u64)),
-        Answer::Refused(k) => refuses(s, k),
+    match d.answer {
+        Ok(()) => accepts(closed(t, tag as u64)),
+        Err(k) => refuses(s, k),
     }
 }
 
@@ -378,20 +357,15 @@ fn answers(asked: u8, tag: u16, ty: u8) -> bool
 }
 
 // Whether a reply does nothing but close its tag, as most do. `reply_to` would say the same of them, with more copies of the record.
+#[tactic(auto, unfolding(crate::specs::Rules::only_closes))]
 fn only_closes(asked: u8, tag: u16, ty: u8, whole: bool) -> bool
     ensures { result ≡ only_closes asked tag ty whole }
 {
-    if answers(asked, tag, ty) {
-        let e = effect_of(asked, ty, whole);
-        let Effect::Nothing = e else {
-            return false;
-        };
-        return true;
-    }
-    false
+    answers(asked, tag, ty) && matches!(effect_of(asked, ty, whole), Effect::Nothing)
 }
 
 // A reply to the request that is open under its tag: 21, 22, 23, 24.
+#[tactic(auto, unfolding(crate::specs::Rules::replied))]
 fn reply_to(s: Session, stretch: &[u8], tag: u16, ty: u8, qids: u16, r: Request) -> Stepped
     ensures { result ≡ replied stretch.now s tag ty qids r }
 {
@@ -403,28 +377,28 @@ fn reply_to(s: Session, stretch: &[u8], tag: u16, ty: u8, qids: u16, r: Request)
 }
 
 // A reply: 21, and then by the request under its tag.
+#[tactic(auto, unfolding(crate::specs::Rules::answered))]
 fn reply(s: Session, stretch: &[u8], tag: u16, ty: u8, qids: u16) -> Stepped
     ensures { result ≡ answered stretch.now s tag ty qids }
 {
-    let i = find(&s.tags, tag as u64);
-    if i < 64 {
-        let r = s.requests[i];
-        if only_closes(r.ty, tag, ty, qids == r.count) {
-            let mut t = s;
-            t.tags[i] = FREE;
-            return accepts(t);
-        }
-        return reply_to(s, stretch, tag, ty, qids, r);
+    let Some(i) = find(&s.tags, tag as u64) else {
+        return refuses(s, Refusal::NoRequest);
+    };
+    let r = s.requests[i];
+    if only_closes(r.ty, tag, ty, qids == r.count) {
+        let mut t = s;
+        t.tags[i] = FREE;
+        return accepts(t);
     }
-    refuses(s, Refusal::NoRequest)
+    reply_to(s, stretch, tag, ty, qids, r)
 }
 
 // The session after a frame, and what is answered.
+#[tactic(auto, unfolding(crate::specs::Rules::stepped))]
 pub fn step(s: Session, stretch: &[u8], e: Event) -> Stepped
     ensures { result ≡ stepped stretch.now s e }
 {
-    let what = e.what;
-    match what {
+    match e.what {
         What::Asks(r) => ask(s, e.tag, r),
         What::Answers(qids) => reply(s, stretch, e.tag, e.ty, qids),
         What::Refused(k) => refuses(s, k),
@@ -432,7 +406,7 @@ pub fn step(s: Session, stretch: &[u8], e: Event) -> Stepped
 }
 
 // The one session record, altered by a frame as it comes: what is answered.
-pub fn alter(s: &mut Session, stretch: &[u8], e: Event) -> Answer
+pub fn alter(s: &mut Session, stretch: &[u8], e: Event) -> Result<(), Refusal>
     ensures { (result ≡ (stepped stretch.now s.old e).answer) × (s.new ≡ (stepped stretch.now s.old e).session) }
 {
     let r = step(*s, stretch, e);
@@ -445,27 +419,23 @@ pub fn turn(s: Session, stretch: &[u8], e: Event) -> Stepped
     ensures { result ≡ stepped stretch.now s e }
 {
     let mut t = s;
-    let a = alter(&mut t, stretch, e);
-    Stepped {
-        session: t,
-        answer: a,
-    }
+    let answer = alter(&mut t, stretch, e);
+    Stepped { session: t, answer }
 }
 
 // The fid that a request names first.
+#[tactic(auto, unfolding(crate::specs::About::first_fid))]
 fn first_fid(r: Request) -> u64
     ensures { result ≡ first_fid r }
 {
-    if r.ty == 102 {
-        return r.to;
+    match r.ty {
+        102 | 104 => r.to,
+        _ => r.known,
     }
-    if r.ty == 104 {
-        return r.to;
-    }
-    r.known
 }
 
 // The fid that a reply gives or moves.
+#[tactic(auto, unfolding(crate::specs::About::fid_given))]
 fn fid_given(e: Effect, to: u64) -> u64
     ensures { result ≡ fid_given e to }
 {
@@ -476,23 +446,23 @@ fn fid_given(e: Effect, to: u64) -> u64
 }
 
 // The fid of the reply to the request that is open under its tag.
+#[tactic(auto, unfolding(crate::specs::About::answered_fid))]
 fn answered_fid(s: Session, tag: u16, ty: u8, qids: u16) -> u64
     ensures { result ≡ answered_fid s tag ty qids }
 {
-    let i = find(&s.tags, tag as u64);
-    if i < 64 {
-        let r = s.requests[i];
-        return fid_given(effect_of(r.ty, ty, qids == r.count), r.to);
-    }
-    NONE
+    let Some(i) = find(&s.tags, tag as u64) else {
+        return NONE;
+    };
+    let r = s.requests[i];
+    fid_given(effect_of(r.ty, ty, qids == r.count), r.to)
 }
 
 // The fid that a frame is about, if it is accepted: whose path a reader of the recording wants to see.
+#[tactic(auto, unfolding(crate::specs::About::fid_of))]
 pub fn fid_of(s: Session, e: Event) -> u64
     ensures { result ≡ fid_of s e }
 {
-    let what = e.what;
-    match what {
+    match e.what {
         What::Asks(r) => first_fid(r),
         What::Answers(qids) => answered_fid(s, e.tag, e.ty, qids),
         What::Refused(_) => NONE,
@@ -500,14 +470,12 @@ pub fn fid_of(s: Session, e: Event) -> u64
 }
 
 // The path of a fid's place at the front of an output, and its length: 23, 11.
+#[tactic(auto, unfolding(crate::specs::Rules::place_of))]
 pub fn write_path(out: &mut [u8], s: Session, fid: u32, stretch: &[u8]) -> Place
     ensures { FidPath stretch.now s fid out.old out.new result }
 {
-    let i = find(&s.fids, fid as u64);
-    if i < 64 {
-        let place = s.at[i];
-        let p = s.places;
-        return places::write_path(out, p, place, stretch);
+    if let Some(i) = find(&s.fids, fid as u64) {
+        return places::write_path(out, s.places, s.at[i], stretch);
     }
     Err(Fault(Refusal::FidUnknown, 0))
 }

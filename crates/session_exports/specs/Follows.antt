@@ -1,6 +1,6 @@
 -- What Rust is told of a frame that a session follows, and of a path and a trailer that are written (F15.2, F15.8, F15.10, F15.12).
 use Rattle.numbers.specs.Place.{Place}
-use Rattle.std.specs.Prelude.{ℕ, ◌≡◌, true, false, List}
+use Rattle.std.specs.Prelude.{ℕ, ◌≡◌, true, false, List, Result, Ok, Err}
 use Rattle.std.proofs.Common.{sym, ◌∙◌}
 use Rattle.std.proofs.Math.Path.{ap}
 use Rattle.numbers.proofs.PlaceLaws.{one_answer, put_one}
@@ -17,10 +17,6 @@ use Rattle.sealing.specs.Trailers.{TrailerPut}
 use Rattle.session.specs.Rules.{none, stepped, FidPath}
 use Rattle.session.specs.About.{fid_of}
 use Rattle.session.specs.declared.Session.{Session}
-use Rattle.session.specs.declared.Event.{Event}
-use Rattle.session.specs.declared.Stepped.{Stepped}
-use Rattle.session.specs.declared.Answer.{Answer as Reply}
-use Rattle.session.specs.declared.Answer.TheVariants.{Accepted, Refused}
 use Rattle.events.specs.Events.{event_of}
 use Rattle.exports.specs.Answers.{ended}
 use Rattle.exports.specs.declared.Outcome.{Outcome}
@@ -29,9 +25,9 @@ use Rattle.session_exports.specs.declared.Followed.{Followed}
 
 -- ---- a frame that is followed
 
-abbrev pub told_of : ℕ → ℕ → ℕ → ℕ → ℕ → Reply → Told
-told_of ty tag next tail fid Accepted = record { refusal = 0; ty = ty; tag = tag; held = true; place = next; tail = tail; fid = fid }
-told_of ty tag next tail fid (Refused k) = record { refusal = number_of k; ty = ty; tag = tag; held = true; place = next; tail = 0; fid = none }
+abbrev pub told_of : ℕ → ℕ → ℕ → ℕ → ℕ → Result (Unit {0}) Refusal → Told
+told_of ty tag next tail fid (Ok u) = record { refusal = 0; ty = ty; tag = tag; held = true; place = next; tail = tail; fid = fid }
+told_of ty tag next tail fid (Err k) = record { refusal = number_of k; ty = ty; tag = tag; held = true; place = next; tail = 0; fid = none }
 
 abbrev pub passed : ℕ → ℕ → Told
 passed refusal p = record { refusal = refusal; ty = 0; tag = 0; held = false; place = p; tail = 0; fid = none }
@@ -59,19 +55,6 @@ pub record TrailerMade (bs o o' : List ℕ) (r : Outcome) : Type 0 where
   pub answer : r ≡ ended place
 
 -- ---- the ways through a step
-
-module _ (ty tag next tail fid : ℕ) {a : Reply} where
-  pub told_accepted : a ≡ Accepted → told_of ty tag next tail fid Accepted ≡ told_of ty tag next tail fid a
-  told_accepted e = rw e
-
-  pub told_refused : {k : Refusal} {n : ℕ} → a ≡ Refused k → n ≡ number_of k
-      → ◌≡◌ {A = Told} (record { refusal = n; ty = ty; tag = tag; held = true; place = next; tail = 0; fid = none }) (told_of ty tag next tail fid a)
-  told_refused e f = rw (e, f)
-
-pub followed_by_lem : (bs : List ℕ) (s : Session) (ty tag tail next : ℕ) (a : Answer) {e : Event} {fid : ℕ} {d : Stepped} {t : Told} → e ≡ event_of ty tag a → fid ≡ fid_of s e → d ≡ stepped bs s e
-    → t ≡ told_of ty tag next tail fid d.answer → ◌≡◌ {A = Followed} (record { session = d.session; told = t }) (followed_by bs s ty tag a tail next)
-unfolding followed_by
-followed_by_lem bs s ty tag tail next a e f g h = rw (h, f, g, e)
 
 module _ (bs : List ℕ) (s : Session) (p : ℕ) {r : Answered} (a : Asked bs p r) where
   pub followed_frame : {l : Listed} {f : Followed} → r ≡ S.Frame l → f ≡ followed_by bs s l.ty l.tag.0 (view_body l.body) l.tail l.next → f ≡ followed_at bs s (frame_at table_t table_r bs p)

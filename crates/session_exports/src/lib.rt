@@ -12,7 +12,8 @@ ghost use Rattle.session.specs.Rules.{fresh};
 ghost use Rattle.session_exports.specs.Follows.{told_of, passed, followed_by, followed_at, PathMade, TrailerMade};
 
 use exports::Outcome;
-use session::{Answer, NONE, Session};
+use numbers::Refusal;
+use session::{NONE, Session};
 use stretch::{Listed, Step};
 
 // What crosses of a frame that a session has followed: an `Outcome`, the tail, and the fid that the frame is about, 4,294,967,297 if there is
@@ -44,11 +45,11 @@ pub fn sheafsledge_session() -> Session
 }
 
 // Of a frame, by the session's answer.
-fn told_of(ty: u8, tag: u16, next: usize, tail: usize, fid: u64, a: Answer) -> Told
+fn told_of(ty: u8, tag: u16, next: usize, tail: usize, fid: u64, a: Result<(), Refusal>) -> Told
     ensures { result ≡ told_of ty tag next tail fid a }
 {
     match a {
-        Answer::Accepted => Told {
+        Ok(()) => Told {
             refusal: 0,
             ty,
             tag,
@@ -57,18 +58,15 @@ fn told_of(ty: u8, tag: u16, next: usize, tail: usize, fid: u64, a: Answer) -> T
             tail,
             fid,
         },
-        Answer::Refused(k) => {
-            let refusal = numbers::number(k);
-            Told {
-                refusal,
-                ty,
-                tag,
-                held: true,
-                place: next,
-                tail: 0,
-                fid: NONE,
-            }
-        }
+        Err(k) => Told {
+            refusal: numbers::number(k),
+            ty,
+            tag,
+            held: true,
+            place: next,
+            tail: 0,
+            fid: NONE,
+        },
     }
 }
 
@@ -87,17 +85,17 @@ fn passed(refusal: u8, position: usize) -> Told
     }
 }
 
+#[tactic(auto, unfolding(crate::specs::Follows::followed_by))]
 fn follow(s: Session, stretch: &[u8], l: Listed) -> Followed
     ensures { result ≡ followed_by stretch.now s l.ty l.tag.0 (view_body l.body) l.tail l.next }
 {
-    let tag = l.tag;
     let e = events::event_of(l);
     let fid = session::fid_of(s, e);
     let d = session::step(s, stretch, e);
-    let answer = d.answer;
-    let t = d.session;
-    let told = told_of(l.ty, tag.0, l.next, l.tail, fid, answer);
-    Followed { session: t, told }
+    Followed {
+        session: d.session,
+        told: told_of(l.ty, l.tag.0, l.next, l.tail, fid, d.answer),
+    }
 }
 
 // The frame at a position of the stretch, followed.
@@ -107,14 +105,14 @@ pub fn sheafsledge_follow(s: Session, stretch: &[u8], position: usize) -> Follow
     let step = stretch::frame_at(stretch, position);
     match step {
         Step::Frame(l) => follow(s, stretch, l),
-        Step::End(q) => {
-            let told = passed(0, q);
-            Followed { session: s, told }
-        }
-        Step::Refused(k, q) => {
-            let told = passed(numbers::number(k), q);
-            Followed { session: s, told }
-        }
+        Step::End(q) => Followed {
+            session: s,
+            told: passed(0, q),
+        },
+        Step::Refused(k, q) => Followed {
+            session: s,
+            told: passed(numbers::number(k), q),
+        },
     }
 }
 

@@ -1,16 +1,14 @@
+-- The closure asks each row for the key.
 use native.Mathlib.Omega.{arith}
-use mathlib.Core.Path.{◌∙◌}
-use Rattle.session.proofs.Rows.{row_start, row_here, row_on, row_none}
+use lib.Dec.{eqb}
+use Rattle.std.proofs.Common.{rules, tests}
+use Rattle.std.proofs.lemmas.Iterator.{YieldsList-from_slice}
+use Rattle.std.proofs.lemmas.Iterator.Search.{position_from_yields_List}
+use Rattle.session.proofs.Rows.{found}
 use Rattle.session.proofs.find.Goals as goal
 
-pub loop-i-init : goal.loop-i-init
-loop-i-init c = (omega arith, row_start c.args.key c.args.keys.now)
-
-pub returns-then-keys-i : goal.returns-then-keys-i
-returns-then-keys-i c = let a = c.args in let l = c.loop-i in row_here a.key a.keys.now l.i c.loop-i-test.true c.if-keys-i.true ∙ l.invariant.1
-
-pub loop-i-preserved : goal.loop-i-preserved
-loop-i-preserved c = let a = c.args in let l = c.loop-i in (omega arith, row_on a.key a.keys.now l.i c.loop-i-test.true c.if-keys-i.false ∙ l.invariant.1)
-
 pub returns : goal.returns
-returns c = let a = c.args in let l = c.loop-i in row_none a.key a.keys.now l.i (omega arith) ∙ l.invariant.1
+returns c =
+    let a = c.args in
+    found a.key a.keys.now (omega arith)
+    (position_from_yields_List (λ k. eqb k a.key) _ _ c.position.result c.position.ensures.ran (YieldsList-from_slice a.keys.now (cc)) (λ x b q k. search (rules, tests)))
