@@ -20,7 +20,7 @@ fn body(out: &mut [u8], ty: u8, p: Place, s: &[u8]) -> Place {
 fn frame(s: &[u8], ty: u8, out: &mut [u8]) -> Place {
     let r = frames::read_tframe(s);
     match r {
-        ReadTframe::Frame(f) => {
+        Ok(f) => {
             let tag = f.tag;
             let msg = f.msg;
             match msg {
@@ -29,7 +29,7 @@ fn frame(s: &[u8], ty: u8, out: &mut [u8]) -> Place {
             }
             frames::write_tframe(out, s, f)
         }
-        ReadTframe::Refused(k) => {
+        Err(k) => {
             questions::head(numbers::number(k), 0, 0, false, 0);
             Ok(0)
         }

@@ -8,7 +8,7 @@ use Rattle.numbers.specs.Numbers.{from_le}
 use Rattle.numbers.proofs.ReadingLaws.{or_else}
 use Rattle.numbers.specs.Places.{Within}
 use Rattle.numbers.proofs.PlaceLaws.{inside, outside, num_held, num_short}
-use Rattle.numbers.specs.declared.Refusal.{Refusal}
+use Rattle.numbers.specs.declared.Fault.{Fault}
 use Rattle.numbers.specs.declared.Refusal.TheVariants as R
 use Rattle.fields.specs.Layouts.{num, str, dat, strs, quids, boxed, Layout}
 use Rattle.fields.proofs.LayoutLaws.{both}
@@ -33,11 +33,11 @@ low_is w n h l =
 -- ---- a body that is read flat
 
 module _ {l : Layout} {s ns : List ℕ} {p e : Place} {vs : List Value} (f : Fields l s p vs e) where
-  pub flat_known : {a : ℕ} {ms : List ℕ} → e ≡ Ok a → ms ≡ stored ns 0 (flat_values vs) → FlatRead (some l) s p ns ms e
-  flat_known h g = record { values = g ∙ ap (λ q. laid q vs ns) (sym h ∙ f.next) ∙ ap (λ (v : List Value). laid (past_fields l s p) v ns) f.values; next = f.next }
+  pub flat_known : {a : ℕ} {ms : List ℕ} → e ≡ Ok a → ms ≡ stored ns 0 (flat_values vs) → FlatRead (some l) s p ns ms (Ok a)
+  flat_known h g = record { values = g ∙ ap (λ q. laid q vs ns) (sym h ∙ f.next) ∙ ap (λ (v : List Value). laid (past_fields l s p) v ns) f.values; next = sym h ∙ f.next }
 
-  pub flat_refused : {k : Refusal} {at : ℕ} → e ≡ Err (k, at) → FlatRead (some l) s p ns ns e
-  flat_refused h = record { values = ap (λ q. laid q (values_at l s p) ns) (sym h ∙ f.next); next = f.next }
+  pub flat_refused : {g : Fault} → e ≡ Err g → FlatRead (some l) s p ns ns (Err g)
+  flat_refused h = record { values = ap (λ q. laid q (values_at l s p) ns) (sym h ∙ f.next); next = sym h ∙ f.next }
 
 -- one that holds nothing
 pub flat_empty : {s ns : List ℕ} (p : Place) → FlatRead (some []) s p ns ns p

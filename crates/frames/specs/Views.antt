@@ -12,11 +12,18 @@ use Rattle.framing.specs.Writing.{FrameWritten}
 use Rattle.frames.specs.declared.Tframe.{Tframe}
 use Rattle.frames.specs.declared.Rframe.{Rframe}
 
-unfoldable pub view_tframe : Result Tframe Refusal → Frame
+-- what the readers answer: a request with its refusal or its message; a reply with the bytes used
+abbrev pub ReadTframe : Type 0
+ReadTframe = Result Tframe Refusal
+
+abbrev pub ReadRframe : Type 0
+ReadRframe = Result (Rframe × ℕ) Fault
+
+unfoldable pub view_tframe : ReadTframe → Frame
 view_tframe (Ok f) = framed f.at f.tag.0 (view_t f.msg)
 view_tframe (Err k) = headless k 0
 
-unfoldable pub view_rframe : Result (Rframe × ℕ) Fault → Frame
+unfoldable pub view_rframe : ReadRframe → Frame
 view_rframe (Ok (f, n)) = framed f.at f.tag.0 (accepted (type_r f.msg) (values_r f.msg) n)
 view_rframe (Err f) = headless f.0 f.1
 

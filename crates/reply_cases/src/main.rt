@@ -26,12 +26,12 @@ fn body(out: &mut [u8], ty: u8, p: Place, s: &[u8]) -> Place {
 fn reply(s: &[u8], ty: u8, out: &mut [u8]) -> Place {
     let r = frames::read_rframe(s);
     match r {
-        ReadRframe::Frame(f, used) => {
+        Ok((f, used)) => {
             let tag = f.tag;
             questions::head(0, ty, tag.0, true, used);
             frames::write_rframe(out, s, f)
         }
-        ReadRframe::Refused(k, _) => {
+        Err(Fault(k, _)) => {
             questions::head(numbers::number(k), 0, 0, false, 0);
             Ok(0)
         }

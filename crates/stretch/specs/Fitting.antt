@@ -6,11 +6,42 @@ use Rattle.framing.specs.Limits.{Limited}
 use Rattle.requests.specs.Views.{layout_t, values_t}
 use Rattle.requests.specs.declared.Tmessage.{Tmessage}
 use Rattle.requests.specs.declared.Tmessage.TheVariants as M
-use Rattle.requests.proofs.Tmessage.TheLaws.{lowered as loweredT}
+use Rattle.requests.proofs.Tmessage.TheLaws.{lowered as loweredT, the_told as told}
 use Rattle.replies.specs.Views.{layout_r, values_r}
 use Rattle.replies.specs.declared.Rmessage.{Rmessage}
 use Rattle.replies.specs.declared.Rmessage.TheVariants as Q
 use Rattle.replies.proofs.Rmessage.TheLaws.{lowered as loweredR}
+
+-- in the pair of a `Result` a request is told by its row, which says the same of each case
+pub told_request : (m : Tmessage) → WT (told.val m) → WT (loweredT m)
+told_request (M.Version m) g = g
+told_request (M.Flush m) g = g
+told_request (M.Walk m) g = g
+told_request (M.Read m) g = g
+told_request (M.Write m) g = g
+told_request (M.Clunk m) g = g
+told_request (M.Remove m) g = g
+told_request (M.Attach m) g = g
+told_request (M.Auth m) g = g
+told_request (M.Statfs m) g = g
+told_request (M.Lopen m) g = g
+told_request (M.Lcreate m) g = g
+told_request (M.Symlink m) g = g
+told_request (M.Mknod m) g = g
+told_request (M.Rename m) g = g
+told_request (M.Readlink m) g = g
+told_request (M.GetAttr m) g = g
+told_request (M.SetAttr m) g = g
+told_request (M.XattrWalk m) g = g
+told_request (M.XattrCreate m) g = g
+told_request (M.Readdir m) g = g
+told_request (M.Fsync m) g = g
+told_request (M.Lock m) g = g
+told_request (M.GetLock m) g = g
+told_request (M.Link m) g = g
+told_request (M.Mkdir m) g = g
+told_request (M.RenameAt m) g = g
+told_request (M.UnlinkAt m) g = g
 
 pub request_fits : (m : Tmessage) → WT (loweredT m) → Limited (layout_t m) (values_t m) → Readable (layout_t m) (values_t m)
 unfolding layout_t values_t

@@ -1,5 +1,5 @@
 -- Any two answers that the promises of this crate allow are equal.
-use Rattle.std.specs.Prelude.{ℕ, ◌-◌, ◌≡◌, List}
+use Rattle.std.specs.Prelude.{ℕ, ◌≡◌, List}
 use Rattle.std.proofs.Common.{arith, ap}
 use Rattle.numbers.proofs.PlaceLaws.{one_answer}
 use Rattle.requests.specs.Built.{one_body}

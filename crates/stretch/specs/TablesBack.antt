@@ -6,7 +6,6 @@ use Rattle.std.proofs.lemmas.Bool.{lt-leb}
 use Rattle.numbers.specs.Numbers.{to_le}
 use Rattle.numbers.specs.Reading.{Reading, ok, after}
 use Rattle.numbers.proofs.ReadingLaws.{or_else, after_inv}
-use Rattle.numbers.specs.declared.Refusal.TheVariants as R
 use Rattle.strings.specs.Strings.{string_bytes}
 use Rattle.strings.specs.Spans.{show_string}
 use Rattle.fields.specs.Layouts.{num, Item, number, string, strings, qids, kind, counted, read_fields, many_bytes, item_bytes, items_bytes, AllGood, Goods}

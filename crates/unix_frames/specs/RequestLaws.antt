@@ -2,7 +2,7 @@
 -- A request written: its message, or 16 where it holds a refusal.
 use Rattle.numbers.specs.Place.{Place}
 use Rattle.std.specs.Prelude.{ℕ, ◌≡◌, refl, List, Err, Ok}
-use Rattle.numbers.specs.declared.Refusal.{Refusal}
+use Rattle.numbers.specs.declared.Fault.{Fault}
 use Rattle.numbers.specs.declared.Refusal.TheVariants as R
 use Rattle.unix_requests.specs.Views.{type_t, layout_t, values_t, Tbody}
 use Rattle.unix_requests.specs.declared.Tmessage.{Tmessage}
@@ -14,6 +14,6 @@ pub request_written : (lent : List ℕ) (tag : ℕ) (b : Tbody) {n : ℕ} {m : T
 unfolding TbodyWritten
 request_written lent tag b e w = rw e w
 
-pub request_refused : (lent : List ℕ) (tag : ℕ) (b : Tbody) (o : List ℕ) {k : Refusal} {at : ℕ} → b ≡ Err (k, at) → TbodyWritten lent tag b o o (Err (R.HoldsRefusal, 0))
+pub request_refused : (lent : List ℕ) (tag : ℕ) (b : Tbody) (o : List ℕ) {f : Fault} → b ≡ Err f → TbodyWritten lent tag b o o (Err (R.HoldsRefusal, 0))
 unfolding TbodyWritten
 request_refused lent tag b o e = rw e (refl, refl)

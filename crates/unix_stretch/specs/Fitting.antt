@@ -6,11 +6,27 @@ use Rattle.framing.specs.Limits.{Limited}
 use Rattle.unix_requests.specs.Views.{layout_t, values_t}
 use Rattle.unix_requests.specs.declared.Tmessage.{Tmessage}
 use Rattle.unix_requests.specs.declared.Tmessage.TheVariants as M
-use Rattle.unix_requests.proofs.Tmessage.TheLaws.{lowered as loweredT}
+use Rattle.unix_requests.proofs.Tmessage.TheLaws.{lowered as loweredT, the_told as told}
 use Rattle.unix_replies.specs.Views.{layout_r, values_r}
 use Rattle.unix_replies.specs.declared.Rmessage.{Rmessage}
 use Rattle.unix_replies.specs.declared.Rmessage.TheVariants as Q
 use Rattle.unix_replies.proofs.Rmessage.TheLaws.{lowered as loweredR}
+
+-- in the pair of a `Result` a request is told by its row, which says the same of each case
+pub told_request : (m : Tmessage) → WT (told.val m) → WT (loweredT m)
+told_request (M.Version m) g = g
+told_request (M.Auth m) g = g
+told_request (M.Attach m) g = g
+told_request (M.Flush m) g = g
+told_request (M.Walk m) g = g
+told_request (M.Open m) g = g
+told_request (M.Create m) g = g
+told_request (M.Read m) g = g
+told_request (M.Write m) g = g
+told_request (M.Clunk m) g = g
+told_request (M.Remove m) g = g
+told_request (M.Stat m) g = g
+told_request (M.Wstat m) g = g
 
 pub request_fits : (m : Tmessage) → WT (loweredT m) → Limited (layout_t m) (values_t m) → Readable (layout_t m) (values_t m)
 unfolding layout_t values_t

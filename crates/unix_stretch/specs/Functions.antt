@@ -21,24 +21,20 @@ use Rattle.unix_replies.specs.Views.{type_r, layout_r, values_r, view_r}
 use Rattle.unix_replies.specs.declared.Rmessage.{Rmessage}
 use Rattle.framing.specs.Frames.{Frame, headless, framed, refused_whole, read_frame}
 use Rattle.framing.specs.Writing.{FrameWritten}
-use Rattle.unix_frames.specs.Views.{view_tframe, view_rframe, TbodyWritten, TframeWritten}
+use Rattle.unix_frames.specs.Views.{view_tframe, view_rframe, TbodyWritten, TframeWritten, ReadTframe, ReadRframe}
 use Rattle.framing.specs.Local.{size_in}
 use Rattle.unix_frames.specs.One.{one_tframe, one_rframe}
 use Rattle.unix_frames.specs.declared.Tframe.{Tframe}
 use Rattle.unix_frames.specs.declared.Rframe.{Rframe}
 use Rattle.unix_frames.proofs.Tframe.TheLaws.{lowered as loweredTframe}
 use Rattle.unix_frames.proofs.Rframe.TheLaws.{lowered as loweredRframe}
-use Rattle.unix_frames.specs.declared.ReadTframe.{ReadTframe}
-use Rattle.unix_frames.specs.declared.ReadTframe.TheVariants as T
-use Rattle.unix_frames.specs.declared.ReadRframe.{ReadRframe}
-use Rattle.unix_frames.specs.declared.ReadRframe.TheVariants as Q
 use Rattle.framing.specs.Stretch.{type_in, tag_in, table_for, answer_in, answer_of, Listing, entry, ends, stops, listing}
 use Rattle.framing.specs.ListingLaws.{goes_on, stops_at}
 use Rattle.framing.proofs.ListingLaws.{listed}
 use Rattle.unix_stretch.specs.Views.{view_body, view_step, Asked}
 use Rattle.framing.specs.ReadBack.{Back}
 use Rattle.framing.specs.Limits.{Limited}
-use Rattle.unix_stretch.specs.Fitting.{request_fits, reply_fits}
+use Rattle.unix_stretch.specs.Fitting.{told_request, request_fits, reply_fits}
 use Rattle.unix_stretch.specs.Known.{row_of_request, type_of_request, row_of_reply, type_of_reply}
 use Rattle.framing.specs.Stripped.{resized, cut_at}
 use Rattle.framing.specs.Demand.{Whole, Edited, old_lines, new_lines, repeated}
@@ -136,57 +132,57 @@ sent : {lent o o' : List ℕ} {q : Place} (f : Tframe) (m : Tmessage) {u : ℕ} 
 unfolding TbodyWritten
 sent f m k w = rw k at w.is
 
-module _ (s : List ℕ) (f : Tframe) (m : Tmessage) {used : ℕ} (b : Bytes s) (k : f.msg ≡ Ok (m, used)) (c : view_tframe (T.Frame f) ≡ read_frame table_t s) where
-  request : view_tframe (T.Frame f) ≡ framed f.at f.tag.0 (accepted (type_t m) (values_t m) used)
+module _ (s : List ℕ) (f : Tframe) (m : Tmessage) {used : ℕ} (b : Bytes s) (k : f.msg ≡ Ok (m, used)) (c : view_tframe (Ok f) ≡ read_frame table_t s) where
+  request : view_tframe (Ok f) ≡ framed f.at f.tag.0 (accepted (type_t m) (values_t m) used)
   unfolding view_tframe view_t
   request = ap (λ x. framed f.at f.tag.0 (view_t x)) k
 
   -- 2. stripped: the same frame is read
-  pub stripped_request : (r : ReadTframe) → view_tframe r ≡ read_frame table_t (resized used s) → r ≡ T.Frame f
-  stripped_request = stripped requests s (T.Frame f) m f.at f.tag.0 used b request c
+  pub stripped_request : (r : ReadTframe) → view_tframe r ≡ read_frame table_t (resized used s) → r ≡ Ok f
+  stripped_request = stripped requests s (Ok f) m f.at f.tag.0 used b request c
 
   -- and writing it, given room, gives those bytes
   pub stripped_request_written : {o o' : List ℕ} {q : Place} → used ≤ length o → TframeWritten s f o o' q → (o' ≡ over o 0 (resized used s)) × (q ≡ Ok used)
-  stripped_request_written h w = written requests s (T.Frame f) m f.at f.tag.0 used b request c h (sent f m k w)
+  stripped_request_written h w = written requests s (Ok f) m f.at f.tag.0 used b request c h (sent f m k w)
 
   -- also when the stripped bytes are lent in place of the frame
   pub stripped_request_written_again : {o o' : List ℕ} {q : Place} → used ≤ length o → TframeWritten (resized used s) f o o' q → (o' ≡ over o 0 (resized used s)) × (q ≡ Ok used)
-  stripped_request_written_again h w = written_again requests s (T.Frame f) m f.at f.tag.0 used b request c h (sent f m k w)
+  stripped_request_written_again h w = written_again requests s (Ok f) m f.at f.tag.0 used b request c h (sent f m k w)
 
   -- 4. cut
   pub cut_request : (j : ℕ) → j < used → (r : ReadTframe) → view_tframe r ≡ read_frame table_t (cut_at j s) → answer_in (view_tframe r) ≡ refused R.Short 0
-  cut_request = cut requests s (T.Frame f) m f.at f.tag.0 used b request c
+  cut_request = cut requests s (Ok f) m f.at f.tag.0 used b request c
 
 -- ---- replies
 
-module _ (s : List ℕ) (f : Rframe) {used : ℕ} (b : Bytes s) (c : view_rframe (Q.Frame f used) ≡ refused_whole (read_frame table_r s)) where
-  reply : view_rframe (Q.Frame f used) ≡ framed f.at f.tag.0 (accepted (type_r f.msg) (values_r f.msg) used)
+module _ (s : List ℕ) (f : Rframe) {used : ℕ} (b : Bytes s) (c : view_rframe (Ok (f, used)) ≡ refused_whole (read_frame table_r s)) where
+  reply : view_rframe (Ok (f, used)) ≡ framed f.at f.tag.0 (accepted (type_r f.msg) (values_r f.msg) used)
   unfolding view_rframe
   reply = refl
 
   -- 2. stripped: the same frame is read
-  pub stripped_reply : (r : ReadRframe) → view_rframe r ≡ refused_whole (read_frame table_r (resized used s)) → r ≡ Q.Frame f used
-  stripped_reply = stripped replies s (Q.Frame f used) f.msg f.at f.tag.0 used b reply c
+  pub stripped_reply : (r : ReadRframe) → view_rframe r ≡ refused_whole (read_frame table_r (resized used s)) → r ≡ Ok (f, used)
+  stripped_reply = stripped replies s (Ok (f, used)) f.msg f.at f.tag.0 used b reply c
 
   -- and writing it, given room, gives those bytes
   pub stripped_reply_written : {o o' : List ℕ} {q : Place} → used ≤ length o → FrameWritten (layout_r f.msg) (type_r f.msg) f.tag.0 s (values_r f.msg) o o' q
       → (o' ≡ over o 0 (resized used s)) × (q ≡ Ok used)
-  stripped_reply_written = written replies s (Q.Frame f used) f.msg f.at f.tag.0 used b reply c
+  stripped_reply_written = written replies s (Ok (f, used)) f.msg f.at f.tag.0 used b reply c
 
   -- also when the stripped bytes are lent in place of the frame
   pub stripped_reply_written_again : {o o' : List ℕ} {q : Place} → used ≤ length o → FrameWritten (layout_r f.msg) (type_r f.msg) f.tag.0 (resized used s) (values_r f.msg) o o' q
       → (o' ≡ over o 0 (resized used s)) × (q ≡ Ok used)
-  stripped_reply_written_again = written_again replies s (Q.Frame f used) f.msg f.at f.tag.0 used b reply c
+  stripped_reply_written_again = written_again replies s (Ok (f, used)) f.msg f.at f.tag.0 used b reply c
 
   -- 4. cut
   pub cut_reply : (j : ℕ) → j < used → (r : ReadRframe) → view_rframe r ≡ refused_whole (read_frame table_r (cut_at j s)) → answer_in (view_rframe r) ≡ refused R.Short 0
-  cut_reply = cut replies s (Q.Frame f used) f.msg f.at f.tag.0 used b reply c
+  cut_reply = cut replies s (Ok (f, used)) f.msg f.at f.tag.0 used b reply c
 
 -- ---- 3. read back
 
 -- a request that a program holds: its tag and its message are well typed as its frame is
 held_request : (f : Tframe) (m : Tmessage) {u : ℕ} → f.msg ≡ Ok (m, u) → WT (loweredTframe f) → (f.tag.0 < 256 ^ 2) × WT (loweredT m)
-held_request f m k g = let h = rw k at g.1.1.0 in (g.1.0.0.fits, h.1.0)
+held_request f m k g = let h = rw k at g.1.1.0 in (g.1.0.0.fits, told_request m h.1.0.0)
 
 -- a frame that a program holds is well typed (`WT`), and that says all but that its data is within the reading limit
 module _ {lent o o' : List ℕ} {n : ℕ} (b : Bytes lent) where

@@ -3,6 +3,7 @@
 use Rattle.std.specs.Prelude.{ℕ, ◌-◌, ◌%◌, ◌≡◌, List, length, take, Ok, Err}
 use Rattle.std.proofs.Common.{arith, ap₂, ◌∙◌, length-take-le, ne_eqb, eq-eqb}
 use Rattle.numbers.specs.Numbers.{Bytes}
+use Rattle.numbers.specs.declared.Fault.{Fault}
 use Rattle.numbers.specs.declared.Refusal.{Refusal}
 use Rattle.stats.specs.Unix.{table_t, table_r}
 use Rattle.framing.specs.Raising.{raise, body_from}
@@ -49,7 +50,7 @@ module _ {size : ℕ} {c : Body} where
   unfolding view_body view_t
   leaves_request e f = record { is = rw (e, f) }
 
-  pub leaves_no_request : {b : Tbody} {k : Refusal} {at : ℕ} → c ≡ B.Request b → b ≡ Err (k, at) → Leaves size (view_body c) size
+  pub leaves_no_request : {b : Tbody} {f : Fault} → c ≡ B.Request b → b ≡ Err f → Leaves size (view_body c) size
   unfolding view_body view_t
   leaves_no_request e f = record { is = rw (e, f) (omega arith) }
 
@@ -57,7 +58,7 @@ module _ {size : ℕ} {c : Body} where
   unfolding view_body view_r
   leaves_reply e f = record { is = rw (e, f) }
 
-  pub leaves_no_reply : {b : Rbody} {k : Refusal} {at : ℕ} → c ≡ B.Reply b → b ≡ Err (k, at) → Leaves size (view_body c) size
+  pub leaves_no_reply : {b : Rbody} {f : Fault} → c ≡ B.Reply b → b ≡ Err f → Leaves size (view_body c) size
   unfolding view_body view_r
   leaves_no_reply e f = record { is = rw (e, f) (omega arith) }
 

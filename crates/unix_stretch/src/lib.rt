@@ -6,9 +6,8 @@
 ghost use Rattle.std.specs.Prelude.{◌≡◌, ◌-◌};
 ghost use Rattle.unix_stretch.specs.Views.{BodyOf, Leaves, view_body, ListedAs, Asked};
 
-use framing::Cut;
 use layouts::ids::Tag;
-use numbers::{Fault, Refusal};
+use numbers::Refusal;
 use unix_replies::Rbody;
 use unix_requests::Tbody;
 
@@ -32,7 +31,7 @@ pub struct Listed {
     pub next: usize,
 }
 
-// What is at a position: a frame; the end, where exactly nothing is left; or a refusal, with the position.
+// What is at a position: a frame; the end, where exactly nothing is left; or a refusal. No `Result` of an `Option`: the end tells its position too.
 #[derive(Clone, Copy)]
 pub enum Step {
     Frame(Listed),
@@ -45,9 +44,10 @@ fn read_body(s: &[u8], ty: u8, at: usize) -> Body
     ensures { BodyOf s.now ty at result }
 {
     if ty % 2 == 0 {
-        return Body::Request(unix_frames::request_at(s, ty, at));
+        Body::Request(unix_frames::request_at(s, ty, at))
+    } else {
+        Body::Reply(unix_frames::reply_at(s, ty, at))
     }
-    Body::Reply(unix_frames::reply_at(s, ty, at))
 }
 
 // Where the fields of an accepted frame end; its end where the body is refused, so that there is no tail.
@@ -57,11 +57,11 @@ fn used_of(size: usize, body: Body) -> usize
     match body {
         Body::Request(b) => match b {
             Ok((_, used)) => used,
-            Err(Fault(_, _)) => size,
+            Err(_) => size,
         },
         Body::Reply(b) => match b {
             Ok((_, used)) => used,
-            Err(Fault(_, _)) => size,
+            Err(_) => size,
         },
     }
 }
@@ -72,8 +72,8 @@ fn whole_frame(s: &[u8], ty: u8, tag: u16, at: usize) -> Listed
 {
     let body = read_body(s, ty, at);
     let next = s.len();
-    let size = numbers::saturating_sub(next, at);
-    let tail = numbers::saturating_sub(size, used_of(size, body));
+    let size = next.saturating_sub(at);
+    let tail = size.saturating_sub(used_of(size, body));
     let tag = Tag(tag);
     Listed {
         at,
@@ -90,10 +90,9 @@ fn whole_frame(s: &[u8], ty: u8, tag: u16, at: usize) -> Listed
 pub fn frame_at(bytes: &[u8], position: usize) -> Step
     ensures { Asked bytes.now position result }
 {
-    let cut = framing::cut_at(bytes, position);
-    match cut {
-        Cut::Whole(ty, tag, next) => Step::Frame(whole_frame(&bytes[..next], ty, tag, position)),
-        Cut::End => Step::End(position),
-        Cut::Refused(k) => Step::Refused(k, position),
+    match framing::cut_at(bytes, position) {
+        Ok(Some(c)) => Step::Frame(whole_frame(&bytes[..c.next], c.ty, c.tag, position)),
+        Ok(None) => Step::End(position),
+        Err(k) => Step::Refused(k, position),
     }
 }

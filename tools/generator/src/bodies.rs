@@ -510,9 +510,17 @@ use Rattle.framing.specs.Limits.{Limited}
             "use Rattle.{krate}.specs.Views.{{layout_{s}, values_{s}}}
 use Rattle.{krate}.specs.declared.{d}message.{{{d}message}}
 use Rattle.{krate}.specs.declared.{d}message.TheVariants as {letter}
-use Rattle.{krate}.proofs.{d}message.TheLaws.{{lowered as lowered{d}}}
-"
+use Rattle.{krate}.proofs.{d}message.TheLaws.{{lowered as lowered{d}{}}}
+",
+            match direction {
+                Direction::T => ", the_told as told",
+                Direction::R => "",
+            }
         );
+    }
+    text += "\n-- in the pair of a `Result` a request is told by its row, which says the same of each case\npub told_request : (m : Tmessage) → WT (told.val m) → WT (loweredT m)\n";
+    for m in table.by_case(Direction::T) {
+        text += &format!("told_request {} g = g\n", pattern(m));
     }
     for (direction, law, letter) in [
         (Direction::T, "request_fits", "M."),

@@ -2,14 +2,14 @@
 use Rattle.stretch.specs.StepLaws.{leaves_request, leaves_no_request, leaves_reply, leaves_no_reply}
 use Rattle.stretch.proofs.used_of.Goals as goal
 
-pub returns-in-Message : goal.returns-in-Message
-returns-in-Message c = leaves_request c.in-Request.is c.in-Message.is
+pub returns-in-Ok : goal.returns-in-Ok
+returns-in-Ok c = leaves_request c.in-Request.is c.in-Ok.is
 
-pub returns-in-Refused : goal.returns-in-Refused
-returns-in-Refused c = leaves_no_request c.in-Request.is c.in-Refused.is
+pub returns-in-Err : goal.returns-in-Err
+returns-in-Err c = leaves_no_request c.in-Request.is c.in-Err.is
 
-pub returns-in-Message-b : goal.returns-in-Message-b
-returns-in-Message-b c = leaves_reply c.in-Reply.is c.in-Message-b.is
+pub returns-in-Ok-b : goal.returns-in-Ok-b
+returns-in-Ok-b c = leaves_reply c.in-Reply.is c.in-Ok-b.is
 
-pub returns-in-Refused-b : goal.returns-in-Refused-b
-returns-in-Refused-b c = leaves_no_reply c.in-Reply.is c.in-Refused-b.is
+pub returns-in-Err-b : goal.returns-in-Err-b
+returns-in-Err-b c = leaves_no_reply c.in-Reply.is c.in-Err-b.is

@@ -1,12 +1,14 @@
 -- Written by tools/messages from crates/frames/proofs/request_at/Answers.antt.
--- The bytes used of a message, or its refusal.
+-- The body is refused, or its end is counted from the frame's first byte.
+use Rattle.std.proofs.lemmas.Result.{err_from_is_err_and}
 use Rattle.unix_frames.specs.FrameLaws.{request_message, request_none}
 use Rattle.unix_frames.proofs.request_at.Goals as goal
 
-pub returns-in-Message : goal.returns-in-Message
-returns-in-Message c =
-    request_message _ _ _ c.body_at.ensures _ c.read_tmessage-b.ensures c.in-Message.is c.saturating_sub.ensures
+pub returns-in_err-m : goal.returns-in_err-m
+returns-in_err-m c =
+    let e = err_from_is_err_and c.from_residual.result c.from_residual.ensures.1 in
+    rw (e.1, e.2) (request_none _ _ _ c.body_at.ensures _ c.read_tmessage.ensures c.in_err-m.was)
 
-pub returns-in-Refused : goal.returns-in-Refused
-returns-in-Refused c =
-    request_none _ _ _ c.body_at.ensures _ c.read_tmessage-b.ensures c.in-Refused.is
+pub returns : goal.returns
+returns c =
+    request_message _ _ _ c.body_at.ensures _ c.read_tmessage.ensures c.in_ok-m.was c.saturating_sub.ensures

@@ -6,5 +6,5 @@ use Rattle.unix_stretch.proofs.read_body.Goals as goal
 pub returns-then-ty-eq0 : goal.returns-then-ty-eq0
 returns-then-ty-eq0 c = request_body _ c.if-ty-eq0.true c.request_at.ensures
 
-pub returns : goal.returns
-returns c = reply_body _ c.if-ty-eq0.false c.reply_at.ensures
+pub returns-else-ty-eq0 : goal.returns-else-ty-eq0
+returns-else-ty-eq0 c = reply_body _ c.if-ty-eq0.false c.reply_at.ensures
