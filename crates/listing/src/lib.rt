@@ -48,12 +48,12 @@ fn answer_of(body: Body) -> u8
 {
     match body {
         Body::Request(b) => match b {
-            Ok((_, _)) => 0,
-            Err(Fault(k, _)) => numbers::number(k),
+            Ok(_) => 0,
+            Err(f) => numbers::number(f.0),
         },
         Body::Reply(b) => match b {
-            Ok((_, _)) => 0,
-            Err(Fault(k, _)) => numbers::number(k),
+            Ok(_) => 0,
+            Err(f) => numbers::number(f.0),
         },
     }
 }
@@ -72,11 +72,10 @@ fn put_tail(out: &mut [u8], p: Place, answer: u8, tail: usize) -> Place
 pub fn put_frame(out: &mut [u8], p: Place, l: Listed, answer: u8) -> Place
     ensures { FramePut l answer out.old p out.new result }
 {
-    let tag = l.tag;
     let a = put_field(out, p, l.at as u64, b" ");
     let b = put_field(out, a, l.size as u64, b" ");
     let c = put_field(out, b, l.ty as u64, b" ");
-    let d = put_field(out, c, tag.0 as u64, b" ");
+    let d = put_field(out, c, l.tag.0 as u64, b" ");
     let e = put_field(out, d, answer as u64, b" ");
     put_tail(out, e, answer, l.tail)
 }
@@ -85,9 +84,7 @@ pub fn put_frame(out: &mut [u8], p: Place, l: Listed, answer: u8) -> Place
 fn put_line(out: &mut [u8], p: Place, l: Listed) -> Place
     ensures { LinePut l out.old p out.new result }
 {
-    let body = l.body;
-    let answer = answer_of(body);
-    put_frame(out, p, l, answer)
+    put_frame(out, p, l, answer_of(l.body))
 }
 
 // The last line: a word and two figures.
@@ -110,8 +107,7 @@ pub fn put_end(out: &mut [u8], p: Place, position: usize, n: u64) -> Place
 pub fn put_stop(out: &mut [u8], p: Place, position: usize, k: Refusal) -> Place
     ensures { LastPut stop_word position (number_of k) out.old p out.new result }
 {
-    let n = numbers::number(k);
-    put_last(out, p, b"stop ", position, n as u64)
+    put_last(out, p, b"stop ", position, numbers::number(k) as u64)
 }
 
 // A line for each frame, and the last line.
@@ -122,19 +118,14 @@ fn put_lines(out: &mut [u8], from: Place, bytes: &[u8]) -> Place
     let mut at = 0;
     let mut n: u64 = 0;
     loop {
-        let step = stretch::frame_at(bytes, at);
-        match step {
+        match stretch::frame_at(bytes, at) {
             Step::Frame(l) => {
                 p = put_line(out, p, l);
                 at = l.next;
                 n += 1;
             }
-            Step::End(q) => {
-                return put_end(out, p, q, n);
-            }
-            Step::Refused(k, q) => {
-                return put_stop(out, p, q, k);
-            }
+            Step::End(q) => return put_end(out, p, q, n),
+            Step::Refused(k, q) => return put_stop(out, p, q, k),
         }
     }
 }
@@ -168,10 +159,7 @@ fn put_report(out: &mut [u8], input: &[u8]) -> Place
 pub fn position(p: Place) -> usize
     ensures { result ≡ position_of p }
 {
-    match p {
-        Ok(n) => n,
-        Err(Fault(_, _)) => 0,
-    }
+    p.unwrap_or(0)
 }
 
 // The text of any input fits: its header has 29 bytes, its lines at most 31 each, of which there are at most 9,362, since a frame has

@@ -2,14 +2,14 @@
 use Rattle.listing.specs.AnswerLaws.{number_of_request, number_of_no_request, number_of_reply, number_of_no_reply}
 use Rattle.listing.proofs.answer_of.Goals as goal
 
-pub returns-in-Message : goal.returns-in-Message
-returns-in-Message c = number_of_request c.in-Request.is c.in-Message.is
+pub returns-in-Ok : goal.returns-in-Ok
+returns-in-Ok c = number_of_request c.in-Request.is c.in-Ok.is
 
-pub returns-in-Refused : goal.returns-in-Refused
-returns-in-Refused c = number_of_no_request c.in-Request.is c.in-Refused.is c.number.ensures
+pub returns-in-Err : goal.returns-in-Err
+returns-in-Err c = number_of_no_request c.in-Request.is c.in-Err.is c.number.ensures
 
-pub returns-in-Message-b : goal.returns-in-Message-b
-returns-in-Message-b c = number_of_reply c.in-Reply.is c.in-Message-b.is
+pub returns-in-Ok-b : goal.returns-in-Ok-b
+returns-in-Ok-b c = number_of_reply c.in-Reply.is c.in-Ok-b.is
 
-pub returns-in-Refused-b : goal.returns-in-Refused-b
-returns-in-Refused-b c = number_of_no_reply c.in-Reply.is c.in-Refused-b.is c.number-in-Refused-b.ensures
+pub returns-in-Err-b : goal.returns-in-Err-b
+returns-in-Err-b c = number_of_no_reply c.in-Reply.is c.in-Err-b.is c.number-in-Err-b.ensures

@@ -9,7 +9,7 @@ loop-l-init c = (omega arith, omega arith, refl, upto_none)
 
 pub loop-l-smaller : goal.loop-l-smaller
 loop-l-smaller c =
-    let m = moved _ c.frame_at-step.ensures c.in-Frame.is in
+    let m = moved _ c.frame_at.ensures c.in-Frame.is in
     let a = m.seven in
     let b = m.on in
     let d = m.within in
@@ -17,16 +17,16 @@ loop-l-smaller c =
 
 pub loop-l-preserved : goal.loop-l-preserved
 loop-l-preserved c =
-    let m = moved _ c.frame_at-step.ensures c.in-Frame.is in
+    let m = moved _ c.frame_at.ensures c.in-Frame.is in
     let a = m.seven in
     let b = m.on in
     let d = m.within in
     let i = c.loop-l.invariant in
     let p = c.put_line-p.ensures in
-    (omega arith, omega arith, all_length p.is ∙ i.2, upto_next _ i.0 c.frame_at-step.ensures c.in-Frame.is i.3 p)
+    (omega arith, omega arith, all_length p.is ∙ i.2, upto_next _ i.0 c.frame_at.ensures c.in-Frame.is i.3 p)
 
 pub returns-in-End : goal.returns-in-End
-returns-in-End c = let i = c.loop-l.invariant in upto_end i.0 c.frame_at-step.ensures c.in-End.is i.3 c.put_end.ensures
+returns-in-End c = let i = c.loop-l.invariant in upto_end i.0 c.frame_at.ensures c.in-End.is i.3 c.put_end.ensures
 
 pub returns-in-Refused : goal.returns-in-Refused
-returns-in-Refused c = let i = c.loop-l.invariant in upto_stop i.0 c.frame_at-step.ensures c.in-Refused.is i.3 c.put_stop.ensures
+returns-in-Refused c = let i = c.loop-l.invariant in upto_stop i.0 c.frame_at.ensures c.in-Refused.is i.3 c.put_stop.ensures
