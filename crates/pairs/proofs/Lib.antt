@@ -1,2 +1,1 @@
 pub mod Examples
-pub mod PairLaws

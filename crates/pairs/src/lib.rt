@@ -26,24 +26,14 @@ const RLERROR: u8 = 7;
 pub(crate) fn paired(known: bool, error: u8, request: Mark, reply: Mark) -> bool
     ensures { result ≡ paired known error request.ty request.tag.0 reply.ty reply.tag.0 }
 {
-    let asked = request.tag;
-    let given = reply.tag;
-    if asked.0 != given.0 {
-        return false;
-    }
-    if known {
-        if reply.ty == error {
-            return true;
-        }
-        return (reply.ty as u16) == (request.ty as u16) + 1;
-    }
-    false
+    request.tag.0 == reply.tag.0
+        && known
+        && (reply.ty == error || u16::from(reply.ty) == u16::from(request.ty) + 1)
 }
 
 // Whether a reply of 9P2000.L answers a request.
 pub fn answers(request: Mark, reply: Mark) -> bool
     ensures { result ≡ pairs table_t rlerror request.ty request.tag.0 reply.ty reply.tag.0 }
 {
-    let known = known::known_request(request.ty);
-    paired(known, RLERROR, request, reply)
+    paired(known::known_request(request.ty), RLERROR, request, reply)
 }

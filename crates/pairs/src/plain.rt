@@ -1,4 +1,4 @@
-// The same for 9P2000.
+// The same for 9P2000, whose requests and whose error are others; all else is `paired`.
 
 ghost use Rattle.std.specs.Prelude.{◌≡◌};
 ghost use Rattle.layouts.specs.Plain.{table_t};
@@ -13,6 +13,10 @@ const RERROR: u8 = 107;
 pub fn answers(request: Mark, reply: Mark) -> bool
     ensures { result ≡ pairs table_t rerror request.ty request.tag.0 reply.ty reply.tag.0 }
 {
-    let known = crate::plain_known::known_request(request.ty);
-    crate::paired(known, RERROR, request, reply)
+    crate::paired(
+        crate::plain_known::known_request(request.ty),
+        RERROR,
+        request,
+        reply,
+    )
 }

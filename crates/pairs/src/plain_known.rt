@@ -8,8 +8,8 @@ ghost use Rattle.pairs.specs.Pairs.{knows};
 pub(crate) fn known_request(ty: u8) -> bool
     ensures { result ≡ knows table_t ty }
 {
-    match ty {
-        100 | 102 | 104 | 108 | 110 | 112 | 114 | 116 | 118 | 120 | 122 | 124 | 126 => true,
-        _ => false,
-    }
+    matches!(
+        ty,
+        100 | 102 | 104 | 108 | 110 | 112 | 114 | 116 | 118 | 120 | 122 | 124 | 126
+    )
 }

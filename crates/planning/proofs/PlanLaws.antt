@@ -1,7 +1,9 @@
 -- What holds of the definitions in specs/PlanLaws.antt.
 use Rattle.numbers.specs.Place.{Place}
-use Prim.Native.Nat.{ℕ, suc, zero, ◌+◌, ◌-◌, ◌*◌, ◌/◌, min, ◌≤◌, ◌<◌}
-use Rattle.std.proofs.Math.Nat.{suc-mul, div-eq_of_lt, add-div_right, lt-div-mul-add}
+use Prim.Native.Nat.{ℕ, suc, zero, ◌+◌, ◌-◌, ◌*◌, min, ◌≤◌, ◌<◌}
+use Rattle.std.proofs.Math.Nat.{suc-mul, div-eq_of_lt, lt-div-mul-add, lt_of_mul-lt-mul_right}
+use Rattle.std.specs.Int.{div_ceil}
+use Rattle.std.proofs.lemmas.Grind.{div_ceil_times}
 use Rattle.std.proofs.Common.{zero-mul, div-lt_iff_lt-mul, ap, ◌∙◌}
 use native.Mathlib.Omega.{arith}
 use Rattle.std.proofs.Math.Path.{◌≡◌, refl, sym}
@@ -11,6 +13,8 @@ use mathlib.Core.List.{List, [], ◌∷◌, ◌++◌}
 use Rattle.std.proofs.Math.ListN.{length}
 use Rattle.std.proofs.Math.Dec.{ltb}
 use borrow.Author.Tests.{eq-eqb, le-leb, leb-true, ltb-true, ltb-false, lt-ltb, le-ltb, eqb-true}
+use Rattle.std.specs.Result.{is_err}
+use Rattle.numbers.specs.declared.Fault.{Fault}
 use Rattle.numbers.specs.declared.Refusal.{Refusal}
 use Rattle.numbers.specs.declared.Refusal.TheVariants as R
 use Rattle.planning.specs.Plans.{offset, size, fits, runs_on, greatest, agreed, accepted, most_data, fewest, cut, planned, table_of, Planned}
@@ -39,16 +43,21 @@ module _ (most : ℕ) (h : 0 < most) where
   unfolding fewest
   fewest_none len e = sym (div-eq_of_lt (omega arith))
 
-  pub fewest_some : (len : ℕ) → 0 < len → (len - 1) / most + 1 ≡ fewest most len
-  unfolding fewest
-  fewest_some len l = let e : len + (most - 1) ≡ (len - 1) + most = omega arith in rw e (sym (add-div_right (len - 1) h))
-
   pub fewest_least : (len : ℕ) → Least most (fewest most len) len
   unfolding fewest
   fewest_least len = record {
     enough = let a = lt-div-mul-add {a = len + (most - 1)} h in omega arith;
     least = λ m l. let e : suc m * most ≡ m * most + most = suc-mul m most in let a = (div-lt_iff_lt-mul {x = len + (most - 1)} {y = suc m} h).1 (omega arith) in omega arith;
   }
+
+  -- the quotient that rounds up is so many
+  pub fewest_is : (len : ℕ) → div_ceil len most ≡ fewest most len
+  fewest_is len =
+      let c = div_ceil_times len most h in
+      let f = fewest_least len in
+      let l = f.least (div_ceil len most) c.0 in
+      let a = lt_of_mul-lt-mul_right most {m = div_ceil len most} {n = suc (fewest most len)} (let g = f.enough in let e = suc-mul (fewest most len) most in omega arith) in
+      omega arith
 
   least_none : {len : ℕ} → Least most 0 len → len ≡ 0
   least_none {len} l = let a = l.enough in let b : 0 * most ≡ 0 = zero-mul most in omega arith
@@ -126,55 +135,53 @@ module _ (msize : ℕ) where
               let k = f b.here b.some b.most in
               absurd (omega arith)
 
--- ---- 26, then 27, and then neither
+-- ---- neither 26 nor 27
 
 module _ (first len msize : ℕ) where
-  pub small : msize < 24 → Err (R.MsizeTooSmall, 0) ≡ agreed first len msize
-  unfolding agreed
-  small h = rw (lt-ltb msize 24 h)
-
-  pub far : 24 ≤ msize → greatest < first + len → Err (R.EndTooFar, 0) ≡ agreed first len msize
-  unfolding agreed
-  far h l = rw (le-ltb msize 24 h, lt-ltb greatest (first + len) l)
-
-  pub neither : 24 ≤ msize → first + len ≤ greatest → Ok 0 ≡ agreed first len msize
-  unfolding agreed
-  neither h l = rw (le-ltb msize 24 h, le-ltb greatest (first + len) l)
-
-  -- a place is at hand only where neither holds
   pub record Good : Type 0 where
     pub msize_is : 24 ≤ msize
     pub end_is : first + len ≤ greatest
 
-  pub good : {n : ℕ} → Ok n ≡ agreed first len msize → Good
+  neither : Good → Ok 0 ≡ agreed first len msize
   unfolding agreed
-  good {n} e = go (ltb msize 24) (ltb greatest (first + len)) refl refl e
+  neither g = rw (le-ltb msize 24 g.msize_is, le-ltb greatest (first + len) g.end_is)
+
+  pub good : {p : Place} → p ≡ agreed first len msize → is_err p ≡ false → Good
+  unfolding agreed
+  good e f = go (ltb msize 24) (ltb greatest (first + len)) refl refl (ap is_err (sym e) ∙ f)
     where
-      go : (s t : Bool) → ltb msize 24 ≡ s → ltb greatest (first + len) ≡ t → Ok n ≡ cond s (Err (R.MsizeTooSmall, 0)) (cond t (Err (R.EndTooFar, 0)) (Ok 0)) → Good
-      go true t a b f = absurd (let z : ◌≡◌ {A = ℕ} 0 1 = cc in omega arith)
-      go false true a b f = absurd (let z : ◌≡◌ {A = ℕ} 0 1 = cc in omega arith)
+      go : (s t : Bool) → ltb msize 24 ≡ s → ltb greatest (first + len) ≡ t → is_err {T = ℕ} {E = Fault} (cond s (Err (R.MsizeTooSmall, 0)) (cond t (Err (R.EndTooFar, 0)) (Ok 0))) ≡ false → Good
+      go true t a b f = absurd (let z : ◌≡◌ {A = ℕ} 0 1 = cc f in omega arith)
+      go false true a b f = absurd (let z : ◌≡◌ {A = ℕ} 0 1 = cc f in omega arith)
       go false false a b f = record { msize_is = ltb-false msize 24 a; end_is = ltb-false greatest (first + len) b }
 
   -- ---- what the functions answer on each way
 
-  pub accepted_refused : {k : Refusal} {n : ℕ} (ps : List (List ℕ)) → Err (k, n) ≡ agreed first len msize → false ≡ accepted ps first len msize
+  pub accepted_refused : {p : Place} (ps : List (List ℕ)) → p ≡ agreed first len msize → is_err p ≡ true → false ≡ accepted ps first len msize
   unfolding accepted
-  accepted_refused ps e = rw (← e)
+  accepted_refused {p = Ok n} ps e f = absurd (let z : ◌≡◌ {A = ℕ} 0 1 = cc f in omega arith)
+  accepted_refused {p = Err w} ps e f = rw (← e)
 
-  pub accepted_runs : {n : ℕ} (ps : List (List ℕ)) → Ok n ≡ agreed first len msize → runs_on msize first (first + len) ps ≡ accepted ps first len msize
+  pub accepted_runs : (ps : List (List ℕ)) → Good → runs_on msize first (first + len) ps ≡ accepted ps first len msize
   unfolding accepted
-  accepted_runs ps e = rw (← e)
+  accepted_runs ps g = rw (← neither g)
 
   module _ (t : List (List ℕ)) where
-    pub planned_refused : {p : Place} {k : Refusal} {n : ℕ} → p ≡ agreed first len msize → p ≡ Err (k, n) → Planned t first len msize t p
+    pub planned_refused : {p : Place} {k : Refusal} {n : ℕ} → p ≡ agreed first len msize → p ≡ Err (k, n) → Planned t first len msize t (Err (k, n))
     unfolding planned table_of
-    planned_refused e f = let g = sym f ∙ e in record { table = rw (← g); answer = rw (← g) f }
+    planned_refused e f = let g = sym f ∙ e in record { table = rw (← g); answer = rw (← g) }
 
-    module _ {m most n : ℕ} (e : Ok m ≡ agreed first len msize) (d : most ≡ most_data msize) (f : n ≡ fewest most len) where
+    module _ {most n : ℕ} (g : Good) (d : most ≡ most_data msize) (f : n ≡ fewest most len) where
       pub planned_full : length t < n → Planned t first len msize t (Err (R.TableFull, 0))
       unfolding planned table_of
-      planned_full l = let g = lt-ltb (length t) n l in record { table = rw (← e, ← d, ← f, g); answer = rw (← e, ← d, ← f, g) }
+      planned_full l =
+          let e = neither g in
+          let h = lt-ltb (length t) n l in
+          record { table = rw (← e, ← d, ← f, h); answer = rw (← e, ← d, ← f, h) }
 
       pub planned_fits : {t' : List (List ℕ)} → n ≤ length t → t' ≡ cut most n first len ++ drop n t → Planned t first len msize t' (Ok n)
       unfolding planned table_of
-      planned_fits l j = let g = le-ltb (length t) n l in record { table = rw (← e, ← d, ← f, g) j; answer = rw (← e, ← d, ← f, g) }
+      planned_fits l j =
+          let e = neither g in
+          let h = le-ltb (length t) n l in
+          record { table = rw (← e, ← d, ← f, h) j; answer = rw (← e, ← d, ← f, h) }

@@ -1,29 +1,20 @@
 -- What a turn does, and how it begins and ends, for the loops over a line's characters and over its bytes.
 use Rattle.std.proofs.Common.{◌≡◌, ℕ, zero, suc, ◌+◌, ◌-◌, ◌*◌, ◌/◌, ◌<◌, ◌≤◌, min, Bool, true, false, cond, ltb, List, [], ◌∷◌, ◌++◌, length, get_or, take, drop, set, sym, refl, ap, ◌∙◌, zero-add, add-one, arith, length-append, length-drop, take-append-drop, drop_of_length-le, length-take, length-take-le, drop-cons, drop-drop, take-suc-set, take_at, drop-set-lt, le-ltb, lt-ltb}
 use native.Mathlib.Decide.{dec_le}
+use Rattle.std.specs.List.{take_while, prefix_len}
+use Rattle.std.proofs.lemmas.List.Folds.{length-prefix_len}
 use lib.Seq.{drop-append-add, sets, sets-eq, take-nil}
 use Rattle.questions.specs.Questions.{is_figure, run, next_at, tens, figures_in, value, spelt, grown, Laid}
 
--- ---- where the numbers end: one more character of them, the first that is none, and the line's end
+-- ---- where the numbers end
 
-pub run_turn : (s : List ℕ) (i : ℕ) {x : ℕ} {t : Bool} → i < length s → t ≡ is_figure (get_or s i 0) → t ≡ true → i + run (drop i s) ≡ x
-    → i + 1 + run (drop (i + 1) s) ≡ x
+prefix_is : (s : List ℕ) → prefix_len is_figure s ≡ run s
 unfolding run
-run_turn s i l f t e =
-    let h : is_figure (get_or s i 0) ≡ true = sym f ∙ t in
-    let g = rw (drop-cons s i 0 l, h) at e in
-    rw (add-one i) (omega arith)
+prefix_is [] = refl
+prefix_is (c ∷ cs) = let h = prefix_is cs in ap (λ (n : ℕ). cond (is_figure c) n 0) (omega arith)
 
-pub run_stops : (s : List ℕ) (i : ℕ) {x : ℕ} {t : Bool} → i < length s → t ≡ is_figure (get_or s i 0) → t ≡ false → i + run (drop i s) ≡ x → i ≡ x
-unfolding run
-run_stops s i l f t e =
-    let h : is_figure (get_or s i 0) ≡ false = sym f ∙ t in
-    let g = rw (drop-cons s i 0 l, h) at e in
-    omega arith
-
-pub run_over : (s : List ℕ) (i : ℕ) {x : ℕ} → length s ≤ i → i + run (drop i s) ≡ x → i ≡ x
-unfolding run
-run_over s i l e = let g = rw (drop_of_length-le s l) at e in omega arith
+pub run_is : (s : List ℕ) → length (take_while is_figure s) ≡ run s
+run_is s = length-prefix_len is_figure s ∙ prefix_is s
 
 -- ---- the numbers
 
@@ -36,19 +27,11 @@ pub numbers_over : (s ns : List ℕ) (i k : ℕ) {x : List ℕ} → length s ≤
 unfolding figures_in
 numbers_over s ns i k l e = rw (drop_of_length-le s l) at e
 
--- ---- a byte that is there, whatever is answered where none is
-
-pub same_there : (s : List ℕ) (i a b : ℕ) → i < length s → get_or s i a ≡ get_or s i b
-same_there s i a b l = cc (drop-cons s i a l, drop-cons s i b l)
-
 -- ---- bytes spelt
 
 -- what is still to come at the front of an output of n bytes, i bytes on
 abbrev pub rest : List ℕ → ℕ → ℕ → List ℕ
 rest hex n i = take (n - i) (spelt (drop (i * 2) hex))
-
-pub rest_begins : (hex : List ℕ) (n : ℕ) → rest hex n 0 ≡ take n (spelt hex)
-rest_begins hex n = let e : n - 0 ≡ n = omega arith in rw e
 
 -- one pair of digits more
 pair : (hex : List ℕ) (i : ℕ) → i * 2 + 1 < length hex → drop (i * 2) hex ≡ get_or hex (i * 2) 0 ∷ get_or hex (i * 2 + 1) 0 ∷ drop ((i + 1) * 2) hex
@@ -147,9 +130,6 @@ laid_front o o' bs i h e f =
     record { out = sym (take-append-drop i o') ∙ rw (e, f, l); count = sym l }
 
 -- ---- bytes laid over an output, and more after them
-
-pub laid_in : {bs o o' : List ℕ} {n : ℕ} → Laid bs o o' n → n ≤ length o'
-laid_in a = let c = a.count in omega (arith, simp length-append at (ap length a.out))
 
 pub laid_then : (o o1 o2 bs : List ℕ) (n h most k : ℕ) → length bs ≤ length o → Laid bs o o1 n → Laid (grown (min most (length o1) - n) k (take n o1)) o1 o2 h
     → Laid (grown (min most (length o) - length bs) k bs) o o2 h

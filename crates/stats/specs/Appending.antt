@@ -1,6 +1,6 @@
 -- Fields after fields: read, measured, put and counted. A stat of 9P2000.u is one of 9P2000 and the fields after it (F16.2).
 use Rattle.numbers.specs.Place.{Place}
-use Rattle.std.specs.Prelude.{ℕ, ◌+◌, ◌≡◌, refl, List, [], ◌∷◌, ◌++◌, length}
+use Rattle.std.specs.Prelude.{ℕ, ◌≡◌, refl, List, [], ◌∷◌, ◌++◌, length}
 use Rattle.std.proofs.Common.{arith, sym, ap, ap₂, ◌∙◌}
 use Rattle.fields.specs.Layouts.{Shape, Layout}
 use Rattle.fields.specs.Values.{Slot, Value}

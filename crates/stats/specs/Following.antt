@@ -2,7 +2,6 @@
 use Rattle.numbers.specs.Place.{Place}
 use Rattle.std.specs.Prelude.{ℕ, ◌+◌, ◌-◌, ◌≤◌, ◌<◌, ◌≡◌, refl, Bool, true, false, cond, List, [], ◌∷◌, ◌++◌, map, length, take, drop, leb, Ok, Err}
 use Rattle.std.proofs.Common.{arith, sym, ap, ◌∙◌, append_assoc, length-append, take-append-drop, drop_at}
-use Rattle.std.proofs.Math.Path.{ap₂}
 use Rattle.std.proofs.Math.ListN.{length-drop}
 use Rattle.std.proofs.Math.Seq.{drop-drop}
 use borrow.Author.Tests.{le-leb}
@@ -120,9 +119,6 @@ merged s (Err e) w ws fs f = record { is = f.is }
 
 -- ---- numbers, and a string
 
-pub pass_refused : {fs : List Shape} {s : List ℕ} {p : Place} {k : Refusal} {at : ℕ} → p ≡ Err (k, at) → Followed fs s p p
-pass_refused e = record { is = rw e }
-
 module _ {n a : ℕ} {s : List ℕ} {p : Place} (e : p ≡ Ok a) {t : Bool} (i : Within a n (length s) t) where
   pub skip_held : t ≡ true → Followed (fixed n ∷ []) s p (Ok (a + n))
   unfolding follow
@@ -133,13 +129,13 @@ module _ {n a : ℕ} {s : List ℕ} {p : Place} (e : p ≡ Ok a) {t : Bool} (i :
   skip_short o h = record { is = rw (e, short_num n a s o (outside i h)) }
 
 module _ {s : List ℕ} {p q : Place} {x : ℕ} (r : NumRead 2 s p x q) where
-  pub pass_cut : {k : Refusal} {at : ℕ} → q ≡ Err (k, at) → Followed (worded ∷ []) s p q
+  pub pass_cut : {k : Refusal} {at : ℕ} → q ≡ Err (k, at) → Followed (worded ∷ []) s p (Err (k, at))
   unfolding follow
-  pass_cut {k} {at} f = record { is = f ∙ go p (num_refused r f).reads }
+  pass_cut {k} {at} f = record { is = go p (num_refused r f).reads }
     where
       go : (z : Place) → read_at (read_num 2) s z ≡ bad k at → Err (k, at) ≡ rest_at (length s) (read_at (follow (worded ∷ [])) s z)
       go (Ok a) g = rw g
-      go (Err f) g = let h : f.0 ≡ k = cc g in let i : f.1 ≡ at = cc g in ap₂ Err (sym h, sym i)
+      go (Err f) g = let h : f.0 ≡ k = cc g in let i : f.1 ≡ at = cc g in rw (← h, ← i)
 
   module _ {b : ℕ} (f : q ≡ Ok b) {u : Bool} (j : Within b x (length s) u) where
     pub pass_end : u ≡ true → Followed (worded ∷ []) s p (Ok (b + x))

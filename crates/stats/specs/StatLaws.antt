@@ -1,7 +1,7 @@
 -- The ways that the reader of a stat goes, over any box: whether its counts agree, and where its fields are.
 use Rattle.numbers.specs.Place.{Place}
 use Rattle.std.specs.Prelude.{ℕ, ◌+◌, ◌-◌, ◌≤◌, refl, Bool, true, false, cond, List, [], ◌∷◌, ◌++◌, map, length, take, drop, eqb, Ok, Err}
-use Rattle.std.proofs.Common.{arith, ap, ap₂, ◌∙◌, length-take-le}
+use Rattle.std.proofs.Common.{arith, ap, ◌∙◌, length-take-le}
 use Rattle.std.proofs.Math.Path.{◌≡◌, sym}
 use Rattle.std.proofs.lemmas.List.{map-append}
 use Rattle.std.proofs.Math.ListN.{length-drop}
@@ -12,10 +12,10 @@ use Rattle.numbers.specs.Reading.{Reading, ok, bad, after, raw, read_num}
 use Rattle.numbers.proofs.ReadingLaws.{or_else, raw_short}
 use Rattle.numbers.specs.Places.{Within, read_at, rest_at, NumRead, Put}
 use Rattle.numbers.specs.PlaceLaws.{Held}
-use Rattle.numbers.proofs.PlaceLaws.{inside, outside, held_num, num_holds, num_refused}
+use Rattle.numbers.proofs.PlaceLaws.{outside, held_num, num_holds, num_refused}
+use Rattle.numbers.specs.declared.Fault.{Fault}
 use Rattle.numbers.specs.declared.Refusal.{Refusal}
 use Rattle.numbers.specs.declared.Refusal.TheVariants as R
-use Rattle.strings.specs.Spans.{SpanPut}
 use Rattle.fields.specs.Layouts.{Shape, fixed, worded, boxed, box, read_cells, follow, at_end, agrees, read_field}
 use Rattle.fields.proofs.LayoutLaws.{agreed}
 use Rattle.fields.specs.Values.{Slot, slot, text, block}
@@ -23,11 +23,12 @@ use Rattle.fields.specs.Fields.{no_slot, past_field, FieldRead}
 use Rattle.fields.specs.BoxLaws.{plain_of, Opened}
 use Rattle.laying.specs.Laying.{with_sizes, sized, FieldMeasured, Measured, CellsPut, Countable, Advanced}
 use Rattle.laying.specs.BoxLaws.{value_of}
-use Rattle.laying.proofs.BoxLaws.{box_measured, cells_done, put_amount, put_words, put_cells_length}
+use Rattle.laying.proofs.BoxLaws.{box_measured, put_amount}
 use Rattle.layouts.specs.Plain.{stat_shape}
 use Rattle.laying.proofs.LayingLaws.{drop_take}
 use Rattle.stats.specs.Unix as U
 use Rattle.stats.specs.Stats.{Followed, Blank, Sized}
+use Rattle.stats.specs.Appending.{put_then}
 use Rattle.stats.specs.Following.{length_follow, then_follow, merged}
 
 -- ---- whether the bytes from `start` on agree
@@ -56,7 +57,7 @@ pub first_within : {s : List ℕ} {start x first : ℕ} {p : Place} → NumRead 
 first_within r e = let S = size r e in let a = S.two in let b = S.first_is in omega arith
 
 module _ (fs : List Shape) {s : List ℕ} {start x : ℕ} {p : Place} (l : start ≤ length s) (r : NumRead 2 s (Ok start) x p) where
-  pub agree_short : {k : Refusal} {at : ℕ} → p ≡ Err (k, at) → false ≡ agrees fs (drop start s)
+  pub agree_short : {f : Fault} → p ≡ Err f → false ≡ agrees fs (drop start s)
   unfolding agrees
   agree_short e =
       let d = length-drop start s in
@@ -104,25 +105,14 @@ module _ (fs : List Shape) {s : List ℕ} {start x : ℕ} {p : Place} (l : start
 
 -- ---- where its fields are
 
-pub start_within : (s : List ℕ) {start n : ℕ} {t : Bool} → Within start n (length s) t → t ≡ true → start ≤ length (take (start + n) s)
-start_within s {start} {n} i h = let l = length-take-le (start + n) s (inside i h) in omega arith
-
--- what agrees has room for its size
-pub start_two : (fs : List Shape) (s : List ℕ) (start n : ℕ) {b : Bool} → start + n ≤ length s → b ≡ agrees fs (drop start (take (start + n) s)) → b ≡ true → start + 2 ≤ length s
-start_two fs s start n a g w =
-    let l = length-take-le (start + n) s a in
-    let d = length-drop start (take (start + n) s) in
-    let two = (agreed fs (drop start (take (start + n) s)) (sym g ∙ w)).two in
-    omega arith
-
 -- the count is cut off
-pub open_cut : {fs : List Shape} {s : List ℕ} {p q : Place} {n : ℕ} {k : Refusal} {at : ℕ} → NumRead 2 s p n q → q ≡ Err (k, at) → Opened fs s p q (length s)
+pub open_cut : {fs : List Shape} {s : List ℕ} {p q : Place} {n : ℕ} {w : Fault} → NumRead 2 s p n q → q ≡ Err w → Opened fs s p q (length s)
 unfolding past_field read_field
-open_cut {fs} {s} {p} {q} {n} {k} {at} r e = record { lies = omega arith; refuses = λ j b f. from p (num_refused r e).reads ∙ sym e ∙ f; opens = λ m f. absurd (let d = sym e ∙ f in let z : ◌≡◌ {A = ℕ} 0 1 = cc d in omega arith) }
+open_cut {fs} {s} {p} {q} {n} {w} r e = record { lies = omega arith; refuses = λ j b f. from p (num_refused r e).reads ∙ sym e ∙ f; opens = λ m f. absurd (let d = sym e ∙ f in let z : ◌≡◌ {A = ℕ} 0 1 = cc d in omega arith) }
   where
-    from : (x : Place) → read_at (read_num 2) s x ≡ bad k at → past_field (boxed fs) s x ≡ Err (k, at)
+    from : (x : Place) → read_at (read_num 2) s x ≡ bad w.0 w.1 → past_field (boxed fs) s x ≡ Err w
     from (Ok a) f = rw f
-    from (Err e) f = let g : e.0 ≡ k = cc f in let h : e.1 ≡ at = cc f in ap₂ Err (g, h)
+    from (Err d) f = let g : d.0 ≡ w.0 = cc f in let h : d.1 ≡ w.1 = cc f in rw (← g, ← h)
 
 module _ (fs : List Shape) {s : List ℕ} {p : Place} {n start : ℕ} (H : Held 2 s p n start) where
   past_is : past_field (boxed fs) s p
@@ -221,7 +211,7 @@ pub stat_put : {fs : List Shape} {vs : List Slot} {lent : List ℕ} {n : ℕ} {o
 stat_put e a1 a2 a3 = rw (← e.is) (put_amount a1 (put_amount a2 a3))
 
 -- over plain variables: said of the code itself, each field would carry the types of all that follow
-pub fields_put : {lent : List ℕ} {x1 x2 x3 x4 x5 x6 x7 x8 x9 s1 l1 s2 l2 s3 l3 s4 l4 : ℕ} {o0 o1 o2 o3 o4 o5 o6 o7 o8 o9 o10 o11 o12 o13 o14 o15 o16 o17 : List ℕ} {p0 p1 p2 p3 p4 p5 p6 p7 p8 p9 p10 p11 p12 p13 p14 p15 p16 p17 : Place}
+pub fields_put : {lent : List ℕ} {x1 x2 x3 x4 x5 x6 x7 x8 x9 s1 l1 s2 l2 s3 l3 s4 l4 : ℕ} {o0 o1 o2 o3 o4 o5 o6 o7 o8 o9 o10 o11 o12 o13 : List ℕ} {p0 p1 p2 p3 p4 p5 p6 p7 p8 p9 p10 p11 p12 p13 : Place}
     → Put (to_le 2 x1) o0 p0 o1 p1
     → Put (to_le 4 x2) o1 p1 o2 p2
     → Put (to_le 1 x3) o2 p2 o3 p3
@@ -231,13 +221,10 @@ pub fields_put : {lent : List ℕ} {x1 x2 x3 x4 x5 x6 x7 x8 x9 s1 l1 s2 l2 s3 l3
     → Put (to_le 4 x7) o6 p6 o7 p7
     → Put (to_le 4 x8) o7 p7 o8 p8
     → Put (to_le 8 x9) o8 p8 o9 p9
-    → Put (to_le 2 l1) o9 p9 o10 p10 → SpanPut lent s1 l1 o10 p10 o11 p11
-    → Put (to_le 2 l2) o11 p11 o12 p12 → SpanPut lent s2 l2 o12 p12 o13 p13
-    → Put (to_le 2 l3) o13 p13 o14 p14 → SpanPut lent s3 l3 o14 p14 o15 p15
-    → Put (to_le 2 l4) o15 p15 o16 p16 → SpanPut lent s4 l4 o16 p16 o17 p17
-    → CellsPut stat_shape lent (slot x1 ∷ slot x2 ∷ slot x3 ∷ slot x4 ∷ slot x5 ∷ slot x6 ∷ slot x7 ∷ slot x8 ∷ slot x9 ∷ text s1 l1 ∷ text s2 l2 ∷ text s3 l3 ∷ text s4 l4 ∷ []) o0 p0 o17 p17
-fields_put a1 a2 a3 a4 a5 a6 a7 a8 a9 a10 a11 a12 a13 a14 a15 a16 a17 =
-    put_amount a1 (put_amount a2 (put_amount a3 (put_amount a4 (put_amount a5 (put_amount a6 (put_amount a7 (put_amount a8 (put_amount a9 (put_words a10 a11 (put_words a12 a13 (put_words a14 a15 (put_words a16 a17 cells_done))))))))))))
-
-pub cells_length : {fs : List Shape} {lent : List ℕ} {vs : List Slot} {o o' : List ℕ} {p q : Place} → CellsPut fs lent vs o p o' q → length o' ≡ length o
-cells_length {fs} {lent} {vs} {o} {p = p} c = ap length c.bytes ∙ put_cells_length fs lent vs o p
+    → CellsPut (worded ∷ []) lent (text s1 l1 ∷ []) o9 p9 o10 p10
+    → CellsPut (worded ∷ []) lent (text s2 l2 ∷ []) o10 p10 o11 p11
+    → CellsPut (worded ∷ []) lent (text s3 l3 ∷ []) o11 p11 o12 p12
+    → CellsPut (worded ∷ []) lent (text s4 l4 ∷ []) o12 p12 o13 p13
+    → CellsPut stat_shape lent (slot x1 ∷ slot x2 ∷ slot x3 ∷ slot x4 ∷ slot x5 ∷ slot x6 ∷ slot x7 ∷ slot x8 ∷ slot x9 ∷ text s1 l1 ∷ text s2 l2 ∷ text s3 l3 ∷ text s4 l4 ∷ []) o0 p0 o13 p13
+fields_put a1 a2 a3 a4 a5 a6 a7 a8 a9 b1 b2 b3 b4 =
+    put_amount a1 (put_amount a2 (put_amount a3 (put_amount a4 (put_amount a5 (put_amount a6 (put_amount a7 (put_amount a8 (put_amount a9 (put_then refl b1 (put_then refl b2 (put_then refl b3 b4)))))))))))

@@ -5,7 +5,8 @@
 
 pub mod unix;
 
-ghost use Rattle.std.specs.Prelude.{◌≤◌, ◌<◌, ◌≡◌, [], ◌∷◌, map, length, drop};
+ghost use Rattle.std.specs.Prelude.{◌+◌, ◌≤◌, ◌<◌, ◌≡◌, min, [], ◌∷◌, map, length, drop};
+ghost use Rattle.fields.specs.Values.{text};
 ghost use Rattle.fields.specs.Layouts.{fixed, worded, boxed, agrees};
 ghost use Rattle.fields.specs.Fields.{FieldRead, Fields};
 ghost use Rattle.fields.specs.BoxLaws.{plain_of, Opened};
@@ -34,25 +35,34 @@ pub struct Stat {
     pub muid: Span,
 }
 
-// Where the fields of a stat begin, if its counts agree, and where they end.
+// Where the fields of a stat begin, if its counts agree, and where they end; refused, the end is that of the bytes, so that a reader goes on
+// through its fields without a branch.
 #[derive(Clone, Copy)]
 pub(crate) struct Open {
     pub(crate) at: Place,
     pub(crate) end: usize,
 }
 
+// The bytes of a stat's numbers: type[2] dev[4] qid[13] mode[4] atime[4] mtime[4] length[8].
+const NUMBERS: usize = 39;
+
+// The bytes of the three numbers that end a stat of 9P2000.u: n_uid[4] n_gid[4] n_muid[4].
+const MORE_NUMBERS: usize = 12;
+
+// The greatest number of two bytes, which a stat's counts and its strings' have.
+const GREATEST: usize = 65535;
+
 // The place after `n` bytes.
+#[tactic(auto, using(crate::specs::Following::skip_held, crate::specs::Following::skip_short))]
 fn skip(s: &[u8], p: Place, n: usize) -> Place
     requires { 0 < n }
     ensures { Followed (fixed n ∷ []) s.now p result }
 {
-    let Ok(at) = p else {
-        return p;
-    };
-    if numbers::within(at, n, s.len()) {
-        return Ok(at + n);
+    let at = p?;
+    if !numbers::within(at, n, s.len()) {
+        return Err(Fault(Refusal::Short, 0));
     }
-    Err(Fault(Refusal::Short, 0))
+    Ok(at + n)
 }
 
 // The place after a string, whose text is not looked at.
@@ -60,51 +70,48 @@ fn pass(s: &[u8], p: Place) -> Place
     ensures { Followed (worded ∷ []) s.now p result }
 {
     let count = numbers::read_u16(s, p);
-    let q = count.next;
-    let Ok(start) = q else {
-        return q;
-    };
+    let start = count.next?;
     let len = count.value as usize;
-    if numbers::within(start, len, s.len()) {
-        return Ok(start + len);
+    if !numbers::within(start, len, s.len()) {
+        return Err(Fault(Refusal::Short, 0));
     }
-    Err(Fault(Refusal::Short, 0))
+    Ok(start + len)
 }
 
-// The place after the fields of a stat, or of one with the four fields of 9P2000.u.
+// The place after the fields of a stat: its numbers, then its four strings; or after those of 9P2000.u's, which has a string and three
+// numbers more. A switch, since one code opens both and they part only here.
 fn follow(s: &[u8], p: Place, longer: bool) -> Place
     ensures { Followed (shape_of longer) s.now p result }
 {
-    let p1 = skip(s, p, 39);
-    let p2 = pass(s, p1);
-    let p3 = pass(s, p2);
-    let p4 = pass(s, p3);
-    let p5 = pass(s, p4);
-    if longer {
-        let p6 = pass(s, p5);
-        return skip(s, p6, 12);
+    let numbers = skip(s, p, NUMBERS);
+    let name = pass(s, numbers);
+    let uid = pass(s, name);
+    let gid = pass(s, uid);
+    let muid = pass(s, gid);
+    if !longer {
+        return muid;
     }
-    p5
+    let extension = pass(s, muid);
+    skip(s, extension, MORE_NUMBERS)
 }
 
 // Whether the bytes from `start` on are a size and the fields of a stat, which end where the bytes do.
+#[tactic(auto, using(crate::specs::StatLaws::first_within, crate::specs::StatLaws::agree_short, crate::specs::StatLaws::agree_size, crate::specs::StatLaws::agree_refused, crate::specs::StatLaws::agree_end))]
 fn agree(s: &[u8], start: usize, longer: bool) -> bool
     requires { start ≤ length s.now }
     ensures { result ≡ agrees (shape_of longer) (drop start s.now) }
 {
     let size = numbers::read_u16(s, Ok(start));
-    let p = size.next;
-    let Ok(first) = p else {
+    let Ok(first) = size.next else {
         return false;
     };
-    if size.value as usize == s.len() - first {
-        let q = follow(s, Ok(first), longer);
-        let Ok(end) = q else {
-            return false;
-        };
-        return end == s.len();
+    if size.value as usize != s.len() - first {
+        return false;
     }
-    false
+    match follow(s, Ok(first), longer) {
+        Ok(end) => end == s.len(),
+        Err(_) => false,
+    }
 }
 
 // The n bytes that a stat's count names must be held: 1; then they must agree: 18.
@@ -112,30 +119,29 @@ pub(crate) fn open_stat(s: &[u8], p: Place, longer: bool) -> Open
     ensures { Opened (shape_of longer) s.now p result.at result.end }
 {
     let count = numbers::read_u16(s, p);
-    let q = count.next;
-    let Ok(start) = q else {
+    let Ok(start) = count.next else {
         return Open {
-            at: q,
+            at: count.next,
             end: s.len(),
         };
     };
     let n = count.value as usize;
-    if numbers::within(start, n, s.len()) {
-        let end = start + n;
-        if agree(&s[..end], start, longer) {
-            return Open {
-                at: Ok(start + 2),
-                end,
-            };
-        }
+    if !numbers::within(start, n, s.len()) {
+        return Open {
+            at: Err(Fault(Refusal::Short, 0)),
+            end: s.len(),
+        };
+    }
+    let end = start + n;
+    if !agree(&s[..end], start, longer) {
         return Open {
             at: Err(Fault(Refusal::StatMalformed, 0)),
             end: s.len(),
         };
     }
     Open {
-        at: Err(Fault(Refusal::Short, 0)),
-        end: s.len(),
+        at: Ok(start + 2),
+        end,
     }
 }
 
@@ -165,144 +171,121 @@ pub(crate) fn no_stat(next: Place) -> Read<Stat>
 }
 
 // The fields of a stat that has been opened, one after another.
-pub(crate) fn read_fields(t: &[u8], p0: Place) -> Read<Stat>
-    ensures { Fields (map plain_of stat_shape) t.now p0 (map value_of (slots result.value)) result.next }
+pub(crate) fn read_fields(t: &[u8], p: Place) -> Read<Stat>
+    ensures { Fields (map plain_of stat_shape) t.now p (map value_of (slots result.value)) result.next }
 {
-    let r1 = numbers::read_u16(t, p0);
-    let p1 = r1.next;
-    let r2 = numbers::read_u32(t, p1);
-    let p2 = r2.next;
-    let r3 = qids::read_qid(t, p2);
-    let p3 = r3.next;
-    let qid = r3.value;
-    let r4 = numbers::read_u32(t, p3);
-    let p4 = r4.next;
-    let r5 = numbers::read_u32(t, p4);
-    let p5 = r5.next;
-    let r6 = numbers::read_u32(t, p5);
-    let p6 = r6.next;
-    let r7 = numbers::read_u64(t, p6);
-    let p7 = r7.next;
-    let r8 = strings::read_str(t, p7);
-    let p8 = r8.next;
-    let name = r8.value;
-    let r9 = strings::read_str(t, p8);
-    let p9 = r9.next;
-    let uid = r9.value;
-    let r10 = strings::read_str(t, p9);
-    let p10 = r10.next;
-    let gid = r10.value;
-    let r11 = strings::read_str(t, p10);
-    let next = r11.next;
-    let muid = r11.value;
+    let ty = numbers::read_u16(t, p);
+    let dev = numbers::read_u32(t, ty.next);
+    let qid = qids::read_qid(t, dev.next);
+    let mode = numbers::read_u32(t, qid.next);
+    let atime = numbers::read_u32(t, mode.next);
+    let mtime = numbers::read_u32(t, atime.next);
+    let length = numbers::read_u64(t, mtime.next);
+    let name = strings::read_str(t, length.next);
+    let uid = strings::read_str(t, name.next);
+    let gid = strings::read_str(t, uid.next);
+    let muid = strings::read_str(t, gid.next);
     let value = Stat {
-        ty: r1.value,
-        dev: r2.value,
-        qid,
-        mode: r4.value,
-        atime: r5.value,
-        mtime: r6.value,
-        length: r7.value,
-        name,
-        uid,
-        gid,
-        muid,
+        ty: ty.value,
+        dev: dev.value,
+        qid: qid.value,
+        mode: mode.value,
+        atime: atime.value,
+        mtime: mtime.value,
+        length: length.value,
+        name: name.value,
+        uid: uid.value,
+        gid: gid.value,
+        muid: muid.value,
     };
-    Read { value, next }
+    Read {
+        value,
+        next: muid.next,
+    }
 }
 
 // A stat at a place: 1, then 18, then 5 and 6 of its strings.
 pub fn read_stat(s: &[u8], p: Place) -> Read<Stat>
     ensures { FieldRead (boxed stat_shape) s.now p (stat_of result.value) result.next }
 {
-    let o = open_stat(s, p, false);
-    let p0 = o.at;
-    let r = read_fields(&s[..o.end], p0);
-    let next = r.next;
-    let Ok(_) = next else {
-        return no_stat(next);
+    let open = open_stat(s, p, false);
+    let r = read_fields(&s[..open.end], open.at);
+    let Ok(_) = r.next else {
+        return no_stat(r.next);
     };
     r
 }
 
-// How long a stat's fields are; a string that may not be written counts for as much as refuses the stat, so that no sum wraps.
+// How long a string is with its count; one that may not be written counts for as much as refuses the stat, so that no sum wraps.
+pub(crate) fn size_of_str(v: Span) -> usize
+    ensures { result ≡ 2 + min v.len 65536 }
+{
+    2 + v.len.min(GREATEST + 1)
+}
+
+// How long a stat's fields are.
 pub(crate) fn size_of(v: Stat) -> usize
     ensures { Sized stat_shape (slots v) result }
 {
-    let name = v.name;
-    let uid = v.uid;
-    let gid = v.gid;
-    let muid = v.muid;
-    let a = numbers::min(name.len, 65536);
-    let b = numbers::min(uid.len, 65536);
-    let c = numbers::min(gid.len, 65536);
-    let d = numbers::min(muid.len, 65536);
-    47 + a + b + c + d
+    NUMBERS + size_of_str(v.name) + size_of_str(v.uid) + size_of_str(v.gid) + size_of_str(v.muid)
 }
 
 // A place, unless a count above 65,535 would have to stand before what was measured up to it: 18.
 pub(crate) fn counted(p: Place, n: usize) -> Place
     ensures { Countable n p result }
 {
-    let Ok(_) = p else {
-        return p;
-    };
-    if 65535 < n {
+    let at = p?;
+    if GREATEST < n {
         return Err(Fault(Refusal::StatMalformed, 0));
     }
-    p
+    Ok(at)
 }
 
 // The fields of a stat at a place, checked.
 pub(crate) fn measure_fields(lent: &[u8], v: Stat, p: Place) -> Place
     ensures { Measured (map plain_of stat_shape) lent.now (map value_of (slots v)) p result }
 {
-    let p1 = laying::advanced(p, 39);
-    let name = v.name;
-    let p2 = laying::measure_str(lent, name, p1);
-    let uid = v.uid;
-    let p3 = laying::measure_str(lent, uid, p2);
-    let gid = v.gid;
-    let p4 = laying::measure_str(lent, gid, p3);
-    let muid = v.muid;
-    laying::measure_str(lent, muid, p4)
+    let numbers = laying::advanced(p, NUMBERS);
+    let name = laying::measure_str(lent, v.name, numbers);
+    let uid = laying::measure_str(lent, v.uid, name);
+    let gid = laying::measure_str(lent, v.gid, uid);
+    laying::measure_str(lent, v.muid, gid)
 }
 
 // A stat at a place, checked: its strings' 9, 7, 5, 6, then 18; then the place after it.
 pub fn measure_stat(lent: &[u8], v: Stat, p: Place) -> Place
     ensures { FieldMeasured (boxed stat_shape) lent.now (stat_of v) p result }
 {
-    let p1 = laying::advanced(p, 4);
-    let p2 = measure_fields(lent, v, p1);
-    counted(p2, 2 + size_of(v))
+    let start = laying::advanced(p, 4);
+    let end = measure_fields(lent, v, start);
+    counted(end, 2 + size_of(v))
+}
+
+// A string at a place, its count before it. It is for `measure_stat` to say that it may be put.
+pub(crate) fn put_text(out: &mut [u8], p: Place, lent: &[u8], v: Span) -> Place
+    ensures { CellsPut (worded ∷ []) lent.now (text v.start v.len ∷ []) out.old p out.new result }
+{
+    let q = numbers::put_num(out, p, v.len as u64, 2);
+    strings::put_bytes(out, q, lent, v)
 }
 
 // The fields of a stat, put at a place.
 pub(crate) fn put_fields(out: &mut [u8], p: Place, lent: &[u8], v: Stat) -> Place
     ensures { CellsPut stat_shape lent.now (slots v) out.old p out.new result }
 {
-    let q1 = numbers::put_u16(out, p, v.ty);
-    let q2 = numbers::put_u32(out, q1, v.dev);
-    let qid = v.qid;
-    let q3 = numbers::put_u8(out, q2, qid.ty);
-    let q4 = numbers::put_u32(out, q3, qid.version);
-    let q5 = numbers::put_u64(out, q4, qid.path);
-    let q6 = numbers::put_u32(out, q5, v.mode);
-    let q7 = numbers::put_u32(out, q6, v.atime);
-    let q8 = numbers::put_u32(out, q7, v.mtime);
-    let q9 = numbers::put_u64(out, q8, v.length);
-    let name = v.name;
-    let q10 = numbers::put_num(out, q9, name.len as u64, 2);
-    let q11 = strings::put_bytes(out, q10, lent, name);
-    let uid = v.uid;
-    let q12 = numbers::put_num(out, q11, uid.len as u64, 2);
-    let q13 = strings::put_bytes(out, q12, lent, uid);
-    let gid = v.gid;
-    let q14 = numbers::put_num(out, q13, gid.len as u64, 2);
-    let q15 = strings::put_bytes(out, q14, lent, gid);
-    let muid = v.muid;
-    let q16 = numbers::put_num(out, q15, muid.len as u64, 2);
-    strings::put_bytes(out, q16, lent, muid)
+    let ty = numbers::put_u16(out, p, v.ty);
+    let dev = numbers::put_u32(out, ty, v.dev);
+    let kind = numbers::put_u8(out, dev, v.qid.ty);
+    let version = numbers::put_u32(out, kind, v.qid.version);
+    let path = numbers::put_u64(out, version, v.qid.path);
+    let mode = numbers::put_u32(out, path, v.mode);
+    let atime = numbers::put_u32(out, mode, v.atime);
+    let mtime = numbers::put_u32(out, atime, v.mtime);
+    let length = numbers::put_u64(out, mtime, v.length);
+    let name = put_text(out, length, lent, v.name);
+    let uid = put_text(out, name, lent, v.uid);
+    let gid = put_text(out, uid, lent, v.gid);
+    put_text(out, gid, lent, v.muid)
 }
 
 // The bytes of a stat at a place: its count, its size, its fields. It is for `measure_stat` to say that they may be put.
@@ -310,7 +293,7 @@ pub fn put_stat(out: &mut [u8], p: Place, lent: &[u8], v: Stat) -> Place
     ensures { CellsPut (with_sizes stat_shape) lent.now (sized stat_shape (slots v)) out.old p out.new result }
 {
     let size = size_of(v);
-    let q1 = numbers::put_num(out, p, (2 + size) as u64, 2);
-    let q2 = numbers::put_num(out, q1, size as u64, 2);
-    put_fields(out, q2, lent, v)
+    let count = numbers::put_num(out, p, (2 + size) as u64, 2);
+    let start = numbers::put_num(out, count, size as u64, 2);
+    put_fields(out, start, lent, v)
 }

@@ -549,10 +549,7 @@ ghost use Rattle.pairs.specs.Pairs.{{knows}};
 pub(crate) fn known_request(ty: u8) -> bool
     ensures {{ result ≡ knows table_t ty }}
 {{
-    match ty {{
-        {} => true,
-        _ => false,
-    }}
+    matches!(ty, {})
 }}
 ",
         rows.len(),

@@ -1,14 +1,9 @@
--- The invariant: with the pieces that are still to come, the table is what it shall be. The measure is how many are to come.
-use Prim.Native.Nat.{◌≤◌, ◌-◌, ◌+◌}
-use mathlib.Core.Path.{◌≡◌}
-use lib.ListN.{length}
+-- The invariant: what is left ends where the write does, and with the pieces that are still to come the rows are what they shall be.
+use Rattle.std.proofs.Common.{◌≡◌, ◌+◌, ◌-◌, length}
 use lib.Seq.{sets}
 use Rattle.planning.specs.Plans.{cut}
 use Rattle.planning.proofs.put_pieces.Given as goal
 
-abbrev pub invariant-loop-i : goal.invariant-loop-i
-invariant-loop-i l =
-    (l.i ≤ l.n) × (length l.table ≡ length l.initial.table) × (l.at + l.left ≡ l.first + l.len) × (sets l.table l.i (cut l.most (l.n - l.i) l.at l.left) ≡ sets l.initial.table 0 (cut l.most l.n l.first l.len))
-
-abbrev pub decreases-loop-i : goal.decreases-loop-i
-decreases-loop-i l = l.n - l.i
+abbrev pub invariant-loop-row : goal.invariant-loop-row
+invariant-loop-row l =
+    (l.at + l.left ≡ l.first + l.len) × (sets l.row-items l.row-index (cut l.most (length l.fn.rows - l.row-index) l.at l.left) ≡ cut l.most (length l.fn.rows) l.first l.len)

@@ -1,11 +1,10 @@
-use Rattle.std.proofs.Common.{arith, rules}
 use Rattle.questions.proofs.Loops.{numbers_turn, numbers_over}
 use Rattle.questions.proofs.numbers_of.Goals as goal
 
-pub loop-i-preserved : goal.loop-i-preserved
-loop-i-preserved c =
-    (search rules, search rules, numbers_turn c.args.figures.now c.loop-i.numbers c.loop-i.i c.loop-i.at _ _ (omega arith) c.next_at-at.ensures.0 c.more.ensures c.loop-i.invariant.2)
+pub loop-c-preserved : goal.loop-c-preserved
+loop-c-preserved c =
+    let l = c.loop-c in
+    (c.next_at-at.ensures.1, numbers_turn c.args.figures.now l.numbers l.c-index l.at _ _ c.loop-c-test.true c.next_at-at.ensures.0 c.more.ensures l.invariant.1)
 
 pub returns : goal.returns
-returns c =
-    numbers_over c.args.figures.now c.loop-i.numbers c.loop-i.i c.loop-i.at (omega arith) c.loop-i.invariant.2
+returns c = let l = c.loop-c in numbers_over c.args.figures.now l.numbers l.c-index l.at c.loop-c-test.false l.invariant.1

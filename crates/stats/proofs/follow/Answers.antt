@@ -2,11 +2,11 @@
 use Rattle.stats.specs.StatLaws.{stat_followed, unix_followed}
 use Rattle.stats.proofs.follow.Goals as goal
 
-pub returns-then-longer : goal.returns-then-longer
-returns-then-longer c =
-    rw c.if-longer.true
-    (unix_followed (stat_followed c.skip-p1.ensures c.pass-p2.ensures c.pass-p3.ensures c.pass-p4.ensures c.pass-p5.ensures) c.pass-p6.ensures c.skip.ensures)
+pub returns-then-not-longer : goal.returns-then-not-longer
+returns-then-not-longer c =
+    rw c.if-not-longer.true (stat_followed c.skip-numbers.ensures c.pass-name.ensures c.pass-uid.ensures c.pass-gid.ensures c.pass-muid.ensures)
 
 pub returns : goal.returns
 returns c =
-    rw c.if-longer.false (stat_followed c.skip-p1.ensures c.pass-p2.ensures c.pass-p3.ensures c.pass-p4.ensures c.pass-p5.ensures)
+    rw c.if-not-longer.false
+    (unix_followed (stat_followed c.skip-numbers.ensures c.pass-name.ensures c.pass-uid.ensures c.pass-gid.ensures c.pass-muid.ensures) c.pass-extension.ensures c.skip.ensures)

@@ -3,5 +3,4 @@ use Rattle.stats.specs.StatLaws.{stat_measured}
 use Rattle.stats.proofs.measure_stat.Goals as goal
 
 pub returns : goal.returns
-returns c =
-    stat_measured c.advanced-p1.ensures c.measure_fields-p2.ensures c.size_of.ensures c.counted.ensures
+returns c = stat_measured c.advanced-start.ensures c.measure_fields-end.ensures c.size_of.ensures c.counted.ensures

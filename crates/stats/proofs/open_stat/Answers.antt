@@ -7,14 +7,14 @@ use Rattle.stats.proofs.open_stat.Goals as goal
 pub returns-in_default : goal.returns-in_default
 returns-in_default c = open_cut c.read_u16-count.ensures c.in_default.is
 
-pub returns-then-agree : goal.returns-then-agree
-returns-then-agree c =
-    open_well _ (num_holds (omega arith) c.read_u16-count.ensures c.in-Ok.is) (inside c.within.ensures c.if-within.true) c.agree.ensures c.if-agree.true
+pub returns-then-not-within : goal.returns-then-not-within
+returns-then-not-within c =
+    open_short _ (num_holds (omega arith) c.read_u16-count.ensures c.in-Ok.is) c.within.ensures c.if-not-within.true
 
-pub returns-then-within : goal.returns-then-within
-returns-then-within c =
-    open_wrong _ (num_holds (omega arith) c.read_u16-count.ensures c.in-Ok.is) (inside c.within.ensures c.if-within.true) c.agree.ensures c.if-agree.false
+pub returns-then-not-agree : goal.returns-then-not-agree
+returns-then-not-agree c =
+    open_wrong _ (num_holds (omega arith) c.read_u16-count.ensures c.in-Ok.is) (inside c.within.ensures c.if-not-within.false) c.agree.ensures c.if-not-agree.true
 
 pub returns : goal.returns
 returns c =
-    open_short _ (num_holds (omega arith) c.read_u16-count.ensures c.in-Ok.is) c.within.ensures c.if-within.false
+    open_well _ (num_holds (omega arith) c.read_u16-count.ensures c.in-Ok.is) (inside c.within.ensures c.if-not-within.false) c.agree.ensures c.if-not-agree.false

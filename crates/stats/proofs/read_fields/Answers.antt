@@ -4,4 +4,4 @@ use Rattle.stats.proofs.read_fields.Goals as goal
 
 pub returns : goal.returns
 returns c =
-    field (number_field c.read_u16-r1.ensures) (field (number_field c.read_u32-r2.ensures) (qid_fields c.read_qid-r3.ensures (field (number_field c.read_u32-r4.ensures) (field (number_field c.read_u32-r5.ensures) (field (number_field c.read_u32-r6.ensures) (field (number_field c.read_u64-r7.ensures) (field (string_field c.read_str-r8.ensures) (field (string_field c.read_str-r9.ensures) (field (string_field c.read_str-r10.ensures) (field (string_field c.read_str-r11.ensures) done))))))))))
+    field (number_field c.read_u16-ty.ensures) (field (number_field c.read_u32-dev.ensures) (qid_fields c.read_qid-qid.ensures (field (number_field c.read_u32-mode.ensures) (field (number_field c.read_u32-atime.ensures) (field (number_field c.read_u32-mtime.ensures) (field (number_field c.read_u64-length.ensures) (field (string_field c.read_str-name.ensures) (field (string_field c.read_str-uid.ensures) (field (string_field c.read_str-gid.ensures) (field (string_field c.read_str-muid.ensures) done))))))))))

@@ -7,9 +7,9 @@ use Rattle.stats.proofs.read_stat.Goals as goal
 pub returns-in_default : goal.returns-in_default
 returns-in_default c =
     let b = bytes_all c.args.s.now (λ i. (c.type_inv.s i).fits) in
-    blank_read c.no_stat.ensures (box_refused c.open_stat-o.ensures b c.read_fields-r.ensures c.in_default.is)
+    blank_read c.no_stat.ensures (box_refused c.open_stat-open.ensures b c.read_fields-r.ensures c.in_default.is)
 
 pub returns : goal.returns
 returns c =
     let b = bytes_all c.args.s.now (λ i. (c.type_inv.s i).fits) in
-    box_read c.open_stat-o.ensures b c.read_fields-r.ensures c.in-Ok.is
+    box_read c.open_stat-open.ensures b c.read_fields-r.ensures c.in-Ok.is

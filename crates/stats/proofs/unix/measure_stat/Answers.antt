@@ -8,6 +8,6 @@ use Rattle.stats.proofs.unix.measure_stat.Goals as goal
 
 pub returns : goal.returns
 returns c =
-    stat_measured c.advanced-p1.ensures
-    (measured_then refl c.measure_fields-p2.ensures (measure c.measure_str-p3.ensures (measure_numbers 4 (4 ∷ 4 ∷ []) c.advanced-p4.ensures measured_none)))
+    stat_measured c.advanced-start.ensures
+    (measured_then refl c.measure_fields-plain.ensures (measure c.measure_str-extension.ensures (measure_numbers 4 (4 ∷ 4 ∷ []) c.advanced-end.ensures measured_none)))
     c.size_of.ensures c.counted.ensures
