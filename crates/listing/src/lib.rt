@@ -10,7 +10,7 @@ ghost use Rattle.numbers.specs.Refusals.{number_of};
 ghost use Rattle.stretch.specs.Views.{view_body};
 ghost use Rattle.listing.specs.Text.{answer_number, header, end_word, stop_word, too_long, DecimalPut, FieldPut, TailPut, FramePut, LinePut, LastPut, LinesPut, ReportPut, position_of, Reported};
 
-use numbers::{Fault, Place, Refusal};
+use numbers::{Place, Refusal};
 use replies::Rbody;
 use requests::Tbody;
 use stretch::{Body, Listed, Step};
