@@ -12,7 +12,6 @@ ghost use Rattle.stretch.specs.Views.{view_body};
 ghost use Rattle.session.specs.Rules.{none};
 ghost use Rattle.events.specs.Events.{asks, unless_same, unless_none, asked_by, qids_in, what_in, event_of};
 
-use numbers::Fault;
 use common::sessions::Tflush;
 use common::walking::Twalk;
 use layouts::ids::Fid;
@@ -47,19 +46,13 @@ fn request(ty: u8, new: u64, known: u64, to: u64) -> Request
 fn unless_same(new: Fid, fid: Fid) -> u64
     ensures { result ≡ unless_same new.0 fid.0 }
 {
-    if new.0 == fid.0 {
-        return NONE;
-    }
-    new.0 as u64
+    if new.0 == fid.0 { NONE } else { new.0 as u64 }
 }
 
 fn unless_none(afid: Fid) -> u64
     ensures { result ≡ unless_none afid.0 }
 {
-    if afid.0 == NOFID {
-        return NONE;
-    }
-    afid.0 as u64
+    if afid.0 == NOFID { NONE } else { afid.0 as u64 }
 }
 
 // A request whose first fid must be known, and that does nothing to it.
@@ -85,51 +78,45 @@ fn auth(afid: Fid) -> Request
 fn attach(m: Tattach) -> Request
     ensures { result ≡ asked_by 104 (tattach m) }
 {
-    let fid = m.fid;
-    let afid = m.afid;
-    request(104, fid.0 as u64, unless_none(afid), fid.0 as u64)
+    request(104, m.fid.0 as u64, unless_none(m.afid), m.fid.0 as u64)
 }
 
 fn flush(m: Tflush) -> Request
     ensures { result ≡ asked_by 108 (tflush m) }
 {
-    let oldtag = m.oldtag;
-    let mut r = request(108, NONE, NONE, NONE);
-    r.old = oldtag.0;
-    r
+    Request {
+        old: m.oldtag.0,
+        ..request(108, NONE, NONE, NONE)
+    }
 }
 
 fn walk(m: Twalk) -> Request
     ensures { result ≡ asked_by 110 (twalk m) }
 {
-    let fid = m.fid;
-    let newfid = m.newfid;
-    let wnames = m.wnames;
-    let elements = wnames.elements;
-    let mut r = request(110, unless_same(newfid, fid), fid.0 as u64, newfid.0 as u64);
-    r.count = wnames.count;
-    r.start = elements.start;
-    r.len = elements.len;
-    r
+    let new = unless_same(m.newfid, m.fid);
+    Request {
+        count: m.wnames.count,
+        start: m.wnames.elements.start,
+        len: m.wnames.elements.len,
+        ..request(110, new, m.fid.0 as u64, m.newfid.0 as u64)
+    }
 }
 
 fn xattr_walk(m: Txattrwalk) -> Request
     ensures { result ≡ asked_by 30 (txattrwalk m) }
 {
-    let fid = m.fid;
-    let newfid = m.newfid;
-    request(30, unless_same(newfid, fid), fid.0 as u64, newfid.0 as u64)
+    let new = unless_same(m.newfid, m.fid);
+    request(30, new, m.fid.0 as u64, m.newfid.0 as u64)
 }
 
 fn create(m: Tlcreate) -> Request
     ensures { result ≡ asked_by 14 (tlcreate m) }
 {
-    let fid = m.fid;
-    let name = m.name;
-    let mut r = request(14, NONE, fid.0 as u64, fid.0 as u64);
-    r.start = name.start;
-    r.len = name.len;
-    r
+    Request {
+        start: m.name.start,
+        len: m.name.len,
+        ..request(14, NONE, m.fid.0 as u64, m.fid.0 as u64)
+    }
 }
 
 // What a request asks, message by message.
@@ -173,10 +160,7 @@ fn qids_in(m: Rmessage) -> u16
     ensures { result ≡ qids_in (values_r m) }
 {
     match m {
-        Rmessage::Walk(m) => {
-            let wqids = m.wqids;
-            wqids.count
-        }
+        Rmessage::Walk(m) => m.wqids.count,
         _ => 0,
     }
 }
@@ -187,11 +171,11 @@ fn what_in(body: Body) -> What
     match body {
         Body::Request(b) => match b {
             Ok((m, _)) => What::Asks(asked_by(m)),
-            Err(Fault(k, _)) => What::Refused(k),
+            Err(f) => What::Refused(f.0),
         },
         Body::Reply(b) => match b {
             Ok((m, _)) => What::Answers(qids_in(m)),
-            Err(Fault(k, _)) => What::Refused(k),
+            Err(f) => What::Refused(f.0),
         },
     }
 }
@@ -200,12 +184,9 @@ fn what_in(body: Body) -> What
 pub fn event_of(l: Listed) -> Event
     ensures { result ≡ event_of l.ty l.tag.0 (view_body l.body) }
 {
-    let tag = l.tag;
-    let body = l.body;
-    let what = what_in(body);
     Event {
         ty: l.ty,
-        tag: tag.0,
-        what,
+        tag: l.tag.0,
+        what: what_in(l.body),
     }
 }

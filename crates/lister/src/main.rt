@@ -3,15 +3,13 @@
 #![tactic(auto)]
 
 use listing::input;
-use listing::input::Input;
 
 // No contract can say what is printed: none speaks of what C's `write` does. A program has no status either, so the script `run` makes one
 // of what is said on standard error.
 fn main(rt: HostRuntime) {
     // One byte more than may be listed, so that longer input is seen to be longer.
     let mut buf = [0u8; 65537];
-    let got = input::read(&mut rt.stdin(), &mut buf);
-    let Input::Read(len) = got else {
+    let Some(len) = input::read(&mut rt.stdin(), &mut buf) else {
         io::write_all(2, b"cannot read standard input\n");
         return;
     };

@@ -1,7 +1,7 @@
 -- The number that a body's answer is listed with, case by case.
 use Rattle.std.specs.Prelude.{ℕ, ◌≡◌, Ok, Err}
 use Rattle.numbers.specs.Refusals.{number_of}
-use Rattle.numbers.specs.declared.Refusal.{Refusal}
+use Rattle.numbers.specs.declared.Fault.{Fault}
 use Rattle.requests.specs.Views.{view_t, Tbody}
 use Rattle.requests.specs.declared.Tmessage.{Tmessage}
 use Rattle.replies.specs.Views.{view_r, Rbody}
@@ -16,7 +16,7 @@ module _ {c : Body} where
   unfolding view_body view_t
   number_of_request e f = rw (e, f)
 
-  pub number_of_no_request : {b : Tbody} {k : Refusal} {at : ℕ} {x : ℕ} → c ≡ B.Request b → b ≡ Err (k, at) → x ≡ number_of k → x ≡ answer_number (view_body c)
+  pub number_of_no_request : {b : Tbody} {f : Fault} {x : ℕ} → c ≡ B.Request b → b ≡ Err f → x ≡ number_of f.0 → x ≡ answer_number (view_body c)
   unfolding view_body view_t
   number_of_no_request e f h = rw (e, f) h
 
@@ -24,6 +24,6 @@ module _ {c : Body} where
   unfolding view_body view_r
   number_of_reply e f = rw (e, f)
 
-  pub number_of_no_reply : {b : Rbody} {k : Refusal} {at : ℕ} {x : ℕ} → c ≡ B.Reply b → b ≡ Err (k, at) → x ≡ number_of k → x ≡ answer_number (view_body c)
+  pub number_of_no_reply : {b : Rbody} {f : Fault} {x : ℕ} → c ≡ B.Reply b → b ≡ Err f → x ≡ number_of f.0 → x ≡ answer_number (view_body c)
   unfolding view_body view_r
   number_of_no_reply e f h = rw (e, f) h

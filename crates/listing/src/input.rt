@@ -4,23 +4,17 @@ ghost use Rattle.listing.specs.Inputs.{Holds};
 
 use std::io::Read;
 
-#[derive(Clone, Copy)]
-pub enum Input {
-    Read(usize),
-    Failed,
-}
-
-// Reads until the buffer is full or the input ends: so many bytes stand at the front of the buffer.
-pub fn read<R: Read>(source: &mut R, buf: &mut [u8]) -> Input
+// Reads until the buffer is full or the input ends: so many bytes stand at the front of the buffer. None where a read fails.
+pub fn read<R: Read>(source: &mut R, buf: &mut [u8]) -> Option<usize>
     ensures { Holds buf.new result }
 {
     let mut n = 0;
     while n < buf.len() {
         match source.read(&mut buf[n..]) {
-            Ok(0) => return Input::Read(n),
+            Ok(0) => return Some(n),
             Ok(more) => n += more,
-            Err(_) => return Input::Failed,
+            Err(_) => return None,
         }
     }
-    Input::Read(n)
+    Some(n)
 }

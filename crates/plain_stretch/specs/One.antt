@@ -1,6 +1,6 @@
 -- Written by tools/messages from crates/stretch/specs/One.antt.
 -- Any two answers that the promises of this crate allow are equal.
-use Rattle.std.specs.Prelude.{ℕ, ◌-◌, ◌≡◌, List}
+use Rattle.std.specs.Prelude.{ℕ, ◌≡◌, List}
 use Rattle.std.proofs.Common.{arith, ap}
 use Rattle.numbers.proofs.PlaceLaws.{one_answer}
 use Rattle.plain_requests.specs.Built.{one_body}

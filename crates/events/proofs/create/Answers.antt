@@ -3,4 +3,4 @@ use Rattle.events.proofs.Ways.{create_is}
 use Rattle.events.proofs.create.Goals as goal
 
 pub returns : goal.returns
-returns c = let a = c.args in create_is a.m c.request-r.ensures
+returns c = let a = c.args in create_is a.m c.request.ensures

@@ -3,4 +3,4 @@ use Rattle.events.proofs.Ways.{xattr_is}
 use Rattle.events.proofs.xattr_walk.Goals as goal
 
 pub returns : goal.returns
-returns c = let a = c.args in xattr_is a.m c.unless_same.ensures c.request.ensures
+returns c = let a = c.args in xattr_is a.m c.unless_same-new.ensures c.request.ensures
