@@ -148,7 +148,7 @@ fn put_entries(out: &mut [u8], names: &[u8], entries: &[[u64; 7]], count: usize)
 pub fn pack(out: &mut [u8], count: u32, names: &[u8], entries: &[[u64; 7]]) -> Packing
     ensures { PackedInto count names.now entries.now out.old out.new result }
 {
-    let room = numbers::min(count as usize, out.len());
+    let room = (count as usize).min(out.len());
     let fit = fitting(names, entries, room);
     let Packing::Packed(n, _) = fit else {
         return fit;

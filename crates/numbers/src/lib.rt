@@ -2,7 +2,7 @@
 
 #![tactic(auto)]
 
-ghost use Rattle.std.specs.Prelude.{◌≡◌, ◌+◌, ◌-◌, ◌^◌, ◌≤◌, ◌<◌, min as lesser, length, take, drop};
+ghost use Rattle.std.specs.Prelude.{◌≡◌, ◌+◌, ◌^◌, ◌≤◌, ◌<◌, length, take, drop};
 ghost use Rattle.numbers.specs.Refusals.{number_of};
 ghost use Rattle.numbers.specs.Numbers.{from_le, to_le};
 ghost use Rattle.numbers.specs.Places.{Within, NumRead, Put, over};
@@ -71,19 +71,6 @@ impl From<Refusal> for Fault {
 // Where a reading or a writing stands: at a position, or refused. It goes through the fields by value, so that a record's reader is one
 // straight line: whatever is asked at a refused place answers the same refusal.
 pub type Place = Result<usize, Fault>;
-
-pub fn min(a: usize, b: usize) -> usize
-    ensures { result ≡ lesser a b }
-{
-    a.min(b)
-}
-
-// The difference, 0 where there is none.
-pub fn saturating_sub(a: usize, b: usize) -> usize
-    ensures { result ≡ a - b }
-{
-    a.saturating_sub(b)
-}
 
 // Whether `n` bytes at `at` lie within `len` bytes. The sum is never formed, so nothing wraps.
 pub fn within(at: usize, n: usize, len: usize) -> bool

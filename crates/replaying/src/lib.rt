@@ -54,7 +54,7 @@ fn put_replay(out: &mut [u8], file: &[u8]) -> Place
         return listing::put_too_long(out, Ok(0));
     }
     if sealing::sealed(file) {
-        let end = numbers::saturating_sub(file.len(), sealing::TRAILER);
+        let end = file.len().saturating_sub(sealing::TRAILER);
         let p = listing::put_header(out, Ok(0));
         return put_lines(out, p, &file[..end]);
     }

@@ -34,5 +34,5 @@ pub(crate) fn list(from: usize, to: usize, s: &[u8]) {
     let n = put_joined(&mut out, s);
     questions::at(0, n);
     questions::word(b" ");
-    show(&out, from, numbers::min(n, to));
+    show(&out, from, n.min(to));
 }

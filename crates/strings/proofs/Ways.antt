@@ -1,20 +1,19 @@
 -- The ways that the checks, the reader and the writers of strings go: one law for each way out, over plain variables.
 use Rattle.std.specs.Prelude.{Ok, Err}
 use Rattle.numbers.specs.Place.{Place}
-use Prim.Native.Nat.{ℕ, ◌+◌, ◌-◌, ◌≤◌, ◌<◌, min}
+use Prim.Native.Nat.{ℕ, ◌+◌, ◌-◌, ◌≤◌, ◌<◌}
 use native.Mathlib.Omega.{arith}
 use mathlib.Core.Path.{◌≡◌, refl, sym, ap, ap₂, ◌∙◌}
 use mathlib.Core.Bool.{Bool, true, false}
-use mathlib.Core.List.{List, [], ◌++◌, append-nil, append_assoc}
-use lib.ListN.{length, take, drop, get_or, set, length-append, length-drop, take-append-drop}
-use native.Mathlib.Numerals.{add-one, unary_clauses}
-use lib.Seq.{length-take-le, take_at, take-add, take-take, take-append-le, take-append-add, drop-append-add, drop-drop, get_or-drop, paste, paste-suc}
+use mathlib.Core.List.{List, [], ◌++◌, append_assoc}
+use lib.ListN.{length, take, drop, length-append, length-drop}
+use lib.Seq.{length-take-le, take-add, take-take, take-append-le, take-append-add, drop-append-add, drop-drop}
 use borrow.Author.Tests.{le-leb, lt-leb}
 use Rattle.numbers.specs.Numbers.{to_le}
 use Rattle.numbers.proofs.Numbers.{length_to_le}
 use Rattle.numbers.specs.Reading.{bad}
 use Rattle.numbers.specs.Places.{Within, read_from, NumRead, over, Put}
-use Rattle.numbers.proofs.PlaceLaws.{inside, outside, num_holds, num_refused, put_refuses, put_full, put_done, put_then, over_then}
+use Rattle.numbers.proofs.PlaceLaws.{inside, outside, num_holds, num_refused, put_refuses, put_full, put_done, put_then}
 use Rattle.numbers.specs.declared.Fault.{Fault}
 use Rattle.numbers.specs.declared.Refusal.{Refusal}
 use Rattle.numbers.specs.declared.Refusal.TheVariants as R
@@ -129,24 +128,7 @@ module _ {s : List ℕ} {p a : Place} {n e : ℕ} {t : Bool} where
         next = rw v (u.1 ∙ ap Ok (omega arith));
       }
 
--- ---- the loop that copies
-
-pub copy_turn : (o l lent : List ℕ) (at start i : ℕ) → at + i < length l → start + i < length lent → o ≡ paste l at (drop start lent) i
-    → set o (at + i) (get_or lent (start + i) 0) ≡ paste l at (drop start lent) (i + 1)
-copy_turn o l lent at start i h k e =
-    rw (e, ← (get_or-drop start lent i 0), add-one) (paste-suc l at (drop start lent) i 0 h (simp length-drop (omega arith)))
-
-pub copy_ends : (o l lent : List ℕ) (at start len i : ℕ) → i ≡ len → start + len ≤ length lent → o ≡ paste l at (drop start lent) i
-    → o ≡ over l at (take len (drop start lent))
-copy_ends o l lent at start len i e h f = rw (shown_length lent start len h) (rw e at f)
-
--- by way of an array: what it got is what it gives
-pub copy_by_way : (z o lent : List ℕ) (at start len : ℕ) {block o' : List ℕ} → start + len ≤ length lent → block ≡ over z 0 (take len (drop start lent))
-    → o' ≡ over o at (take len (drop 0 block)) → o' ≡ over o at (take len (drop start lent))
-copy_by_way z o lent at start len h e f =
-    let x = take len (drop start lent) in
-    let g : take len (over z 0 x) ≡ x = take_at x (drop (0 + length x) z) len (shown_length lent start len h) in
-    f ∙ ap (λ (y : List ℕ). over o at (take len y)) e ∙ ap (over o at) g
+-- ---- a copy
 
 -- the first eight bytes and the last eight, laid one over the other, are all of eight to sixteen
 pub copy_eights : (o lent : List ℕ) (at start len : ℕ) {o1 o2 : List ℕ} → 8 ≤ len → len ≤ 16 → at + len ≤ length o → start + len ≤ length lent → o1 ≡ over o at (take 8 (drop start lent))
@@ -172,24 +154,6 @@ copy_eights o lent at start len {o1} {o2} g l h k e f =
     let mid : take m x ++ b ≡ take len x = sym (take-add m 8 x) ∙ ap (λ n. take n x) n3 in
     f ∙ ap (λ (z : List ℕ). over z (at + m) (take 8 (drop (start + m) lent))) e ∙ ap (λ (z : List ℕ). over (d ++ r) (at + m) z) c
     ∙ ap₂ (λ (y z : List ℕ). y ++ b ++ z) front back ∙ ap (λ (z : List ℕ). z ++ drop (at + length (take len x)) o) (append_assoc (take at o) (take m x) b ∙ ap (λ (z : List ℕ). take at o ++ z) mid)
-
-pub copy_none : (o : List ℕ) (at : ℕ) → o ≡ over o at []
-copy_none o at = simp (append-nil, unary_clauses) (sym (take-append-drop at o))
-
--- the next block is not empty, and no longer than what is left
-pub next_block : {n left : ℕ} → n ≡ min left 65536 → 0 < left → (0 < n) × (n ≤ left) × (n ≤ 65536)
-next_block e h = (omega arith, omega arith, omega arith)
-
--- the blocks so far, and one more
-pub copy_more : (o0 lent : List ℕ) (at start len done n : ℕ) {o o' : List ℕ} → at + len ≤ length o0 → start + len ≤ length lent → done + n ≤ len
-    → o ≡ over o0 at (take done (drop start lent)) → o' ≡ over o (at + done) (take n (drop (start + done) lent)) → o' ≡ over o0 at (take (done + n) (drop start lent))
-copy_more o0 lent at start len done n h k l e f =
-    let bs = take done (drop start lent) in
-    let cs = take n (drop (start + done) lent) in
-    let b : length bs ≡ done = shown_length lent start done (omega arith) in
-    let t : take (done + n) (drop start lent) ≡ bs ++ cs = take-add done n (drop start lent) ∙ ap (λ (x : List ℕ). bs ++ take n x) (drop-drop done start lent) in
-    let m : length (bs ++ cs) ≡ done + n = ap length (sym t) ∙ shown_length lent start (done + n) (omega arith) in
-    f ∙ ap (λ (x : List ℕ). over x (at + done) cs) e ∙ ap (λ i. over (over o0 at bs) (at + i) cs) (sym b) ∙ over_then o0 at bs cs (omega arith) ∙ ap (over o0 at) (sym t)
 
 -- ---- bytes that are put
 

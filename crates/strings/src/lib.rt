@@ -114,53 +114,27 @@ pub fn read_str(s: &[u8], p: Place) -> Read<Span>
     Read { value: some, next }
 }
 
-// The lent bytes from `start` on, over those of the output from `at` on: the plain form, byte by byte.
-fn copy_bytes(out: &mut [u8], at: usize, lent: &[u8], start: usize, len: usize)
-    requires { (at + len ≤ length out.old) × (start + len ≤ length lent.now) }
-    ensures { out.new ≡ over out.old at (take len (drop start lent.now)) }
-{
-    for i in 0..len {
-        out[at + i] = lent[start + i];
-    }
-}
-
-// One block, by way of an array. For all the compiler knows the output overlaps the lent bytes; an array of our own it knows to lie
-// apart, so it makes a move of each loop, one move of the two, and no array of what is left.
-fn copy_block(out: &mut [u8], at: usize, lent: &[u8], start: usize, len: usize)
-    requires { (len ≤ 65536) × (at + len ≤ length out.old) × (start + len ≤ length lent.now) }
-    ensures { out.new ≡ over out.old at (take len (drop start lent.now)) }
-{
-    let mut block = [0u8; 65536];
-    copy_bytes(&mut block, 0, lent, start, len);
-    copy_bytes(out, at, &block, 0, len);
-}
-
-// What `copy_bytes` does, block by block.
-fn copy_blocks(out: &mut [u8], at: usize, lent: &[u8], start: usize, len: usize)
-    requires { (at + len ≤ length out.old) × (start + len ≤ length lent.now) }
-    ensures { out.new ≡ over out.old at (take len (drop start lent.now)) }
-{
-    let mut done = 0;
-    while done < len {
-        let n = (len - done).min(65536);
-        copy_block(out, at + done, lent, start + done, n);
-        done += n;
-    }
-}
-
-// What `copy_bytes` does. Eight to sixteen bytes, as most names have, are two blocks of eight, which may overlap: each is the move of one
-// number.
+// The lent bytes from `start` on, over those of the output from `at` on. Eight to sixteen bytes, as most names have, are two blocks of eight,
+// which may overlap: each is the move of one number, where a copy of any length is a call.
 fn copy(out: &mut [u8], at: usize, lent: &[u8], start: usize, len: usize)
     requires { (at + len ≤ length out.old) × (start + len ≤ length lent.now) }
     ensures { out.new ≡ over out.old at (take len (drop start lent.now)) }
 {
     if 8 <= len && len <= 16 {
         let last = len - 8;
-        copy_block(out, at, lent, start, 8);
-        copy_block(out, at + last, lent, start + last, 8);
+        copy_all(out, at, lent, start, 8);
+        copy_all(out, at + last, lent, start + last, 8);
     } else {
-        copy_blocks(out, at, lent, start, len);
+        copy_all(out, at, lent, start, len);
     }
+}
+
+// The same by one copy.
+fn copy_all(out: &mut [u8], at: usize, lent: &[u8], start: usize, len: usize)
+    requires { (at + len ≤ length out.old) × (start + len ≤ length lent.now) }
+    ensures { out.new ≡ over out.old at (take len (drop start lent.now)) }
+{
+    out[at..at + len].copy_from_slice(&lent[start..start + len]);
 }
 
 // The bytes that a span shows, put at a place: 9, 11.
