@@ -159,7 +159,7 @@ module _ (s : List ℕ) (ts : List (List ℕ)) (o₀ : List ℕ) where
           omega arith
 
       pub put_turn : {o' : List ℕ} → o' ≡ over o to (record_bytes (get_or (get_or ts i []) 0 0) (get_or (get_or ts i []) 1 0) (take (e - at) (drop at s)))
-          → Putting s ts o₀ o' e (to + 16 + (e - at)) (i + 1)
+          → Putting s ts o₀ o' e (to + (16 + (e - at))) (i + 1)
       put_turn {o'} z =
           let t : ℕ = get_or (get_or ts i []) 0 0 in
           let u : ℕ = get_or (get_or ts i []) 1 0 in
@@ -174,14 +174,14 @@ module _ (s : List ℕ) (ts : List (List ℕ)) (o₀ : List ℕ) where
           let a = length-append (record_bytes t u f) cs in
           let m : length o' ≡ length o = ap length z ∙ length_over o to (record_bytes t u f) (omega arith) in
           let c = w.output in
-          let n : to + 16 + (e - at) ≡ to + length (record_bytes t u f) = omega arith in
+          let n : to + (16 + (e - at)) ≡ to + length (record_bytes t u f) = omega arith in
           let all = over_turn o o₀ to 24 (records s ts) (record_bytes t u f) cs (omega arith) (rw to_come at w.bytes) in
           record {
             within = x.held;
             output = omega arith;
             rows = omega arith;
             room = omega arith;
-            bytes = ap (λ (y : List ℕ). over y (to + 16 + (e - at)) cs) z ∙ ap (λ j. over (over o to (record_bytes t u f)) j cs) n ∙ all;
+            bytes = ap (λ (y : List ℕ). over y (to + (16 + (e - at))) cs) z ∙ ap (λ j. over (over o to (record_bytes t u f)) j cs) n ∙ all;
           }
 
     pub put_ends : frames_in s (rest s at) ≡ [] → o ≡ over o₀ 24 (records s ts)

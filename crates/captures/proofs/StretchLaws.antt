@@ -1,10 +1,11 @@
 -- What holds of the definitions in specs/StretchLaws.antt.
 use Rattle.numbers.specs.Place.{Place}
-use Rattle.std.specs.Prelude.{ℕ, ◌+◌, ◌-◌, ◌≤◌, ◌<◌, ◌≡◌, refl, List, [], ◌∷◌, length, take, drop, Ok, Err}
+use Rattle.std.specs.Prelude.{ℕ, ◌+◌, ◌-◌, ◌≤◌, ◌<◌, ◌≡◌, refl, List, [], ◌∷◌, length, take, drop, Result, Ok, Err, Option, Some, None}
 use Rattle.std.proofs.Common.{arith, sym, ap, ◌∙◌, drop_of_length-le, length-take-le, take-take}
 use borrow.Author.Tests.{lt-ltb, le-ltb, ne_eqb}
 use Rattle.numbers.specs.Numbers.{from_le}
 use Rattle.numbers.proofs.ReadingLaws.{or_else}
+use Rattle.numbers.proofs.PlaceLaws.{refused_one}
 use Rattle.numbers.specs.declared.Refusal.{Refusal}
 use Rattle.numbers.specs.declared.Refusal.TheVariants as R
 use Rattle.layouts.specs.Bodies.{Answer}
@@ -13,26 +14,25 @@ use Rattle.framing.proofs.ListingLaws.{front_case, list_step, whole_at, moves_on
 use Rattle.framing.specs.Cuts.{CutAt, between}
 use Rattle.framing.proofs.CutLaws.{cut_whole, cut_end, cut_stop, length_whole}
 use Rattle.framing.specs.declared.Cut.{Cut}
-use Rattle.framing.specs.declared.Cut.TheVariants as C
 use Rattle.captures.specs.Captures.{frames_in, counted, fits, cut_up}
 use Rattle.captures.specs.Steps.{step_to, rest}
 use Rattle.captures.specs.StretchLaws.{Next}
 
 -- ---- the ways of a cut
 
-module _ (s : List ℕ) (p : ℕ) {g : Cut} (c : CutAt s p g) where
-  pub end_whole : {ty tag e : ℕ} → g ≡ C.Whole ty tag e → Ok e ≡ step_to (frame_at [] [] s p)
-  end_whole {ty} {tag} {e} f =
+module _ (s : List ℕ) (p : ℕ) {g : Result (Option Cut) Refusal} (c : CutAt s p g) where
+  pub end_whole : {x : Cut} → g ≡ Ok (Some x) → Ok x.next ≡ step_to (frame_at [] [] s p)
+  end_whole {x} f =
       let w = cut_whole s p c f in
       let l = length_whole w in
       let a = w.seven in
-      let n : e ≡ p + length (between p e s) = omega arith in
+      let n : x.next ≡ p + length (between p x.next s) = omega arith in
       ap Ok n ∙ ap step_to (w.is [] [])
 
-  pub end_end : g ≡ C.End → Err (R.StretchCut, p) ≡ step_to (frame_at [] [] s p)
+  pub end_end : g ≡ Ok None → Err (R.StretchCut, p) ≡ step_to (frame_at [] [] s p)
   end_end f = ap step_to (cut_end s p c f [] [])
 
-  pub end_stop : {k : Refusal} → g ≡ C.Refused k → Err (k, p) ≡ step_to (frame_at [] [] s p)
+  pub end_stop : {k : Refusal} → g ≡ Err k → Err (k, p) ≡ step_to (frame_at [] [] s p)
   end_stop f = ap step_to (cut_stop s p c f [] [])
 
 module _ (s : List ℕ) (p : ℕ) where
@@ -87,8 +87,9 @@ module _ (s : List ℕ) (p : ℕ) where
       (λ i e.
       let f = inside h ∙ e in
       let t = rw f at u in
-      let a : i ≡ k = cc in
-      let b : p ≡ j = cc in
+      let v' = refused_one (sym t ∙ v) in
+      let a : i ≡ k = v'.0 in
+      let b : p ≡ j = v'.1 in
       list_step [] [] s p (omega arith) ∙ rw f (rw (a, b)))
 
 -- ---- what the loops make of it

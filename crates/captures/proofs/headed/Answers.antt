@@ -1,27 +1,15 @@
--- The ways out, in the order of the fields.
-use native.Mathlib.Omega.{arith}
-use Rattle.captures.proofs.FileLaws.{head_short, head_magic, head_major, head_minor, head_link}
+-- Too short; or each of the four numbers is the header's, or one is not.
+use borrow.Author.Rules.{rules}
+use Rattle.captures.proofs.FileLaws.{head_short, head_holds, head_fails}
 use Rattle.captures.proofs.headed.Goals as goal
 
 pub returns-then-file-lt-HEAD : goal.returns-then-file-lt-HEAD
-returns-then-file-lt-HEAD c = let a = c.args in head_short a.big a.file.now (omega arith)
+returns-then-file-lt-HEAD c = head_short _ _ c.if-file-lt-HEAD.true
 
-pub returns-then-number : goal.returns-then-number
-returns-then-number c =
-    let a = c.args in
-    head_magic a.big a.file.now (omega arith) c.number.ensures c.if-number.true
+pub returns-then-minor-eq-MINOR : goal.returns-then-minor-eq-MINOR
+returns-then-minor-eq-MINOR c =
+    head_holds _ _ c.if-file-lt-HEAD.false c.number-magic.ensures c.short-major.ensures c.short-minor.ensures c.if-minor-eq-MINOR.true c.number-link.ensures
 
-pub returns-then-short-ne-MAJOR : goal.returns-then-short-ne-MAJOR
-returns-then-short-ne-MAJOR c =
-    let a = c.args in
-    head_major a.big a.file.now (omega arith) c.number.ensures c.if-number.false c.short.ensures c.if-short-ne-MAJOR.true
-
-pub returns-then-short-ne-MINOR : goal.returns-then-short-ne-MINOR
-returns-then-short-ne-MINOR c =
-    let a = c.args in
-    head_minor a.big a.file.now (omega arith) c.number.ensures c.if-number.false c.short.ensures c.if-short-ne-MAJOR.false c.short-2.ensures c.if-short-ne-MINOR.true
-
-pub returns : goal.returns
-returns c =
-    let a = c.args in
-    head_link a.big a.file.now (omega arith) c.number.ensures c.if-number.false c.short.ensures c.if-short-ne-MAJOR.false c.short-2.ensures c.if-short-ne-MINOR.false c.number-2.ensures
+pub returns-else-minor-eq-MINOR : goal.returns-else-minor-eq-MINOR
+returns-else-minor-eq-MINOR c =
+    head_fails _ _ c.if-file-lt-HEAD.false c.number-magic.ensures c.short-major.ensures c.short-minor.ensures c.if-minor-eq-MINOR.either (search rules)
