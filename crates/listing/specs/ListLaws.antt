@@ -2,7 +2,8 @@
 use Rattle.numbers.specs.Place.{Place}
 use Prim.Native.Nat.{ℕ, suc, ◌+◌, ◌≤◌, ◌<◌}
 use native.Mathlib.Omega.{arith}
-use Rattle.std.specs.Prelude.{◌≡◌, List, length, Ok}
+use Rattle.std.specs.Prelude.{◌≡◌, List, length, Ok, Err, Some, None}
+use Rattle.numbers.specs.declared.Fault.{Fault}
 use Rattle.std.proofs.Common.{sym, ◌∙◌, lt-ltb, le-ltb}
 use Rattle.std.proofs.Math.Path.{ap}
 use Rattle.numbers.specs.Refusals.{number_of}
@@ -13,10 +14,8 @@ use Rattle.framing.specs.Stretch.{listing}
 use Rattle.framing.specs.ListingLaws.{goes_on}
 use Rattle.framing.proofs.ListingLaws.{listed, Moved, moves_on}
 use Rattle.stretch.specs.Functions.{answered}
-use Rattle.stretch.specs.Views.{view_step, Asked}
+use Rattle.stretch.specs.Views.{Answered, view_step, Asked}
 use Rattle.stretch.specs.declared.Listed.{Listed}
-use Rattle.stretch.specs.declared.Step.{Step}
-use Rattle.stretch.specs.declared.Step.TheVariants as S
 use Rattle.listing.specs.Text.{PiecesPut, header, end_word, stop_word, lines_from, too_long, LinePut, LastPut, LinesPut, ReportPut}
 use Rattle.listing.specs.TextLaws.{all_none, all_put, all_then}
 
@@ -24,33 +23,33 @@ use Rattle.listing.specs.TextLaws.{all_none, all_put, all_then}
 pub record Upto (s o : List ℕ) (p₀ : Place) (at n : ℕ) (o1 : List ℕ) (p : Place) : Type 0 where
   pub on : (o2 : List ℕ) (e : Place) → PiecesPut (lines_from n (listed table_t table_r s at)) o1 p o2 e → LinesPut s o p₀ o2 e
 
-pub moved : {s : List ℕ} {at : ℕ} {r : Step} (l : Listed) → Asked s at r → r ≡ S.Frame l → Moved table_t table_r s at l.size l.next
+pub moved : {s : List ℕ} {at : ℕ} {r : Answered} (l : Listed) → Asked s at r → r ≡ Ok (Some l) → Moved table_t table_r s at l.size l.next
 unfolding view_step
-moved {s} l a e = moves_on table_t table_r s (sym a.is ∙ ap view_step e)
+moved {s} {at} l a e = moves_on table_t table_r s (sym a.is ∙ ap (view_step at) e)
 
 module _ {s o : List ℕ} {p₀ : Place} where
   pub upto_none : Upto s o p₀ 0 0 o p₀
   unfolding listing
   upto_none = record { on = λ o2 e l. record { is = l } }
 
-  pub upto_next : {at n : ℕ} {r : Step} (l : Listed) {o1 o2 : List ℕ} {p q : Place} → at ≤ length s → Asked s at r → r ≡ S.Frame l → Upto s o p₀ at n o1 p → LinePut l o1 p o2 q
+  pub upto_next : {at n : ℕ} {r : Answered} (l : Listed) {o1 o2 : List ℕ} {p q : Place} → at ≤ length s → Asked s at r → r ≡ Ok (Some l) → Upto s o p₀ at n o1 p → LinePut l o1 p o2 q
       → Upto s o p₀ l.next (n + 1) o2 q
   unfolding view_step lines_from
   upto_next {at} {n} {r} l h a e u f =
-      let g = answered s at r h a ∙ ap (λ x. goes_on (view_step x) (listed table_t table_r s)) e in
+      let g = answered s at r h a ∙ ap (λ x. goes_on (view_step at x) (listed table_t table_r s)) e in
       let m : n + 1 ≡ suc n = omega arith in
       record { on = λ o3 t w. u.on o3 t (rw g (all_then f.is (rw m at w))) }
 
-  pub upto_end : {at n q : ℕ} {r : Step} {o1 o2 : List ℕ} {p t : Place} → at ≤ length s → Asked s at r → r ≡ S.End q → Upto s o p₀ at n o1 p → LastPut end_word q n o1 p o2 t → LinesPut s o p₀ o2 t
+  pub upto_end : {at n : ℕ} {r : Answered} {o1 o2 : List ℕ} {p t : Place} → at ≤ length s → Asked s at r → r ≡ Ok None → Upto s o p₀ at n o1 p → LastPut end_word at n o1 p o2 t → LinesPut s o p₀ o2 t
   unfolding view_step lines_from
-  upto_end {at} {n} {q} {r} {o1} {o2} {p} {t} h a e u f =
-      let g = answered s at r h a ∙ ap (λ x. goes_on (view_step x) (listed table_t table_r s)) e in u.on o2 t (rw g f.is)
+  upto_end {at} {n} {r} {o1} {o2} {p} {t} h a e u f =
+      let g = answered s at r h a ∙ ap (λ x. goes_on (view_step at x) (listed table_t table_r s)) e in u.on o2 t (rw g f.is)
 
-  pub upto_stop : {at n q : ℕ} {k : Refusal} {r : Step} {o1 o2 : List ℕ} {p t : Place} → at ≤ length s → Asked s at r → r ≡ S.Refused k q → Upto s o p₀ at n o1 p
-      → LastPut stop_word q (number_of k) o1 p o2 t → LinesPut s o p₀ o2 t
+  pub upto_stop : {at n : ℕ} {e : Fault} {r : Answered} {o1 o2 : List ℕ} {p t : Place} → at ≤ length s → Asked s at r → r ≡ Err e → Upto s o p₀ at n o1 p
+      → LastPut stop_word e.1 (number_of e.0) o1 p o2 t → LinesPut s o p₀ o2 t
   unfolding view_step lines_from
-  upto_stop {at} {n} {q} {k} {r} {o1} {o2} {p} {t} h a e u f =
-      let g = answered s at r h a ∙ ap (λ x. goes_on (view_step x) (listed table_t table_r s)) e in u.on o2 t (rw g f.is)
+  upto_stop {at} {n} {r = r} {o2 = o2} {t = t} h a e u f =
+      let g = answered s at r h a ∙ ap (λ x. goes_on (view_step at x) (listed table_t table_r s)) e in u.on o2 t (rw g f.is)
 
 -- ---- the report
 

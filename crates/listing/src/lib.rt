@@ -13,7 +13,7 @@ ghost use Rattle.listing.specs.Text.{answer_number, header, end_word, stop_word,
 use numbers::{Place, Refusal};
 use replies::Rbody;
 use requests::Tbody;
-use stretch::{Body, Listed, Step};
+use stretch::{Body, Listed};
 use strings::Span;
 
 pub fn put_text(out: &mut [u8], p: Place, text: &[u8]) -> Place
@@ -119,13 +119,13 @@ fn put_lines(out: &mut [u8], from: Place, bytes: &[u8]) -> Place
     let mut n: u64 = 0;
     loop {
         match stretch::frame_at(bytes, at) {
-            Step::Frame(l) => {
+            Ok(Some(l)) => {
                 p = put_line(out, p, l);
                 at = l.next;
                 n += 1;
             }
-            Step::End(q) => return put_end(out, p, q, n),
-            Step::Refused(k, q) => return put_stop(out, p, q, k),
+            Ok(None) => return put_end(out, p, at, n),
+            Err(f) => return put_stop(out, p, f.1, f.0),
         }
     }
 }

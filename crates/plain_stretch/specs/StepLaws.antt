@@ -1,6 +1,6 @@
 -- Written by tools/messages from crates/stretch/specs/StepLaws.antt.
 -- What each way of asking at a position answers, over plain variables.
-use Rattle.std.specs.Prelude.{ℕ, ◌-◌, ◌%◌, ◌≡◌, List, length, take, Ok, Err}
+use Rattle.std.specs.Prelude.{ℕ, ◌-◌, ◌%◌, ◌≡◌, List, length, take, Ok, Err, Some, None}
 use Rattle.std.proofs.Common.{arith, ap₂, ◌∙◌, length-take-le, ne_eqb, eq-eqb}
 use Rattle.numbers.specs.Numbers.{Bytes}
 use Rattle.numbers.specs.declared.Fault.{Fault}
@@ -18,9 +18,8 @@ use Rattle.plain_replies.specs.declared.Rmessage.{Rmessage}
 use Rattle.plain_stretch.specs.declared.Body.{Body}
 use Rattle.plain_stretch.specs.declared.Body.TheVariants as B
 use Rattle.plain_stretch.specs.declared.Listed.{Listed}
-use Rattle.plain_stretch.specs.declared.Step.TheVariants as S
 
-pub at_frame : {s : List ℕ} {p ty tag e : ℕ} (l : Listed) → Bytes s → WholeAt s p ty tag e → ListedAs (take e s) ty tag p l → Asked s p (S.Frame l)
+pub at_frame : {s : List ℕ} {p ty tag e : ℕ} (l : Listed) → Bytes s → WholeAt s p ty tag e → ListedAs (take e s) ty tag p l → Asked s p (Ok (Some l))
 unfolding view_step
 at_frame {s} {p} {ty} {tag} {e} l b w k =
     let f : List ℕ = between p e s in
@@ -64,10 +63,10 @@ module _ {size : ℕ} {c : Body} where
 
 -- ---- what is answered where there is no frame
 
-pub asked_end : {s : List ℕ} {p : ℕ} → end p ≡ frame_at table_t table_r s p → Asked s p (S.End p)
+pub asked_end : {s : List ℕ} {p : ℕ} → end p ≡ frame_at table_t table_r s p → Asked s p (Ok None)
 unfolding view_step
 asked_end e = record { is = e; way = tt }
 
-pub asked_stop : {s : List ℕ} {p : ℕ} {k : Refusal} → stop k p ≡ frame_at table_t table_r s p → Asked s p (S.Refused k p)
+pub asked_stop : {s : List ℕ} {p : ℕ} {k : Refusal} → stop k p ≡ frame_at table_t table_r s p → Asked s p (Err (k, p))
 unfolding view_step
 asked_stop e = record { is = e; way = tt }

@@ -1,6 +1,7 @@
 -- Written by tools/messages from crates/stretch/specs/Views.antt.
 -- What the answers of the stretch's functions say.
-use Rattle.std.specs.Prelude.{ℕ, ◌-◌, ◌%◌, ◌≡◌, List, length}
+use Rattle.std.specs.Prelude.{ℕ, ◌-◌, ◌%◌, ◌≡◌, List, length, Result, Ok, Err, Option, Some, None}
+use Rattle.numbers.specs.declared.Fault.{Fault}
 use Rattle.layouts.specs.Plain.{table_t, table_r}
 use Rattle.layouts.specs.Bodies.{Answer}
 use Rattle.plain_requests.specs.Views.{view_t}
@@ -10,8 +11,6 @@ use Rattle.framing.specs.Stretch.{table_for, tail_in, Step, frame, end, stop, fr
 use Rattle.plain_stretch.specs.declared.Body.{Body}
 use Rattle.plain_stretch.specs.declared.Body.TheVariants as B
 use Rattle.plain_stretch.specs.declared.Listed.{Listed}
-use Rattle.plain_stretch.specs.declared.Step.{Step as Answered}
-use Rattle.plain_stretch.specs.declared.Step.TheVariants as S
 
 unfoldable pub view_body : Body → Answer
 view_body (B.Request b) = view_t b
@@ -42,17 +41,21 @@ pub record ListedAs (s : List ℕ) (k g p : ℕ) (l : Listed) : Type 0 where
   pub tail : l.tail ≡ tail_in l.size (view_body l.body)
   pub next : l.next ≡ length s
 
-unfoldable pub view_step : Answered → Step
-view_step (S.Frame l) = frame l.at l.size l.ty l.tag.0 (view_body l.body) l.tail l.next
-view_step (S.End p) = end p
-view_step (S.Refused k p) = stop k p
+-- what is answered at a position: a frame, none at the end, or a refusal
+abbrev pub Answered : Type 0
+Answered = Result (Option Listed) Fault
+
+unfoldable pub view_step : ℕ → Answered → Step
+view_step p (Ok (Some l)) = frame l.at l.size l.ty l.tag.0 (view_body l.body) l.tail l.next
+view_step p (Ok None) = end p
+view_step p (Err f) = stop f.0 f.1
 
 abbrev pub StepWay : Answered → Type 0
-StepWay (S.Frame l) = Way l.ty l.body
-StepWay (S.End p) = Unit {0}
-StepWay (S.Refused k p) = Unit {0}
+StepWay (Ok (Some l)) = Way l.ty l.body
+StepWay (Ok None) = Unit {0}
+StepWay (Err f) = Unit {0}
 
 -- what is answered at a position of a stretch
 pub record Asked (s : List ℕ) (p : ℕ) (r : Answered) : Type 0 where
-  pub is : view_step r ≡ frame_at table_t table_r s p
+  pub is : view_step p r ≡ frame_at table_t table_r s p
   pub way : StepWay r

@@ -2,7 +2,8 @@
 use Rattle.numbers.specs.Place.{Place}
 use Prim.Native.Nat.{ℕ, suc, ◌+◌, ◌-◌, ◌≤◌, ◌<◌}
 use native.Mathlib.Omega.{arith}
-use Rattle.std.specs.Prelude.{◌≡◌, refl, Bool, true, false, cond, List, ◌∷◌, length, take, drop, Result, Ok, Err}
+use Rattle.std.specs.Prelude.{◌≡◌, refl, Bool, true, false, cond, List, ◌∷◌, length, take, drop, Result, Ok, Err, Some, None}
+use Rattle.numbers.specs.declared.Fault.{Fault}
 use Rattle.std.proofs.Common.{sym, ◌∙◌, length-append, length-take-le, lt-ltb, le-ltb}
 use Rattle.std.proofs.Math.Path.{ap}
 use Rattle.io.specs.Counts.{IsPrefixLen}
@@ -20,10 +21,8 @@ use Rattle.framing.specs.Stretch.{Listing, entry, ends, stops, listing}
 use Rattle.framing.specs.ListingLaws.{goes_on}
 use Rattle.framing.proofs.ListingLaws.{listed}
 use Rattle.stretch.specs.Functions.{answered}
-use Rattle.stretch.specs.Views.{view_body, view_step, Asked}
+use Rattle.stretch.specs.Views.{view_body, Answered, view_step, Asked}
 use Rattle.stretch.specs.declared.Listed.{Listed}
-use Rattle.stretch.specs.declared.Step.{Step}
-use Rattle.stretch.specs.declared.Step.TheVariants as S
 use Rattle.listing.specs.Text.{decimal, joined, answer_number, header, end_word, stop_word, last_pieces, lines_from, too_long, FramePut, LastPut, position_of, room}
 use Rattle.listing.specs.TextLaws.{all_none, all_put, all_then, all_fits}
 use Rattle.listing.specs.RoomLaws.{Narrow, narrow_most, listing_narrow}
@@ -53,28 +52,28 @@ module _ {bs o : List ℕ} {p₀ : Place} where
   unfolding listing
   upto_none e = rw e (record { on = λ o2 e l. record { is = l } })
 
-  pub upto_next : {s : Session} {at n m : ℕ} {r : Step} (l : Listed) {v : Event} {d : Stepped} {o1 o2 : List ℕ} {p q : Place} → at ≤ length bs → Asked bs at r → r ≡ S.Frame l
+  pub upto_next : {s : Session} {at n m : ℕ} {r : Answered} (l : Listed) {v : Event} {d : Stepped} {o1 o2 : List ℕ} {p q : Place} → at ≤ length bs → Asked bs at r → r ≡ Ok (Some l)
       → v ≡ event_of l.ty l.tag.0 (view_body l.body) → d ≡ stepped bs s v → m ≡ answer_of d.answer → Upto bs o p₀ s at n o1 p → FramePut l m o1 p o2 q
       → Upto bs o p₀ d.session l.next (n + 1) o2 q
   unfolding view_step lines_from replayed
   upto_next {s} {at} {n} {m} {r} l {v} {d} h a e ve de me u f =
-      let g = answered bs at r h a ∙ ap (λ x. goes_on (view_step x) (listed table_t table_r bs)) e in
+      let g = answered bs at r h a ∙ ap (λ x. goes_on (view_step at x) (listed table_t table_r bs)) e in
       let k : n + 1 ≡ suc n = omega arith in
       let w : d ≡ stepped bs s (event_of l.ty l.tag.0 (view_body l.body)) = de ∙ ap (stepped bs s) ve in
       let z : m ≡ answer_number (told (stepped bs s (event_of l.ty l.tag.0 (view_body l.body))).answer (view_body l.body))
       = me ∙ ap (λ (x : Stepped). answer_of x.answer) w ∙ number_same bs s l.ty l.tag.0 (view_body l.body) in
       record { on = λ o3 t y. u.on o3 t (rw g (all_then (rw z at f.is) (rw (k, w) at y))) }
 
-  pub upto_end : {s : Session} {at n q : ℕ} {r : Step} {o1 o2 : List ℕ} {p t : Place} → at ≤ length bs → Asked bs at r → r ≡ S.End q → Upto bs o p₀ s at n o1 p → LastPut end_word q n o1 p o2 t → LinesPut bs o p₀ o2 t
+  pub upto_end : {s : Session} {at n : ℕ} {r : Answered} {o1 o2 : List ℕ} {p t : Place} → at ≤ length bs → Asked bs at r → r ≡ Ok None → Upto bs o p₀ s at n o1 p → LastPut end_word at n o1 p o2 t → LinesPut bs o p₀ o2 t
   unfolding view_step lines_from replayed
-  upto_end {s} {at} {n} {q} {r} {o1} {o2} {p} {t} h a e u f =
-      let g = answered bs at r h a ∙ ap (λ x. goes_on (view_step x) (listed table_t table_r bs)) e in u.on o2 t (rw g f.is)
+  upto_end {s} {at} {n} {r} {o1} {o2} {p} {t} h a e u f =
+      let g = answered bs at r h a ∙ ap (λ x. goes_on (view_step at x) (listed table_t table_r bs)) e in u.on o2 t (rw g f.is)
 
-  pub upto_stop : {s : Session} {at n q : ℕ} {k : Refusal} {r : Step} {o1 o2 : List ℕ} {p t : Place} → at ≤ length bs → Asked bs at r → r ≡ S.Refused k q
-      → Upto bs o p₀ s at n o1 p → LastPut stop_word q (number_of k) o1 p o2 t → LinesPut bs o p₀ o2 t
+  pub upto_stop : {s : Session} {at n : ℕ} {e : Fault} {r : Answered} {o1 o2 : List ℕ} {p t : Place} → at ≤ length bs → Asked bs at r → r ≡ Err e
+      → Upto bs o p₀ s at n o1 p → LastPut stop_word e.1 (number_of e.0) o1 p o2 t → LinesPut bs o p₀ o2 t
   unfolding view_step lines_from replayed
-  upto_stop {s} {at} {n} {q} {k} {r} {o1} {o2} {p} {t} h a e u f =
-      let g = answered bs at r h a ∙ ap (λ x. goes_on (view_step x) (listed table_t table_r bs)) e in u.on o2 t (rw g f.is)
+  upto_stop {s} {at} {n} {r = r} {o2 = o2} {t = t} h a e u f =
+      let g = answered bs at r h a ∙ ap (λ x. goes_on (view_step at x) (listed table_t table_r bs)) e in u.on o2 t (rw g f.is)
 
 -- ---- the text
 

@@ -6,7 +6,6 @@ ghost use Rattle.std.specs.Prelude.{◌≡◌};
 ghost use Rattle.replaying.specs.Replays.{answer_of, LinesPut, ReplayPut, Replayed};
 
 use numbers::{Place, Refusal};
-use stretch::Step;
 
 // 0, or the number of the refusal.
 pub fn answer_of(a: Result<(), Refusal>) -> u8
@@ -27,21 +26,16 @@ fn put_lines(out: &mut [u8], from: Place, stretch: &[u8]) -> Place
     let mut at = 0;
     let mut n: u64 = 0;
     loop {
-        let step = stretch::frame_at(stretch, at);
-        match step {
-            Step::Frame(l) => {
+        match stretch::frame_at(stretch, at) {
+            Ok(Some(l)) => {
                 let d = session::turn(s, stretch, events::event_of(l));
                 p = listing::put_frame(out, p, l, answer_of(d.answer));
                 s = d.session;
                 at = l.next;
                 n += 1;
             }
-            Step::End(q) => {
-                return listing::put_end(out, p, q, n);
-            }
-            Step::Refused(k, q) => {
-                return listing::put_stop(out, p, q, k);
-            }
+            Ok(None) => return listing::put_end(out, p, at, n),
+            Err(f) => return listing::put_stop(out, p, f.1, f.0),
         }
     }
 }

@@ -1,6 +1,7 @@
 -- What Rust is told of a frame that a session follows, and of a path and a trailer that are written (F15.2, F15.8, F15.10, F15.12).
 use Rattle.numbers.specs.Place.{Place}
-use Rattle.std.specs.Prelude.{ℕ, ◌≡◌, true, false, List, Result, Ok, Err}
+use Rattle.std.specs.Prelude.{ℕ, ◌≡◌, true, false, List, Result, Ok, Err, Some, None}
+use Rattle.numbers.specs.declared.Fault.{Fault}
 use Rattle.std.proofs.Common.{sym, ◌∙◌}
 use Rattle.std.proofs.Math.Path.{ap}
 use Rattle.numbers.proofs.PlaceLaws.{one_answer, put_one}
@@ -9,10 +10,8 @@ use Rattle.numbers.specs.declared.Refusal.{Refusal}
 use Rattle.layouts.specs.Tables.{table_t, table_r}
 use Rattle.layouts.specs.Bodies.{Answer}
 use Rattle.framing.specs.Stretch.{Step, frame, end, stop, frame_at}
-use Rattle.stretch.specs.Views.{view_body, view_step, Asked}
+use Rattle.stretch.specs.Views.{view_body, Answered, view_step, Asked}
 use Rattle.stretch.specs.declared.Listed.{Listed}
-use Rattle.stretch.specs.declared.Step.{Step as Answered}
-use Rattle.stretch.specs.declared.Step.TheVariants as S
 use Rattle.sealing.specs.Trailers.{TrailerPut}
 use Rattle.session.specs.Rules.{none, stepped, FidPath}
 use Rattle.session.specs.About.{fid_of}
@@ -57,18 +56,18 @@ pub record TrailerMade (bs o o' : List ℕ) (r : Outcome) : Type 0 where
 -- ---- the ways through a step
 
 module _ (bs : List ℕ) (s : Session) (p : ℕ) {r : Answered} (a : Asked bs p r) where
-  pub followed_frame : {l : Listed} {f : Followed} → r ≡ S.Frame l → f ≡ followed_by bs s l.ty l.tag.0 (view_body l.body) l.tail l.next → f ≡ followed_at bs s (frame_at table_t table_r bs p)
+  pub followed_frame : {l : Listed} {f : Followed} → r ≡ Ok (Some l) → f ≡ followed_by bs s l.ty l.tag.0 (view_body l.body) l.tail l.next → f ≡ followed_at bs s (frame_at table_t table_r bs p)
   unfolding view_step followed_at
-  followed_frame e f = f ∙ ap (followed_at bs s) (sym (ap view_step e) ∙ a.is)
+  followed_frame e f = f ∙ ap (followed_at bs s) (sym (ap (view_step p) e) ∙ a.is)
 
-  pub followed_end : {q : ℕ} {t : Told} → r ≡ S.End q → t ≡ passed 0 q → ◌≡◌ {A = Followed} (record { session = s; told = t }) (followed_at bs s (frame_at table_t table_r bs p))
+  pub followed_end : {t : Told} → r ≡ Ok None → t ≡ passed 0 p → ◌≡◌ {A = Followed} (record { session = s; told = t }) (followed_at bs s (frame_at table_t table_r bs p))
   unfolding view_step followed_at
-  followed_end e f = ap (λ (x : Told). record { session = s; told = x }) f ∙ ap (followed_at bs s) (sym (ap view_step e) ∙ a.is)
+  followed_end e f = ap (λ (x : Told). record { session = s; told = x }) f ∙ ap (followed_at bs s) (sym (ap (view_step p) e) ∙ a.is)
 
-  pub followed_stop : {k : Refusal} {q n : ℕ} {t : Told} → r ≡ S.Refused k q → n ≡ number_of k → t ≡ passed n q
+  pub followed_stop : {x : Fault} {n : ℕ} {t : Told} → r ≡ Err x → n ≡ number_of x.0 → t ≡ passed n x.1
       → ◌≡◌ {A = Followed} (record { session = s; told = t }) (followed_at bs s (frame_at table_t table_r bs p))
   unfolding view_step followed_at
-  followed_stop {q = q} e g f = ap (λ (x : Told). record { session = s; told = x }) (f ∙ ap (λ m. passed m q) g) ∙ ap (followed_at bs s) (sym (ap view_step e) ∙ a.is)
+  followed_stop {x = x} e g f = ap (λ (x : Told). record { session = s; told = x }) (f ∙ ap (λ m. passed m x.1) g) ∙ ap (followed_at bs s) (sym (ap (view_step p) e) ∙ a.is)
 
 -- ---- any two answers that a promise allows are equal
 

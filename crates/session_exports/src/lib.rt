@@ -14,7 +14,7 @@ ghost use Rattle.session_exports.specs.Follows.{told_of, passed, followed_by, fo
 use exports::Outcome;
 use numbers::Refusal;
 use session::{NONE, Session};
-use stretch::{Listed, Step};
+use stretch::Listed;
 
 // What crosses of a frame that a session has followed: an `Outcome`, the tail, and the fid that the frame is about, 4,294,967,297 if there is
 // none. Refused, a frame has no tail and is about no fid.
@@ -102,16 +102,15 @@ fn follow(s: Session, stretch: &[u8], l: Listed) -> Followed
 pub fn sheafsledge_follow(s: Session, stretch: &[u8], position: usize) -> Followed
     ensures { result ≡ followed_at stretch.now s (frame_at table_t table_r stretch.now position) }
 {
-    let step = stretch::frame_at(stretch, position);
-    match step {
-        Step::Frame(l) => follow(s, stretch, l),
-        Step::End(q) => Followed {
+    match stretch::frame_at(stretch, position) {
+        Ok(Some(l)) => follow(s, stretch, l),
+        Ok(None) => Followed {
             session: s,
-            told: passed(0, q),
+            told: passed(0, position),
         },
-        Step::Refused(k, q) => Followed {
+        Err(f) => Followed {
             session: s,
-            told: passed(numbers::number(k), q),
+            told: passed(numbers::number(f.0), f.1),
         },
     }
 }

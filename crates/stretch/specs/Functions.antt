@@ -1,6 +1,6 @@
 -- Demand 3 of the functions: whatever answers the promises of `frame_at`, `read_tframe`, `read_rframe`, `write_tframe` and `write_rframe` allow, they have these properties.
 use Rattle.numbers.specs.Place.{Place}
-use Rattle.std.specs.Prelude.{ℕ, ◌+◌, ◌-◌, ◌%◌, ◌^◌, ◌≤◌, ◌<◌, ◌≡◌, List, ◌++◌, length, take, Ok}
+use Rattle.std.specs.Prelude.{ℕ, ◌+◌, ◌-◌, ◌%◌, ◌^◌, ◌≤◌, ◌<◌, ◌≡◌, List, ◌++◌, length, take, Ok, Err, Some, None}
 use Rattle.std.proofs.Common.{arith, sym, ◌∙◌, eq-eqb, ne_eqb}
 use Rattle.std.proofs.Math.Path.{refl, ap}
 use Rattle.std.proofs.Math.Option.{some}
@@ -29,7 +29,7 @@ use Rattle.frames.proofs.Rframe.TheLaws.{lowered as loweredRframe}
 use Rattle.framing.specs.Stretch.{type_in, tag_in, table_for, answer_in, answer_of, Listing, entry, ends, stops, listing}
 use Rattle.framing.specs.ListingLaws.{goes_on, stops_at}
 use Rattle.framing.proofs.ListingLaws.{listed}
-use Rattle.stretch.specs.Views.{view_body, view_step, Asked}
+use Rattle.stretch.specs.Views.{view_body, Answered, view_step, Asked}
 use Rattle.framing.specs.ReadBack.{Back}
 use Rattle.framing.specs.Limits.{Limited}
 use Rattle.stretch.specs.Fitting.{told_request, request_fits, reply_fits}
@@ -46,15 +46,13 @@ use Rattle.framing.proofs.Dialects.{frames, ended, stopped}
 use Rattle.framing.proofs.Dialects.{Lists, listed_by, lists, lists_edited, lists_once, lists_joined, lists_damaged, stripped, written, written_again, cut, back, local_read}
 use Rattle.stretch.specs.declared.Body.TheVariants as B
 use Rattle.stretch.specs.declared.Listed.{Listed}
-use Rattle.stretch.specs.declared.Step.{Step}
-use Rattle.stretch.specs.declared.Step.TheVariants as S
 
 -- ---- `frame_at`, asked at a position and then at each next one
 
 pub data Asks (s : List ℕ) : ℕ → Listing → Type 0 where
-  frame : {p : ℕ} {L : Listing} (l : Listed) → Asked s p (S.Frame l) → Asks s l.next L → Asks s p (entry l.at l.size l.ty l.tag.0 (view_body l.body) l.tail L)
-  end : {p q : ℕ} → Asked s p (S.End q) → Asks s p (ends q)
-  stop : {p q : ℕ} {k : Refusal} → Asked s p (S.Refused k q) → Asks s p (stops k q)
+  frame : {p : ℕ} {L : Listing} (l : Listed) → Asked s p (Ok (Some l)) → Asks s l.next L → Asks s p (entry l.at l.size l.ty l.tag.0 (view_body l.body) l.tail L)
+  end : {p : ℕ} → Asked s p (Ok None) → Asks s p (ends p)
+  stop : {p q : ℕ} {k : Refusal} → Asked s p (Err (k, q)) → Asks s p (stops k q)
 
 seen : (s : List ℕ) {p : ℕ} {L : Listing} → Asks s p L → Lists table_t table_r s p L
 unfolding view_step
@@ -63,8 +61,8 @@ seen s (end a) = ended a.is
 seen s (stop a) = stopped a.is
 
 -- what is listed from a position on, by what is answered there
-pub answered : (s : List ℕ) (p : ℕ) (r : Step) → p ≤ length s → Asked s p r → listed table_t table_r s p ≡ goes_on (view_step r) (listed table_t table_r s)
-answered s p r h a = listed_by table_t table_r s p (view_step r) h a.is
+pub answered : (s : List ℕ) (p : ℕ) (r : Answered) → p ≤ length s → Asked s p r → listed table_t table_r s p ≡ goes_on (view_step p r) (listed table_t table_r s)
+answered s p r h a = listed_by table_t table_r s p (view_step p r) h a.is
 
 -- the listing that the function gives, from 0 on, is the definition's
 pub function_lists : (s : List ℕ) {L : Listing} → Asks s 0 L → L ≡ listing table_t table_r s
@@ -204,7 +202,7 @@ local_reply = local_read replies
 
 -- ---- 6. positions: what is listed, written with the stretch as the lent bytes, is the frame stripped of its tail
 
-module _ (s : List ℕ) {p used : ℕ} (l : Listed) (b : Bytes s) (a : Asked s p (S.Frame l)) {o o' : List ℕ} {q : Place} (h : used ≤ length o) where
+module _ (s : List ℕ) {p used : ℕ} (l : Listed) (b : Bytes s) (a : Asked s p (Ok (Some l))) {o o' : List ℕ} {q : Place} (h : used ≤ length o) where
   pub listed_request_written : (m : Tmessage) → l.body ≡ B.Request (Ok (m, used)) → TframeWritten s (record { at = l.at; tag = l.tag; msg = Ok (m, used) }) o o' q
       → (o' ≡ over o 0 (resized used (between p l.next s))) × (q ≡ Ok used)
   unfolding view_step view_body view_t

@@ -6,7 +6,7 @@ ghost use Rattle.std.specs.Prelude.{◌≡◌, ◌-◌};
 ghost use Rattle.stretch.specs.Views.{BodyOf, Leaves, view_body, ListedAs, Asked};
 
 use layouts::ids::Tag;
-use numbers::Refusal;
+use numbers::Fault;
 use replies::Rbody;
 use requests::Tbody;
 
@@ -28,14 +28,6 @@ pub struct Listed {
     pub body: Body,
     pub tail: usize,
     pub next: usize,
-}
-
-// What is at a position: a frame; the end, where exactly nothing is left; or a refusal. No `Result` of an `Option`: the end tells its position too.
-#[derive(Clone, Copy)]
-pub enum Step {
-    Frame(Listed),
-    End(usize),
-    Refused(Refusal, usize),
 }
 
 // Of a frame that stands from `at` to the end of the bytes.
@@ -85,13 +77,13 @@ fn whole_frame(s: &[u8], ty: u8, tag: u16, at: usize) -> Listed
     }
 }
 
-// One frame and the next position; or the end; or 12, 13 with the position.
-pub fn frame_at(bytes: &[u8], position: usize) -> Step
+// One frame and the next position; none at the end, where exactly nothing is left; or 12, 13 with the position.
+pub fn frame_at(bytes: &[u8], position: usize) -> Result<Option<Listed>, Fault>
     ensures { Asked bytes.now position result }
 {
     match framing::cut_at(bytes, position) {
-        Ok(Some(c)) => Step::Frame(whole_frame(&bytes[..c.next], c.ty, c.tag, position)),
-        Ok(None) => Step::End(position),
-        Err(k) => Step::Refused(k, position),
+        Ok(Some(c)) => Ok(Some(whole_frame(&bytes[..c.next], c.ty, c.tag, position))),
+        Ok(None) => Ok(None),
+        Err(k) => Err(Fault(k, position)),
     }
 }

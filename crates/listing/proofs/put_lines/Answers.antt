@@ -1,5 +1,6 @@
 use native.Mathlib.Omega.{arith}
-use mathlib.Core.Path.{refl, ◌∙◌}
+use Rattle.std.specs.Prelude.{refl, Ok}
+use Rattle.std.proofs.Common.{ap, ◌∙◌}
 use Rattle.listing.specs.TextLaws.{all_length}
 use Rattle.listing.specs.ListLaws.{upto_none, moved, upto_next, upto_end, upto_stop}
 use Rattle.listing.proofs.put_lines.Goals as goal
@@ -9,7 +10,7 @@ loop-l-init c = (omega arith, omega arith, refl, upto_none)
 
 pub loop-l-smaller : goal.loop-l-smaller
 loop-l-smaller c =
-    let m = moved _ c.frame_at.ensures c.in-Frame.is in
+    let m = moved _ c.frame_at.ensures (c.in-Ok-Some.is ∙ ap Ok c.in-Ok-Some.field-0-is) in
     let a = m.seven in
     let b = m.on in
     let d = m.within in
@@ -17,16 +18,16 @@ loop-l-smaller c =
 
 pub loop-l-preserved : goal.loop-l-preserved
 loop-l-preserved c =
-    let m = moved _ c.frame_at.ensures c.in-Frame.is in
+    let m = moved _ c.frame_at.ensures (c.in-Ok-Some.is ∙ ap Ok c.in-Ok-Some.field-0-is) in
     let a = m.seven in
     let b = m.on in
     let d = m.within in
     let i = c.loop-l.invariant in
     let p = c.put_line-p.ensures in
-    (omega arith, omega arith, all_length p.is ∙ i.2, upto_next _ i.0 c.frame_at.ensures c.in-Frame.is i.3 p)
+    (omega arith, omega arith, all_length p.is ∙ i.2, upto_next _ i.0 c.frame_at.ensures (c.in-Ok-Some.is ∙ ap Ok c.in-Ok-Some.field-0-is) i.3 p)
 
-pub returns-in-End : goal.returns-in-End
-returns-in-End c = let i = c.loop-l.invariant in upto_end i.0 c.frame_at.ensures c.in-End.is i.3 c.put_end.ensures
+pub returns-in-Ok-None : goal.returns-in-Ok-None
+returns-in-Ok-None c = let i = c.loop-l.invariant in upto_end i.0 c.frame_at.ensures (c.in-Ok-None.is ∙ ap Ok c.in-Ok-None.field-0-is) i.3 c.put_end.ensures
 
-pub returns-in-Refused : goal.returns-in-Refused
-returns-in-Refused c = let i = c.loop-l.invariant in upto_stop i.0 c.frame_at.ensures c.in-Refused.is i.3 c.put_stop.ensures
+pub returns-in-Err : goal.returns-in-Err
+returns-in-Err c = let i = c.loop-l.invariant in upto_stop i.0 c.frame_at.ensures c.in-Err.is i.3 c.put_stop.ensures
