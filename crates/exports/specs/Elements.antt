@@ -2,15 +2,14 @@
 use Rattle.numbers.specs.Place.{Place}
 use Rattle.std.specs.Prelude.{ℕ, zero, suc, ◌+◌, ◌*◌, ◌^◌, ◌≤◌, ◌<◌, ◌≡◌, take, drop, get_or, eqb, Ok, Err}
 use Rattle.std.proofs.Common.{arith, sym, ◌∙◌, length-append}
-use Rattle.std.proofs.Math.Path.{refl, ap}
+use Rattle.std.proofs.Math.Path.{ap}
 use mathlib.Core.List.{List, [], ◌∷◌, append-nil}
 use Rattle.std.proofs.Math.ListN.{length}
 use borrow.Author.Tests.{eqb-true}
 use Rattle.numbers.specs.Numbers.{Bytes}
 use Rattle.numbers.proofs.Numbers.{length_to_le, bytes_take, bytes_drop}
-use Rattle.numbers.specs.Reading.{Reading, ok, bad, after}
+use Rattle.numbers.specs.Reading.{Reading, ok, bad}
 use Rattle.numbers.proofs.ReadingLaws.{after_inv, cond_inv}
-use Rattle.numbers.specs.declared.Refusal.{Refusal}
 use Rattle.numbers.specs.declared.Refusal.TheVariants as R
 use Rattle.strings.specs.Strings.{string_bytes}
 use Rattle.strings.proofs.SpanLaws.{span_inv}
@@ -18,12 +17,9 @@ use Rattle.fields.specs.Layouts.{Field, strs, quids, Item, strings, qids, read_m
 use Rattle.fields.proofs.LayoutLaws.{took_many}
 use Rattle.fields.specs.Values.{Value, start_of, len_of, count_of, part, show_part, whole_part, show}
 use Rattle.laying.proofs.LayingLaws.{span_shown, part_inv, whole_inv}
-use Rattle.strings.specs.declared.Span.{Span}
-use Rattle.laying.specs.Elements.{element_in, asked_for, element_at, view_element}
+use Rattle.laying.specs.Elements.{element_in, asked_for, element_at}
 use Rattle.laying.proofs.ElementLaws.{asked_inv}
-use Rattle.laying.specs.declared.elements.Element.{Element}
-use Rattle.laying.specs.declared.elements.Element.TheVariants as E
-use Rattle.flat.specs.Flat.{stored, laid}
+use Rattle.flat.specs.Flat.{laid}
 use Rattle.exports.specs.Answers.{ended, Answered}
 use Rattle.exports.specs.declared.Outcome.{Outcome}
 
@@ -38,7 +34,12 @@ abbrev found_in : Reading Value → List Value
 found_in (ok v r) = v ∷ []
 found_in (bad k at) = []
 
--- F4.18; refused, the two numbers are as they were
+-- the place after an element, and its start and length over the two numbers; refused, they are as they were
+pub record SpanLaid (e : Reading Value) (before after : List ℕ) (q : Place) : Type 0 where
+  pub place : q ≡ past_element e
+  pub left : after ≡ laid (past_element e) (found_in e) before
+
+-- F4.18, as Rust has it
 pub record Spanned (e : Reading Value) (before after : List ℕ) (r : Outcome) : Type 0 where
   pub is : Answered (ended (past_element e)) (laid (past_element e) (found_in e) before) after r
 
@@ -116,18 +117,5 @@ module _ (lent : List ℕ) (c x y i : ℕ) (b : Bytes lent) (m : length lent < 2
 
 -- ---- what is answered for it
 
-module _ (e : Element) where
-  pub ends_at : {s : Span} → e ≡ E.Found s → Ends (view_element e) → s.start + s.len < 2 ^ 64
-  unfolding view_element
-  ends_at h n = rw h at n
-
-  pub spanned_found : {before after : List ℕ} {s : Span} {r : Outcome} → e ≡ E.Found s → after ≡ stored before 0 (s.start ∷ s.len ∷ []) → r ≡ ended (Ok (s.start + s.len)) → Spanned (view_element e) before after r
-  unfolding view_element
-  spanned_found h a x = rw h (record { is = record { answer = x; left = a } })
-
-  pub spanned_refused : {before : List ℕ} {k : Refusal} {at : ℕ} {r : Outcome} → e ≡ E.Refused k at → r ≡ ended (Err (k, at)) → Spanned (view_element e) before before r
-  unfolding view_element
-  spanned_refused h x = rw h (record { is = record { answer = x; left = refl } })
-
-pub spanned_same : {e f : Reading Value} {before after : List ℕ} {r : Outcome} → Spanned e before after r → e ≡ f → Spanned f before after r
-spanned_same s h = rw (← h) s
+pub spanned : {e f : Reading Value} {before after : List ℕ} {q : Place} {r : Outcome} → SpanLaid e before after q → e ≡ f → r ≡ ended q → Spanned f before after r
+spanned s h x = rw (← h) (record { is = record { answer = x ∙ ap ended s.place; left = s.left } })

@@ -1,11 +1,11 @@
 -- A frame or a body that is read flat is the definition's, laid flat. Shown of any direction; requests and replies are two of them.
 use Rattle.numbers.specs.Place.{Place}
-use Rattle.std.specs.Prelude.{ℕ, ◌≡◌, refl, true, List, length, take, Ok, Err}
+use Rattle.std.specs.Prelude.{ℕ, ◌≡◌, refl, true, List, length, take, Result, Ok, Err}
 use Rattle.std.proofs.Common.{arith, sym, ap, ap₂, ◌∙◌}
 use Rattle.std.proofs.Math.Option.{Option, none, some}
 use Rattle.numbers.specs.Numbers.{Bytes}
 use Rattle.numbers.specs.declared.Refusal.{Refusal}
-use Rattle.numbers.specs.declared.Refusal.TheVariants as R
+use Rattle.numbers.proofs.PlaceLaws.{refused_one}
 use Rattle.fields.specs.Layouts.{Layout}
 use Rattle.fields.specs.Values.{Value}
 use Rattle.fields.specs.Fields.{values_at}
@@ -17,7 +17,6 @@ use Rattle.framing.proofs.RaisedLaws.{from_body}
 use Rattle.framing.specs.Headers.{HeadIs}
 use Rattle.framing.proofs.HeaderLaws.{head_yes, frame_is, frame_headless}
 use Rattle.framing.specs.declared.Head.{Head}
-use Rattle.framing.specs.declared.Head.TheVariants as H
 use Rattle.flat.specs.Flat.{laid, row_values, FlatRead}
 use Rattle.exports.specs.Answers.{outcome_of, ended}
 use Rattle.exports.specs.declared.Outcome.{Outcome}
@@ -67,7 +66,7 @@ module _ (ty : ℕ) {s ns ms : List ℕ} {p q : Place} where
   body_accepted (some l) f h = ap (finish_at ty (values_at l s p)) (sym h ∙ f.next)
 
   body_refused : {k : Refusal} {at : ℕ} (l : Option Layout) → FlatRead l s p ns ms q → q ≡ Err (k, at) → refused k at ≡ body_at l ty s p
-  body_refused {k} {at} none f h = let g = sym h ∙ f.next in let j : k ≡ R.UnknownType = cc g in let i : at ≡ 0 = cc g in ap₂ refused j i
+  body_refused {k} {at} none f h = let g = refused_one (sym h ∙ f.next) in ap₂ refused g.0 g.1
   body_refused (some l) f h = ap (finish_at ty (values_at l s p)) (sym h ∙ f.next)
 
 -- by the place that is answered
@@ -80,33 +79,33 @@ module _ (d : FlatDirection) (s : List ℕ) {ns ms : List ℕ} {r : Outcome} whe
   read_as : {f g : Frame} → d.whole f ≡ g → f ≡ read_frame d.rows s → r ≡ frame_outcome g → ms ≡ frame_laid g ns → FrameRead (d.whole (read_frame d.rows s)) ns ms r
   read_as w e a v = let h = sym (ap d.whole e) ∙ w in rw h (record { is = record { answer = a; left = v } })
 
-  module _ {g : Head} (h : HeadIs s g) where
-    pub headless_read : {k : Refusal} → g ≡ H.Refused k → r ≡ ended (Err (k, 0)) → ms ≡ ns → FrameRead (d.whole (read_frame d.rows s)) ns ms r
+  module _ {g : Result Head Refusal} (h : HeadIs s g) where
+    pub headless_read : {k : Refusal} → g ≡ Err k → r ≡ ended (Err (k, 0)) → ms ≡ ns → FrameRead (d.whole (read_frame d.rows s)) ns ms r
     unfolding HeadIs
     headless_read {k} e = read_as (d.none k 0) (frame_headless s d.rows (rw e at h))
 
-    module _ {n ty tag : ℕ} {q : Place} (b : Bytes s) (e : g ≡ H.Held n ty tag) (f : FlatRead (lookup d.rows ty) (take n s) (Ok 7) ns ms q) where
-      pub frame_read : {a : ℕ} → q ≡ Ok a → r ≡ outcome_of ty tag true q → FrameRead (d.whole (read_frame d.rows s)) ns ms r
+    module _ {t : Head} {q : Place} (b : Bytes s) (e : g ≡ Ok t) (f : FlatRead (lookup d.rows t.ty) (take t.len s) (Ok 7) ns ms q) where
+      pub frame_read : {a : ℕ} → q ≡ Ok a → r ≡ outcome_of t.ty t.tag true (Ok a) → FrameRead (d.whole (read_frame d.rows s)) ns ms r
       frame_read {a} i x =
-          let its : Option Layout = lookup d.rows ty in
-          let vs : List Value = row_values its (take n s) (Ok 7) in
-          read_as (d.good tag ty a vs) (ap (framed 0 tag) (body_accepted ty its f i) ∙ frame_is d.rows b (head_yes s h e)) (x ∙ ap (outcome_of ty tag true) i) (values_left its f ∙ ap (λ z. laid z vs ns) i)
+          let its : Option Layout = lookup d.rows t.ty in
+          let vs : List Value = row_values its (take t.len s) (Ok 7) in
+          read_as (d.good t.tag t.ty a vs) (ap (framed 0 t.tag) (body_accepted t.ty its f i) ∙ frame_is d.rows b (head_yes s h e)) x (values_left its f ∙ ap (λ z. laid z vs ns) i)
 
-      pub body_failed : {k : Refusal} {at : ℕ} → q ≡ Err (k, at) → r ≡ d.fails tag k at → FrameRead (d.whole (read_frame d.rows s)) ns ms r
+      pub body_failed : {k : Refusal} {at : ℕ} → q ≡ Err (k, at) → r ≡ d.fails t.tag k at → FrameRead (d.whole (read_frame d.rows s)) ns ms r
       body_failed {k} {at} i x =
-          let its : Option Layout = lookup d.rows ty in
-          let vs : List Value = row_values its (take n s) (Ok 7) in
-          read_as refl (ap (framed 0 tag) (body_refused ty its f i) ∙ frame_is d.rows b (head_yes s h e)) (x ∙ d.told tag k at) (values_left its f ∙ ap (λ z. laid z vs ns) i ∙ d.bare tag k at ns)
+          let its : Option Layout = lookup d.rows t.ty in
+          let vs : List Value = row_values its (take t.len s) (Ok 7) in
+          read_as refl (ap (framed 0 t.tag) (body_refused t.ty its f i) ∙ frame_is d.rows b (head_yes s h e)) (x ∙ d.told t.tag k at) (values_left its f ∙ ap (λ z. laid z vs ns) i ∙ d.bare t.tag k at ns)
 
 -- a request is told in one way, whether its body fails or not
 by_place : {X : Type 0} (q : Place) → ((a : ℕ) → q ≡ Ok a → X) → ((k : Refusal) (at : ℕ) → q ≡ Err (k, at) → X) → X
 by_place (Ok a) f g = f a refl
 by_place (Err e) f g = g e.0 e.1 refl
 
-pub request_read : (table : List Row) (s : List ℕ) {n ty tag : ℕ} {ns ms : List ℕ} {g : Head} {q : Place} {r : Outcome} → HeadIs s g → Bytes s → g ≡ H.Held n ty tag → FlatRead (lookup table ty) (take n s) (Ok 7) ns ms q → r ≡ outcome_of ty tag true q
+pub request_read : (table : List Row) (s : List ℕ) {t : Head} {ns ms : List ℕ} {g : Result Head Refusal} {q : Place} {r : Outcome} → HeadIs s g → Bytes s → g ≡ Ok t → FlatRead (lookup table t.ty) (take t.len s) (Ok 7) ns ms q → r ≡ outcome_of t.ty t.tag true q
     → FrameRead (read_frame table s) ns ms r
-request_read table s {ty = ty} {tag = tag} {q = q} h b e f x =
-    by_place q (λ a i. frame_read (flat_requests table) s h b e f i x) (λ k at i. body_failed (flat_requests table) s h b e f i (x ∙ ap (outcome_of ty tag true) i))
+request_read table s {t = t} {q = q} h b e f x =
+    by_place q (λ a i. frame_read (flat_requests table) s h b e f i (x ∙ ap (outcome_of t.ty t.tag true) i)) (λ k at i. body_failed (flat_requests table) s h b e f i (x ∙ ap (outcome_of t.ty t.tag true) i))
 
 -- ---- a body in a stretch
 

@@ -12,12 +12,10 @@ pub fn sheafsledge_read_dirent(bytes: &[u8], at: usize, values: &mut [u64; 7]) -
     ensures { FieldsRead layout_dirent bytes.now (Ok at) values.old values.new result }
 {
     let r = dirents::read_dirent(bytes, Ok(at));
-    let next = r.next;
-    let Ok(_) = next else {
-        return crate::ended(next);
-    };
-    flat::dirents::flat_dirent(r.value, values);
-    crate::ended(next)
+    if r.next.is_ok() {
+        flat::dirents::flat_dirent(r.value, values);
+    }
+    crate::ended(r.next)
 }
 
 // The place that is answered is the one after the entry.

@@ -12,7 +12,7 @@ pub mod walks;
 ghost use Rattle.std.specs.Prelude.{◌≡◌};
 ghost use Rattle.exports.specs.Answers.{outcome_of, ended};
 
-use numbers::{Fault, Place};
+use numbers::Place;
 
 // What crosses to Rust for all that is read or written: 0 and the place after it; or the refusal, and where a text breaks, else 0 (F2.7). A
 // frame also has a tag, and a type where it was accepted or stands at a position; `held` says that there is one. Values go into room that the
@@ -38,16 +38,13 @@ pub fn outcome_of(ty: u8, tag: u16, held: bool, p: Place) -> Outcome
             held,
             place,
         },
-        Err(Fault(k, place)) => {
-            let refusal = numbers::number(k);
-            Outcome {
-                refusal,
-                ty: 0,
-                tag,
-                held,
-                place,
-            }
-        }
+        Err(f) => Outcome {
+            refusal: numbers::number(f.0),
+            ty: 0,
+            tag,
+            held,
+            place: f.1,
+        },
     }
 }
 

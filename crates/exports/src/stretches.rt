@@ -4,38 +4,23 @@ ghost use Rattle.std.specs.Prelude.{◌≡◌};
 ghost use Rattle.layouts.specs.Tables.{table_t, table_r};
 ghost use Rattle.framing.specs.Stretch.{frame_at};
 ghost use Rattle.pairs.specs.Pairs.{rlerror, pairs};
-ghost use Rattle.exports.specs.Steps.{stopped, step_outcome};
+ghost use Rattle.exports.specs.Steps.{step_outcome};
 
 use crate::Outcome;
-use framing::Cut;
 use layouts::ids::Tag;
-use numbers::Refusal;
+use numbers::Fault;
 use pairs::Mark;
 
 // The frame is the bytes from the position to the place; at the end, where there is none, the place is the position. What is in it, the
 // reader of its direction in `stretch_exports` says, lent the bytes up to that place (`listed_there`).
+#[tactic(auto, using(crate::specs::Steps::step_there), unfolding(framing::specs::Cuts::CutAt))]
 pub fn sheafsledge_frame_at(bytes: &[u8], position: usize) -> Outcome
     ensures { result ≡ step_outcome (frame_at table_t table_r bytes.now position) }
 {
-    let cut = framing::cut_at(bytes, position);
-    match cut {
-        Cut::Whole(ty, tag, next) => crate::outcome_of(ty, tag, true, Ok(next)),
-        Cut::End => crate::ended(Ok(position)),
-        Cut::Refused(k) => stopped(k, position),
-    }
-}
-
-// A stretch that cannot be read on, and where.
-fn stopped(k: Refusal, position: usize) -> Outcome
-    ensures { result ≡ stopped k position }
-{
-    let refusal = numbers::number(k);
-    Outcome {
-        refusal,
-        ty: 0,
-        tag: 0,
-        held: false,
-        place: position,
+    match framing::cut_at(bytes, position) {
+        Ok(Some(cut)) => crate::outcome_of(cut.ty, cut.tag, true, Ok(cut.next)),
+        Ok(None) => crate::ended(Ok(position)),
+        Err(k) => crate::ended(Err(Fault(k, position))),
     }
 }
 

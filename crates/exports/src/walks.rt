@@ -7,32 +7,27 @@ ghost use Rattle.laying.specs.Elements.{element_at, view_element};
 ghost use Rattle.layouts.specs.Records.{qid};
 ghost use Rattle.flat.specs.Flat.{flat_values, stored};
 ghost use Rattle.exports.specs.Answers.{FieldsRead};
-ghost use Rattle.exports.specs.Elements.{Ends, Spanned};
+ghost use Rattle.exports.specs.Elements.{Ends, SpanLaid, Spanned};
 ghost use Rattle.exports.specs.Walks.{twalk_of, rwalk_of, TableWrote};
 
 use crate::Outcome;
 use fields::Part;
-use laying::elements::Element;
 use layouts::ids::{Fid, Tag};
 use layouts::qids;
 use layouts::qids::Qid;
-use numbers::Fault;
+use numbers::{Fault, Place};
 use strings::Span;
 
 // An element's start and length, and the place after it. Refused, the two numbers are as they were.
-fn spanned(e: Element, span: &mut [u64; 2]) -> Outcome
-    requires { Ends (view_element e) }
-    ensures { Spanned (view_element e) span.old span.new result }
+#[tactic(auto, unfolding(laying::specs::Elements::view_element))]
+fn spanned(found: Result<Span, Fault>, span: &mut [u64; 2]) -> Place
+    requires { Ends (view_element found) }
+    ensures { SpanLaid (view_element found) span.old span.new result }
 {
-    match e {
-        Element::Found(s) => {
-            span[0] = s.start as u64;
-            span[1] = s.len as u64;
-            let end = s.start + s.len;
-            crate::ended(Ok(end))
-        }
-        Element::Refused(k, n) => crate::ended(Err(Fault(k, n))),
-    }
+    let s = found?;
+    span[0] = s.start as u64;
+    span[1] = s.len as u64;
+    Ok(s.start + s.len)
 }
 
 // Name `i` of a vector of strings, without its count.
@@ -46,9 +41,11 @@ pub fn sheafsledge_name_at(
 ) -> Outcome
     ensures { Spanned (element_at strs lent.now (part count start len) i) span.old span.new result }
 {
-    let elements = Span { start, len };
-    let v = Part { count, elements };
-    spanned(laying::elements::name_at(lent, v, i), span)
+    let v = Part {
+        count,
+        elements: Span { start, len },
+    };
+    crate::ended(spanned(laying::elements::name_at(lent, v, i), span))
 }
 
 // Qid `i` of a vector of qids, whole.
@@ -62,9 +59,11 @@ pub fn sheafsledge_qid_at(
 ) -> Outcome
     ensures { Spanned (element_at quids lent.now (part count start len) i) span.old span.new result }
 {
-    let elements = Span { start, len };
-    let v = Part { count, elements };
-    spanned(laying::elements::qid_at(lent, v, i), span)
+    let v = Part {
+        count,
+        elements: Span { start, len },
+    };
+    crate::ended(spanned(laying::elements::qid_at(lent, v, i), span))
 }
 
 fn flat_qid(v: Qid, values: &mut [u64; 3])
@@ -80,12 +79,10 @@ pub fn sheafsledge_read_qid(bytes: &[u8], at: usize, values: &mut [u64; 3]) -> O
     ensures { FieldsRead q bytes.now (Ok at) values.old values.new result }
 {
     let r = qids::read_qid(bytes, Ok(at));
-    let next = r.next;
-    let Ok(_) = next else {
-        return crate::ended(next);
-    };
-    flat_qid(r.value, values);
-    crate::ended(next)
+    if r.next.is_ok() {
+        flat_qid(r.value, values);
+    }
+    crate::ended(r.next)
 }
 
 // A Twalk whose names are spans of the lent bytes: a row of the table is a start and a length.

@@ -9,7 +9,6 @@ ghost use Rattle.exports.specs.Frames.{FrameRead, FlatWrote};
 
 use exports::Outcome;
 use flat::WIDTH_R;
-use framing::Head;
 use layouts::ids::Tag;
 use numbers::{Fault, Refusal};
 
@@ -18,16 +17,15 @@ use numbers::{Fault, Refusal};
 pub fn sheafsledge_read_rframe(bytes: &[u8], values: &mut [u64; WIDTH_R]) -> Outcome
     ensures { FrameRead (refused_whole (read_frame table_r bytes.now)) values.old values.new result }
 {
-    let head = framing::read_header(bytes);
-    match head {
-        Head::Held(n, ty, tag) => {
-            let next = flat_replies::read_flat(&bytes[..n], ty, Ok(framing::BODY), values);
-            let Ok(_) = next else {
-                return exports::ended(next);
-            };
-            exports::outcome_of(ty, tag, true, next)
+    match framing::read_header(bytes) {
+        Ok(head) => {
+            let own = &bytes[..head.len];
+            match flat_replies::read_flat(own, head.ty, Ok(framing::BODY), values) {
+                Ok(end) => exports::outcome_of(head.ty, head.tag, true, Ok(end)),
+                Err(f) => exports::ended(Err(f)),
+            }
         }
-        Head::Refused(k) => exports::ended(Err(Fault(k, 0))),
+        Err(k) => exports::ended(Err(Fault(k, 0))),
     }
 }
 

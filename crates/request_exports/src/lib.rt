@@ -10,7 +10,6 @@ ghost use Rattle.request_exports.specs.Two.{TwoWrote};
 
 use exports::Outcome;
 use flat::WIDTH_T;
-use framing::Head;
 use layouts::ids::Tag;
 use numbers::{Fault, Refusal};
 
@@ -19,13 +18,13 @@ use numbers::{Fault, Refusal};
 pub fn sheafsledge_read_tframe(bytes: &[u8], values: &mut [u64; WIDTH_T]) -> Outcome
     ensures { FrameRead (read_frame table_t bytes.now) values.old values.new result }
 {
-    let head = framing::read_header(bytes);
-    match head {
-        Head::Held(n, ty, tag) => {
-            let next = flat_requests::read_flat(&bytes[..n], ty, Ok(framing::BODY), values);
-            exports::outcome_of(ty, tag, true, next)
+    match framing::read_header(bytes) {
+        Ok(head) => {
+            let own = &bytes[..head.len];
+            let next = flat_requests::read_flat(own, head.ty, Ok(framing::BODY), values);
+            exports::outcome_of(head.ty, head.tag, true, next)
         }
-        Head::Refused(k) => exports::ended(Err(Fault(k, 0))),
+        Err(k) => exports::ended(Err(Fault(k, 0))),
     }
 }
 
