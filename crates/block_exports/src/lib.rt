@@ -5,9 +5,7 @@
 
 ghost use Rattle.block_exports.specs.Answers.{EntryRead, PackWritten};
 
-use blocks::{Packing, Step};
 use exports::Outcome;
-use numbers::Fault;
 
 // What crosses to Rust once entries were packed: 0, how many they are and how many bytes; or the refusal of a name and its place (F2.7), and
 // no entries.
@@ -24,35 +22,29 @@ pub struct Packed {
 pub fn sheafsledge_entry_at(block: &[u8], position: usize, values: &mut [u64; 7]) -> Outcome
     ensures { EntryRead block.now position values.old values.new result }
 {
-    let step = blocks::entry_at(block, position);
-    match step {
-        Step::Entry(listed) => {
-            let entry = listed.entry;
-            flat::dirents::flat_dirent(entry, values);
+    match blocks::entry_at(block, position) {
+        Ok(Some(listed)) => {
+            flat::dirents::flat_dirent(listed.entry, values);
             exports::outcome_of(0, 0, true, Ok(listed.next))
         }
-        Step::End(at) => exports::ended(Ok(at)),
-        Step::Refused(k, n, _) => exports::ended(Err(Fault(k, n))),
+        Ok(None) => exports::ended(Ok(position)),
+        Err(f) => exports::ended(Err(f)),
     }
 }
 
 pub fn sheafsledge_pack(out: &mut [u8], count: u32, names: &[u8], entries: &[[u64; 7]]) -> Packed
     ensures { PackWritten count names.now entries.now out.old out.new result }
 {
-    let packing = blocks::pack(out, count, names, entries);
-    match packing {
-        Packing::Packed(entries, place) => Packed {
+    match blocks::pack(out, count, names, entries) {
+        Ok(p) => Packed {
             refusal: 0,
-            entries,
-            place,
+            entries: p.entries,
+            place: p.bytes,
         },
-        Packing::Refused(k, place) => {
-            let refusal = numbers::number(k);
-            Packed {
-                refusal,
-                entries: 0,
-                place,
-            }
-        }
+        Err(f) => Packed {
+            refusal: numbers::number(f.0),
+            entries: 0,
+            place: f.1,
+        },
     }
 }

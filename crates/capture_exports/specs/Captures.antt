@@ -3,21 +3,20 @@ use Rattle.numbers.specs.Place.{Place}
 use Rattle.std.specs.Prelude.{ℕ, ◌≡◌, List, length, set, Ok, Err}
 use Rattle.std.proofs.Common.{sym, ap, ◌∙◌}
 use Rattle.numbers.proofs.PlaceLaws.{one_answer}
-use Rattle.numbers.specs.declared.Refusal.{Refusal}
+use Rattle.numbers.specs.declared.Fault.{Fault}
 use Rattle.captures.specs.declared.Imported.{Imported}
-use Rattle.captures.specs.declared.Imported.TheVariants.{Held, Refused}
-use Rattle.captures.specs.Captures.{bytes_in, times_in, packets_of, imported, held, laid, Imports, exported, exported_file, placed, Exports}
+use Rattle.captures.specs.Captures.{Import, bytes_in, times_in, packets_of, imported, held, laid, Imports, exported, exported_file, placed, Exports}
 use Rattle.exports.specs.Answers.{ended}
 use Rattle.exports.specs.declared.Outcome.{Outcome}
 
 -- the bytes are the place, the frames the one number that was lent for them
-abbrev pub place_in : Imported → Place
-place_in (Held b n) = Ok b
-place_in (Refused k p) = Err (k, p)
+abbrev pub place_in : Import → Place
+place_in (Ok i) = Ok i.bytes
+place_in (Err f) = Err f
 
-abbrev pub frames_left : Imported → List ℕ → List ℕ
-frames_left (Held b n) m = set m 0 n
-frames_left (Refused k p) m = m
+abbrev pub frames_left : Import → List ℕ → List ℕ
+frames_left (Ok i) m = set m 0 i.frames
+frames_left (Err f) m = m
 
 pub record ImportMade (file o : List ℕ) (t : List (List ℕ)) (m o' : List ℕ) (t' : List (List ℕ)) (m' : List ℕ) (r : Outcome) : Type 0 where
   pub answer : r ≡ ended (place_in (imported (length o) (length t) file))
@@ -39,11 +38,11 @@ export_made_one x y = (one_answer x.bytes y.bytes, one_answer x.answer y.answer)
 
 -- ---- the ways
 
-module _ {file o o' : List ℕ} {t t' : List (List ℕ)} {i : Imported} {r : Outcome} (m : List ℕ) (x : Imports file o t o' t' i) where
-  pub import_held : {b n : ℕ} → i ≡ Held b n → r ≡ ended (Ok b) → ImportMade file o t m o' t' (set m 0 n) r
+module _ {file o o' : List ℕ} {t t' : List (List ℕ)} {i : Import} {r : Outcome} (m : List ℕ) (x : Imports file o t o' t' i) where
+  pub import_held : {y : Imported} → i ≡ Ok y → r ≡ ended (Ok y.bytes) → ImportMade file o t m o' t' (set m 0 y.frames) r
   import_held e f = let g = sym e ∙ x.answer in record { answer = rw (← g) f; bytes = x.bytes; times = x.times; frames = rw (← g) }
 
-  pub import_refused : {k : Refusal} {p : ℕ} → i ≡ Refused k p → r ≡ ended (Err (k, p)) → ImportMade file o t m o' t' m r
+  pub import_refused : {x : Fault} → i ≡ Err x → r ≡ ended (Err x) → ImportMade file o t m o' t' m r
   import_refused e f = let g = sym e ∙ x.answer in record { answer = rw (← g) f; bytes = x.bytes; times = x.times; frames = rw (← g) }
 
 pub export_made : {s o o' : List ℕ} {ts : List (List ℕ)} {p : Place} {r : Outcome} → Exports s ts o o' p → r ≡ ended p → ExportMade s ts o o' r

@@ -5,9 +5,7 @@
 
 ghost use Rattle.capture_exports.specs.Captures.{ImportMade, ExportMade};
 
-use captures::Imported;
 use exports::Outcome;
-use numbers::Fault;
 
 // The place that is answered is that after the stretch: so many bytes it has. How many frames goes to `frames`, which a refusal leaves as it was.
 pub fn sheafsledge_import(
@@ -18,13 +16,12 @@ pub fn sheafsledge_import(
 ) -> Outcome
     ensures { ImportMade file.now out.old times.old frames.old out.new times.new frames.new result }
 {
-    let made = captures::import(out, times, file);
-    match made {
-        Imported::Held(bytes, n) => {
-            frames[0] = n as u64;
-            exports::ended(Ok(bytes))
+    match captures::import(out, times, file) {
+        Ok(held) => {
+            frames[0] = held.frames as u64;
+            exports::ended(Ok(held.bytes))
         }
-        Imported::Refused(k, at) => exports::ended(Err(Fault(k, at))),
+        Err(f) => exports::ended(Err(f)),
     }
 }
 
