@@ -1,19 +1,20 @@
 -- What holds of the definitions in specs/FileLaws.antt.
 use Rattle.numbers.specs.Place.{Place}
-use Prim.Native.Nat.{ℕ, zero, suc, ◌+◌, ◌*◌, ◌-◌, ◌≤◌, ◌<◌}
+use Prim.Native.Nat.{ℕ, zero, suc, ◌+◌, ◌≤◌, ◌<◌}
 use Rattle.std.proofs.Common.{arith, add-zero, add-one, ap₂, ◌∙◌, drop_of_length-le, drop-cons, drop-drop, take-add, length-take-le}
 use Rattle.std.specs.Prelude.{◌≡◌, Bool, length, take, drop, get_or, ltb, eqb, Ok, Err}
+use Rattle.std.specs.Int.{w16, w32, from_le_bytes, from_be_bytes}
 use Rattle.std.proofs.Math.Path.{refl, sym, ap}
 use Rattle.std.proofs.Math.Bool.{true, false, cond}
+use mathlib.Core.Logic.{◌⊎◌, inl, inr}
 use mathlib.Core.List.{List, [], ◌∷◌, ◌++◌}
 use Rattle.std.proofs.Math.ListN.{length-drop}
 use borrow.Author.Tests.{lt-ltb, le-ltb, ltb-false, eq-eqb, ne_eqb, eqb-true}
 use Rattle.numbers.specs.Numbers.{from_le}
-use Rattle.numbers.specs.declared.Refusal.{Refusal}
+use Rattle.numbers.specs.declared.Fault.{Fault}
 use Rattle.numbers.specs.declared.Refusal.TheVariants as R
 use Rattle.framing.specs.Local.{size_in}
-use Rattle.captures.specs.declared.Imported.TheVariants as I
-use Rattle.captures.specs.Captures.{from_order, num_in, headed, captured, time_in, frame_in, taken, Packets, packet, complete, broken, packets_from, bytes_in, times_in, tallied}
+use Rattle.captures.specs.Captures.{from_order, num_in, captured, time_in, frame_in, taken, Packets, packet, complete, broken, packets_from, bytes_in, times_in, Held, tallied}
 use Rattle.captures.specs.Steps.{size_at, from}
 use Rattle.captures.specs.FileLaws.{Taken}
 
@@ -22,51 +23,31 @@ use Rattle.captures.specs.FileLaws.{Taken}
 two_at : (s : List ℕ) (at : ℕ) → at + 2 ≤ length s → take 2 (drop at s) ≡ get_or s at 0 ∷ get_or s (at + 1) 0 ∷ []
 two_at s at h = rw (drop-cons s at 0 (omega arith), drop-cons s (suc at) 0 (omega arith), add-one)
 
-pub short_big : (s : List ℕ) (at : ℕ) → at + 2 ≤ length s → get_or s at 0 * 256 + get_or s (at + 1) 0 ≡ num_in true 2 at s
-unfolding from_order from_le
-short_big s at h = rw (two_at s at h) (omega arith)
+four_at : (s : List ℕ) (at : ℕ) → at + 4 ≤ length s → take 4 (drop at s) ≡ get_or s at 0 ∷ get_or s (at + 1) 0 ∷ get_or s (at + 2) 0 ∷ get_or s (at + 3) 0 ∷ []
+four_at s at h =
+    let plus_one : at + 2 + 1 ≡ at + 3 = omega arith in
+    rw (take-add 2 2 (drop at s), drop-drop 2 at s, two_at s at (omega arith), two_at s (at + 2) (omega arith), plus_one) refl
 
-pub short_little : (s : List ℕ) (at : ℕ) → at + 2 ≤ length s → get_or s at 0 + get_or s (at + 1) 0 * 256 ≡ num_in false 2 at s
-unfolding from_order from_le
-short_little s at h = rw (two_at s at h) (omega arith)
+module _ (s : List ℕ) (at : ℕ) {n : ℕ} where
+  module _ (h : at + 2 ≤ length s) where
+    pub short_big : n ≡ from_be_bytes w16 (get_or s at 0 ∷ get_or s (at + 1) 0 ∷ []) → n ≡ num_in true 2 at s
+    unfolding from_order from_le
+    short_big e = rw (two_at s at h) (omega arith)
 
-four_at : (s : List ℕ) (at : ℕ) → take 4 (drop at s) ≡ take 2 (drop at s) ++ take 2 (drop (at + 2) s)
-four_at s at = take-add 2 2 (drop at s) ∙ ap (λ (x : List ℕ). take 2 (drop at s) ++ take 2 x) (drop-drop 2 at s)
+    pub short_little : n ≡ from_le_bytes w16 (get_or s at 0 ∷ get_or s (at + 1) 0 ∷ []) → n ≡ num_in false 2 at s
+    unfolding from_order from_le
+    short_little e = rw (two_at s at h) (omega arith)
 
-module _ (s : List ℕ) (at a b : ℕ) (h : at + 4 ≤ length s) where
-  pub number_big : a ≡ num_in true 2 at s → b ≡ num_in true 2 (at + 2) s → a * 65536 + b ≡ num_in true 4 at s
-  unfolding from_order from_le
-  number_big e f = rw (e, f, four_at s at, two_at s at (omega arith), two_at s (at + 2) (omega arith)) (omega arith)
+  module _ (h : at + 4 ≤ length s) where
+    pub number_big : n ≡ from_be_bytes w32 (get_or s at 0 ∷ get_or s (at + 1) 0 ∷ get_or s (at + 2) 0 ∷ get_or s (at + 3) 0 ∷ []) → n ≡ num_in true 4 at s
+    unfolding from_order from_le
+    number_big e = rw (four_at s at h) (omega arith)
 
-  pub number_little : a ≡ num_in false 2 at s → b ≡ num_in false 2 (at + 2) s → a + b * 65536 ≡ num_in false 4 at s
-  unfolding from_order from_le
-  number_little e f = rw (e, f, four_at s at, two_at s at (omega arith), two_at s (at + 2) (omega arith)) (omega arith)
+    pub number_little : n ≡ from_le_bytes w32 (get_or s at 0 ∷ get_or s (at + 1) 0 ∷ get_or s (at + 2) 0 ∷ get_or s (at + 3) 0 ∷ []) → n ≡ num_in false 4 at s
+    unfolding from_order from_le
+    number_little e = rw (four_at s at h) (omega arith)
 
--- ---- the header
-
-module _ (big : Bool) (s : List ℕ) where
-  pub head_short : length s < 24 → false ≡ headed big s
-  unfolding headed
-  head_short h = rw (lt-ltb (length s) 24 h)
-
-  module _ (l : 24 ≤ length s) {m : ℕ} (e1 : m ≡ num_in big 4 0 s) where
-    pub head_magic : (m ≡ 2712847316 → ⊥) → false ≡ headed big s
-    unfolding headed
-    head_magic h = rw (le-ltb (length s) 24 l, ← e1, ne_eqb m 2712847316 h)
-
-    module _ {v : ℕ} (h1 : m ≡ 2712847316) (e2 : v ≡ num_in big 2 4 s) where
-      pub head_major : (v ≡ 2 → ⊥) → false ≡ headed big s
-      unfolding headed
-      head_major h = rw (le-ltb (length s) 24 l, ← e1, eq-eqb m 2712847316 h1, ← e2, ne_eqb v 2 h)
-
-      module _ {w : ℕ} (h2 : v ≡ 2) (e3 : w ≡ num_in big 2 6 s) where
-        pub head_minor : (w ≡ 4 → ⊥) → false ≡ headed big s
-        unfolding headed
-        head_minor h = rw (le-ltb (length s) 24 l, ← e1, eq-eqb m 2712847316 h1, ← e2, eq-eqb v 2 h2, ← e3, ne_eqb w 4 h)
-
-        pub head_link : {n : ℕ} → w ≡ 4 → n ≡ num_in big 4 20 s → eqb n 147 ≡ headed big s
-        unfolding headed
-        head_link h3 e4 = rw (le-ltb (length s) 24 l, ← e1, eq-eqb m 2712847316 h1, ← e2, eq-eqb v 2 h2, ← e3, eq-eqb w 4 h3, ← e4)
+-- ---- a record that is taken
 
 pub is_taken : (big : Bool) (xs : List ℕ) {n : ℕ} → Taken big xs n → taken big xs ≡ true
 unfolding taken
@@ -119,13 +100,10 @@ module _ (big : Bool) (s : List ℕ) (at : ℕ) where
     size_unlike g = rw (le-ltb (length (drop at s)) 16 long, cap, orig, ne_eqb c o g)
 
     module _ (g : c ≡ o) where
-      pub size_small : c < 7 → Err (R.Capture, at) ≡ size_at big at (drop at s)
+      pub size_out : (c < 7) ⊎ ((7 ≤ c) × (65535 < c)) → Err (R.Capture, at) ≡ size_at big at (drop at s)
       unfolding size_at taken
-      size_small i = rw (le-ltb (length (drop at s)) 16 long, cap, orig, eq-eqb c o g, lt-ltb c 7 i)
-
-      pub size_large : 7 ≤ c → 65535 < c → Err (R.Capture, at) ≡ size_at big at (drop at s)
-      unfolding size_at taken
-      size_large i j = rw (le-ltb (length (drop at s)) 16 long, cap, orig, eq-eqb c o g, le-ltb c 7 i, lt-ltb 65535 c j)
+      size_out (inl i) = rw (le-ltb (length (drop at s)) 16 long, cap, orig, eq-eqb c o g, lt-ltb c 7 i)
+      size_out (inr (i, j)) = rw (le-ltb (length (drop at s)) 16 long, cap, orig, eq-eqb c o g, le-ltb c 7 i, lt-ltb 65535 c j)
 
       module _ (i : 7 ≤ c) (j : c ≤ 65535) where
         pub size_long : length s < at + 16 + c → Err (R.Capture, at) ≡ size_at big at (drop at s)
@@ -219,10 +197,10 @@ module _ (big : Bool) where
                   ∙ rw (drop-drop 4 p s, drop-drop 16 p s, drop-drop (16 + n) p s, a);
             }
 
-    pub none_stands : {r : Place} {k : Refusal} {j : ℕ} → p < length s → r ≡ size_at big p (drop p s) → r ≡ Err (k, j) → from big s p ≡ broken p
-    none_stands h e f =
+    pub none_stands : {r : Place} {x : Fault} → p < length s → r ≡ size_at big p (drop p s) → r ≡ Err x → (x ≡ (R.Capture, p)) × (from big s p ≡ broken p)
+    none_stands {r} {x} h e f =
         size_inv (drop p s) p e (λ t u. absurd (let z : ◌≡◌ {A = ℕ} 0 1 = cc in omega arith))
-        (λ t u. packet_none (drop p s) p (let d = length-drop p s in omega arith) t)
+        (λ t u. (let k : ◌≡◌ {A = Fault} x (R.Capture, p) = cc (sym f ∙ u) in k, packet_none (drop p s) p (let d = length-drop p s in omega arith) t))
 
     pub none_left : length s ≤ p → from big s p ≡ complete
     unfolding packets_from
@@ -251,7 +229,7 @@ module _ (big : Bool) (s : List ℕ) (p : ℕ) where
     times_turn = rw x.is
 
   module _ (x : from big s p ≡ broken p) where
-    pub tally_stop : (b m : ℕ) → I.Refused R.Capture p ≡ tallied b m (from big s p)
+    pub tally_stop : (b m : ℕ) → Err (R.Capture, p) ≡ tallied b m (from big s p)
     unfolding tallied
     tally_stop b m = rw x
 
@@ -260,7 +238,7 @@ module _ (big : Bool) (s : List ℕ) (p : ℕ) where
     nothing_broken = (rw x, rw x)
 
   module _ (x : from big s p ≡ complete) where
-    pub tally_end : (b m : ℕ) → I.Held b m ≡ tallied b m (from big s p)
+    pub tally_end : (b m : ℕ) → Held b m ≡ tallied b m (from big s p)
     unfolding tallied
     tally_end b m = rw x
 

@@ -1,6 +1,6 @@
 -- What holds of the definitions in specs/FrameLaws.antt.
 use Rattle.numbers.specs.Place.{Place}
-use Rattle.std.specs.Prelude.{ℕ, ◌+◌, ◌-◌, ◌≤◌, refl, Bool, true, false, cond, List, take, drop, ltb, Ok, Err}
+use Rattle.std.specs.Prelude.{ℕ, ◌+◌, ◌≤◌, refl, Bool, true, false, cond, List, take, drop, ltb, Ok, Err}
 use native.Mathlib.Omega.{arith}
 use Rattle.std.proofs.Math.Path.{◌≡◌, sym}
 use Rattle.std.proofs.Common.{◌∙◌, drop_of_length-le, take-append-drop, ltb-false}
@@ -23,7 +23,7 @@ module _ (s : List ℕ) where
       go true e f = absurd (let z : ◌≡◌ {A = ℕ} 0 1 = cc in omega arith)
       go false e f = (ltb-false 65535 n e, f)
 
-  no_more : {p m k q : ℕ} → length s ≤ p → Ok m ≡ Ok k → Whole s (ends q) p m k
+  no_more : {p m k q : ℕ} → length s ≤ p → ◌≡◌ {A = Place} (Ok m) (Ok k) → Whole s (ends q) p m k
   unfolding frames_in
   no_more {p} {m} {k} h e = record { count = let f : m ≡ k = cc e in omega arith; joins = sym (drop_of_length-le s h); goods = tt }
 

@@ -44,12 +44,6 @@ pub record Taking (big : Bool) (file o₀ : List ℕ) (t₀ : List (List ℕ)) (
   pub times : sets t i (times_in (from big file at)) ≡ sets t₀ 0 (times_in (from big file 24))
 
 module _ (big : Bool) (file o₀ : List ℕ) (t₀ : List (List ℕ)) where
-  pub take_begins : Roomy file (from big file 24) o₀ t₀ → Taking big file o₀ t₀ o₀ t₀ 24 0 0
-  take_begins r =
-      let h = r.room in
-      let k = r.rows in
-      record { within = r.head; output = refl; table = refl; room = omega arith; rows = omega arith; bytes = refl; times = refl }
-
   module _ (o : List ℕ) (t : List (List ℕ)) (at to i : ℕ) (w : Taking big file o₀ t₀ o t at to i) where
     pub row_left : {n : ℕ} → Stands big file at n → i < length t
     row_left x =
@@ -159,7 +153,7 @@ module _ (s : List ℕ) (ts : List (List ℕ)) (o₀ : List ℕ) where
           omega arith
 
       pub put_turn : {o' : List ℕ} → o' ≡ over o to (record_bytes (get_or (get_or ts i []) 0 0) (get_or (get_or ts i []) 1 0) (take (e - at) (drop at s)))
-          → Putting s ts o₀ o' e (to + 16 + (e - at)) (i + 1)
+          → Putting s ts o₀ o' e (to + (16 + (e - at))) (i + 1)
       put_turn {o'} z =
           let t : ℕ = get_or (get_or ts i []) 0 0 in
           let u : ℕ = get_or (get_or ts i []) 1 0 in
@@ -174,14 +168,14 @@ module _ (s : List ℕ) (ts : List (List ℕ)) (o₀ : List ℕ) where
           let a = length-append (record_bytes t u f) cs in
           let m : length o' ≡ length o = ap length z ∙ length_over o to (record_bytes t u f) (omega arith) in
           let c = w.output in
-          let n : to + 16 + (e - at) ≡ to + length (record_bytes t u f) = omega arith in
+          let n : to + (16 + (e - at)) ≡ to + length (record_bytes t u f) = omega arith in
           let all = over_turn o o₀ to 24 (records s ts) (record_bytes t u f) cs (omega arith) (rw to_come at w.bytes) in
           record {
             within = x.held;
             output = omega arith;
             rows = omega arith;
             room = omega arith;
-            bytes = ap (λ (y : List ℕ). over y (to + 16 + (e - at)) cs) z ∙ ap (λ j. over (over o to (record_bytes t u f)) j cs) n ∙ all;
+            bytes = ap (λ (y : List ℕ). over y (to + (16 + (e - at))) cs) z ∙ ap (λ j. over (over o to (record_bytes t u f)) j cs) n ∙ all;
           }
 
     pub put_ends : frames_in s (rest s at) ≡ [] → o ≡ over o₀ 24 (records s ts)

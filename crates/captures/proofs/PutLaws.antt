@@ -1,6 +1,6 @@
 -- Of what is put: the header, a record, the records; and how long a file is.
 use Rattle.numbers.specs.Place.{Place}
-use Rattle.std.specs.Prelude.{ℕ, ◌+◌, ◌*◌, ◌-◌, ◌≤◌, ◌≡◌, refl, List, [], ◌∷◌, length, take, drop, Ok}
+use Rattle.std.specs.Prelude.{ℕ, ◌+◌, ◌*◌, ◌≤◌, ◌≡◌, refl, List, [], ◌∷◌, length, take, drop, Ok}
 use Rattle.std.proofs.Common.{arith, ◌∙◌, length-append}
 use Rattle.numbers.specs.Numbers.{to_le}
 use Rattle.numbers.proofs.Numbers.{length_to_le}

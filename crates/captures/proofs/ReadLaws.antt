@@ -15,8 +15,7 @@ use Rattle.framing.specs.Local.{size_in}
 use Rattle.framing.specs.Stretch.{list_from, listing}
 use Rattle.framing.specs.ListingLaws.{Front}
 use Rattle.framing.proofs.ListingLaws.{list_next}
-use Rattle.captures.specs.declared.Imported.TheVariants as I
-use Rattle.captures.specs.Captures.{from_order, num_in, headed, order_of, time_in, Packets, packet, complete, broken, packets_from, packets_of, bytes_in, times_in, tallied, frames_in, counted, fits, paired, header, record_bytes, records_of, file_of}
+use Rattle.captures.specs.Captures.{from_order, num_in, headed, order_of, time_in, Packets, packet, complete, broken, packets_from, packets_of, bytes_in, times_in, Held, tallied, frames_in, counted, fits, paired, header, record_bytes, records_of, file_of}
 use Rattle.captures.specs.Steps.{joined, Good, Goods}
 use Rattle.captures.specs.FileLaws.{Taken}
 use Rattle.captures.proofs.FileLaws.{packet_next, packet_case}
@@ -110,13 +109,13 @@ times_paired ts [] h = refl
 times_paired [] (f ∷ fs) h = absurd (omega arith)
 times_paired (t ∷ ts) (f ∷ fs) h = ap (λ (x : List (List ℕ)). t ∷ x) (times_paired ts fs (omega arith))
 
-pub tally_paired : (ts fs : List (List ℕ)) (b n : ℕ) → length fs ≤ length ts → tallied b n (paired ts fs) ≡ I.Held (b + length (joined fs)) (n + length fs)
+pub tally_paired : (ts fs : List (List ℕ)) (b n : ℕ) → length fs ≤ length ts → tallied b n (paired ts fs) ≡ Held (b + length (joined fs)) (n + length fs)
 unfolding tallied paired
-tally_paired ts [] b n h = ap₂ I.Held (omega arith) (omega arith)
+tally_paired ts [] b n h = ap₂ Held (omega arith) (omega arith)
 tally_paired [] (f ∷ fs) b n h = absurd (omega arith)
 tally_paired (t ∷ ts) (f ∷ fs) b n h =
     let l = length-append f (joined fs) in
-    tally_paired ts fs (b + length f) (n + 1) (omega arith) ∙ ap₂ I.Held (omega arith) (omega arith)
+    tally_paired ts fs (b + length f) (n + 1) (omega arith) ∙ ap₂ Held (omega arith) (omega arith)
 
 pub frame_good : {big : Bool} {xs : List ℕ} {n : ℕ} → Taken big xs n → Good (take n (drop 16 xs))
 frame_good {big} {xs} {n} t =
@@ -127,7 +126,7 @@ frame_good {big} {xs} {n} t =
     let u = t.most in
     record { seven = omega arith; most = omega arith; size = ap from_le (take-take 4 n (drop 16 xs) (omega arith)) ∙ t.size ∙ sym l }
 
-pub reads_back : (big : Bool) (r : Packets) (xs : List ℕ) (p b n : ℕ) {b' n' : ℕ} → r ≡ packets_from big p 0 xs → tallied b n r ≡ I.Held b' n' → Back big xs r
+pub reads_back : (big : Bool) (r : Packets) (xs : List ℕ) (p b n : ℕ) {b' n' : ℕ} → r ≡ packets_from big p 0 xs → tallied b n r ≡ Held b' n' → Back big xs r
 unfolding tallied times_in paired frames_of
 reads_back big (broken q) xs p b n e h = absurd (let z : ◌≡◌ {A = ℕ} 0 1 = cc h in omega arith)
 reads_back big complete xs p b n e h = record { goods = tt; pairs = refl; many = refl }
@@ -170,7 +169,7 @@ record_back xs n b t =
     same : {a a' c c' d d' g g' : List ℕ} (f : List ℕ) → a ≡ a' → c ≡ c' → d ≡ d' → g ≡ g' → a ++ c ++ d ++ g ++ f ≡ a' ++ c' ++ d' ++ g' ++ f
     same f x y z w = rw (x, y, z, w)
 
-pub writes_back : (r : Packets) (xs : List ℕ) (p b n : ℕ) {b' n' : ℕ} → Bytes xs → r ≡ packets_from false p 0 xs → tallied b n r ≡ I.Held b' n' → records_of r ≡ xs
+pub writes_back : (r : Packets) (xs : List ℕ) (p b n : ℕ) {b' n' : ℕ} → Bytes xs → r ≡ packets_from false p 0 xs → tallied b n r ≡ Held b' n' → records_of r ≡ xs
 unfolding tallied records_of
 writes_back (broken q) xs p b n y e h = absurd (let z : ◌≡◌ {A = ℕ} 0 1 = cc h in omega arith)
 writes_back complete xs p b n y e h =

@@ -11,47 +11,46 @@ use Rattle.numbers.specs.declared.Refusal.{Refusal}
 use Rattle.numbers.specs.declared.Refusal.TheVariants as R
 use Rattle.layouts.specs.Tables.{Row}
 use Rattle.framing.specs.Stretch.{listing}
-use Rattle.captures.specs.declared.Imported.{Imported}
-use Rattle.captures.specs.declared.Imported.TheVariants as I
-use Rattle.captures.specs.Captures.{order_of, Packets, packets_from, packets_in, packets_of, bytes_in, times_in, tallied, within, imported, Imports, frames_in, counted, fits, cut_up, paired, header, records_of, exported_file, exported, Exports, unless}
+use Rattle.captures.specs.Captures.{order_of, Packets, packets_from, packets_in, packets_of, bytes_in, times_in, Import, Held, tallied, within, imported, Imports, frames_in, counted, fits, cut_up, paired, header, records_of, exported_file, exported, Exports, unless}
 use Rattle.captures.specs.Steps.{joined, Goods}
 use Rattle.captures.proofs.StretchLaws.{starts}
 use Rattle.captures.proofs.FrameLaws.{whole}
-use Rattle.captures.proofs.WayLaws.{tallied_held}
+use Rattle.captures.proofs.WayLaws.{held_one, tallied_held}
 use Rattle.captures.specs.ReadLaws.{Pairs, frames_of}
 use Rattle.captures.proofs.ReadLaws.{packets_after, reads_file, bytes_joined, bytes_paired, times_paired, tally_paired, reads_back, writes_back, reads_stretch}
 use Rattle.captures.specs.Round.{Took, Wrote}
 
 -- ---- one answer, and nothing altered
 
-pub imports_one : {file o a b : List ℕ} {t t1 t2 : List (List ℕ)} {r q : Imported} → Imports file o t a t1 r → Imports file o t b t2 q → (a ≡ b) × (t1 ≡ t2) × (r ≡ q)
+pub imports_one : {file o a b : List ℕ} {t t1 t2 : List (List ℕ)} {r q : Import} → Imports file o t a t1 r → Imports file o t b t2 q → (a ≡ b) × (t1 ≡ t2) × (r ≡ q)
 imports_one x y = (one_answer x.bytes y.bytes, one_answer x.times y.times, one_answer x.answer y.answer)
 
 pub exports_one : {s o a b : List ℕ} {ts : List (List ℕ)} {r q : Place} → Exports s ts o a r → Exports s ts o b q → (a ≡ b) × (r ≡ q)
 exports_one x y = (one_answer x.bytes y.bytes, one_answer x.answer y.answer)
 
 -- refused, nothing that was lent differs
-pub import_untouched : {file o o' : List ℕ} {t t' : List (List ℕ)} {k : Refusal} {p : ℕ} → Imports file o t o' t' (I.Refused k p) → (o' ≡ o) × (t' ≡ t)
+pub import_untouched : {file o o' : List ℕ} {t t' : List (List ℕ)} {k : Refusal} {p : ℕ} → Imports file o t o' t' (Err (k, p)) → (o' ≡ o) × (t' ≡ t)
 import_untouched x = (rw (← x.answer) at x.bytes, rw (← x.answer) at x.times)
 
 pub export_untouched : {s o o' : List ℕ} {ts : List (List ℕ)} {k : Refusal} {p : ℕ} → Exports s ts o o' (Err (k, p)) → o' ≡ o
 export_untouched x = rw (← x.answer) at x.bytes
 
-within_inv : {X : Type 0} (room rows : ℕ) (m : Imported) {b n : ℕ} → within room rows m ≡ I.Held b n → (m ≡ I.Held b n → n ≤ rows → b ≤ room → X) → X
-within_inv room rows (I.Refused k p) e f = absurd (let z : ◌≡◌ {A = ℕ} 0 1 = cc e in omega arith)
-within_inv {X} room rows (I.Held x y) {b} {n} e f = go (ltb rows y) (ltb room x) refl refl e
+within_inv : {X : Type 0} (room rows : ℕ) (m : Import) {b n : ℕ} → within room rows m ≡ Held b n → (m ≡ Held b n → n ≤ rows → b ≤ room → X) → X
+within_inv room rows (Err x) e f = absurd (let z : ◌≡◌ {A = ℕ} 0 1 = cc e in omega arith)
+within_inv {X} room rows (Ok x) {b} {n} e f = go (ltb rows x.frames) (ltb room x.bytes) refl refl e
   where
-    go : (c d : Bool) → ltb rows y ≡ c → ltb room x ≡ d → cond c (I.Refused R.TableFull 0) (cond d (I.Refused R.NoRoom 0) (I.Held x y)) ≡ I.Held b n → X
+    go : (c d : Bool) → ltb rows x.frames ≡ c → ltb room x.bytes ≡ d → cond c (Err (R.TableFull, 0)) (cond d (Err (R.NoRoom, 0)) (Ok x)) ≡ Held b n → X
     go true d u v w = absurd (let z : ◌≡◌ {A = ℕ} 0 1 = cc w in omega arith)
     go false true u v w = absurd (let z : ◌≡◌ {A = ℕ} 0 1 = cc w in omega arith)
     go false false u v w =
-        let p : x ≡ b = cc w in
-        let q : y ≡ n = cc w in
-        let g = ltb-false rows y u in
-        let h = ltb-false room x v in
+        let p = held_one {b = x.bytes} {n = x.frames} w in
+        let q = p.0 in
+        let r = p.1 in
+        let g = ltb-false rows x.frames u in
+        let h = ltb-false room x.bytes v in
         f w (omega arith) (omega arith)
 
-pub took : {file o o' : List ℕ} {t t' : List (List ℕ)} {b n : ℕ} → Imports file o t o' t' (I.Held b n) → Took file o t o' t' b n
+pub took : {file o o' : List ℕ} {t t' : List (List ℕ)} {b n : ℕ} → Imports file o t o' t' (Held b n) → Took file o t o' t' b n
 unfolding imported
 took {file} {o} {o'} {t} {t'} {b} {n} x =
     within_inv (length o) (length t) (tallied 0 0 (packets_of file)) (sym x.answer)
@@ -96,9 +95,9 @@ wrote {s} {o} {o'} {ts} {n} x =
 
 -- ---- export, then import (F13.6): the same frames and the same times, wherever there is room for them
 
-pub export_import : {s o o' o2 o2' : List ℕ} {ts t2 t2' : List (List ℕ)} {n : ℕ} {r : Imported} → Pairs ts → Exports s ts o o' (Ok n) → Imports (take n o') o2 t2 o2' t2' r
+pub export_import : {s o o' o2 o2' : List ℕ} {ts t2 t2' : List (List ℕ)} {n : ℕ} {r : Import} → Pairs ts → Exports s ts o o' (Ok n) → Imports (take n o') o2 t2 o2' t2' r
     → length s ≤ length o2 → length (frames_in s (cut_up s)) ≤ length t2
-    → (r ≡ I.Held (length s) (length (frames_in s (cut_up s)))) × (o2' ≡ s ++ drop (length s) o2)
+    → (r ≡ Held (length s) (length (frames_in s (cut_up s)))) × (o2' ≡ s ++ drop (length s) o2)
     × (t2' ≡ take (length (frames_in s (cut_up s))) ts ++ drop (length (frames_in s (cut_up s))) t2)
 unfolding imported
 export_import {s} {o} {o'} {o2} {o2'} {ts} {t2} {t2'} {n} {r} ps x y h k =
@@ -109,8 +108,8 @@ export_import {s} {o} {o'} {o2} {o2'} {ts} {t2} {t2'} {n} {r} ps x y h k =
     let by : bytes_in (paired ts fs) ≡ s = bytes_paired ts fs w.rows ∙ w.joins in
     let ti : times_in (paired ts fs) ≡ take (length fs) ts = times_paired ts fs w.rows in
     let tl : length (take (length fs) ts) ≡ length fs = length-take-le (length fs) ts w.rows in
-    let ta : tallied 0 0 (packets_of (take n o')) ≡ I.Held (length s) (length fs)
-    = ap (tallied 0 0) back ∙ tally_paired ts fs 0 0 w.rows ∙ ap₂ I.Held (zero-add (length (joined fs)) ∙ ap length w.joins) (zero-add (length fs)) in
+    let ta : tallied 0 0 (packets_of (take n o')) ≡ Held (length s) (length fs)
+    = ap (tallied 0 0) back ∙ tally_paired ts fs 0 0 w.rows ∙ ap₂ Held (zero-add (length (joined fs)) ∙ ap length w.joins) (zero-add (length fs)) in
     let u = le-ltb (length t2) (length fs) k in
     let v = le-ltb (length o2) (length s) h in (
       rw (ta, u, v) at y.answer,
@@ -120,7 +119,7 @@ export_import {s} {o} {o'} {o2} {o2'} {ts} {t2} {t2'} {n} {r} ps x y h k =
 
 -- ---- import, then export (F13.7): the same file, if it has the header that export writes
 
-pub import_export : {file o o' o2 o2' : List ℕ} {t t' : List (List ℕ)} {b n : ℕ} {r : Place} → Bytes file → take 24 file ≡ header → Imports file o t o' t' (I.Held b n)
+pub import_export : {file o o' o2 o2' : List ℕ} {t t' : List (List ℕ)} {b n : ℕ} {r : Place} → Bytes file → take 24 file ≡ header → Imports file o t o' t' (Held b n)
     → Exports (take b o') (take n t') o2 o2' r → length file ≤ length o2 → (r ≡ Ok (length file)) × (o2' ≡ file ++ drop (length file) o2)
 unfolding exported
 import_export {file} {o} {o'} {o2} {o2'} {t} {t'} {b} {n} {r} bs hd x y room =
@@ -128,7 +127,7 @@ import_export {file} {o} {o'} {o2} {o2'} {t} {t'} {b} {n} {r} bs hd x y room =
     let whole_file : header ++ drop 24 file ≡ file = ap (λ (z : List ℕ). z ++ drop 24 file) (sym hd) ∙ take-append-drop 24 file in
     let is : packets_of file ≡ p = ap packets_of (sym whole_file) ∙ packets_after (drop 24 file) in
     let w = took x in
-    let told : tallied 0 0 p ≡ I.Held b n = ap (tallied 0 0) (sym is) ∙ w.told in
+    let told : tallied 0 0 p ≡ Held b n = ap (tallied 0 0) (sym is) ∙ w.told in
     let i = tallied_held p 0 0 told in
     let bl : length (bytes_in p) ≡ b = (let u = i.0 in omega arith) in
     let tl : length (times_in p) ≡ n = (let u = i.1 in omega arith) in
@@ -151,12 +150,12 @@ import_export {file} {o} {o'} {o2} {o2'} {t} {t'} {b} {n} {r} bs hd x y room =
 
 -- ---- an imported stretch reads to its end, a frame a record, whatever the tables and the order
 
-read_in : (q : Option Bool) (file : List ℕ) {b n : ℕ} → tallied 0 0 (packets_in q file) ≡ I.Held b n → Goods (frames_of (packets_in q file)) × (length (frames_of (packets_in q file)) ≡ length (times_in (packets_in q file)))
+read_in : (q : Option Bool) (file : List ℕ) {b n : ℕ} → tallied 0 0 (packets_in q file) ≡ Held b n → Goods (frames_of (packets_in q file)) × (length (frames_of (packets_in q file)) ≡ length (times_in (packets_in q file)))
 unfolding tallied
 read_in none file e = absurd (let z : ◌≡◌ {A = ℕ} 0 1 = cc e in omega arith)
 read_in (some big) file e = let k = reads_back big (packets_from big 24 0 (drop 24 file)) (drop 24 file) 24 0 0 refl e in (k.goods, k.many)
 
-pub imported_reads : {file o o' : List ℕ} {t t' : List (List ℕ)} {b n : ℕ} (ts rs : List Row) → Imports file o t o' t' (I.Held b n)
+pub imported_reads : {file o o' : List ℕ} {t t' : List (List ℕ)} {b n : ℕ} (ts rs : List Row) → Imports file o t o' t' (Held b n)
     → (counted 0 (listing ts rs (take b o')) ≡ Ok n) × (frames_in (take b o') (listing ts rs (take b o')) ≡ frames_of (packets_of file)) × (fits (listing ts rs (take b o')) ≡ Ok b)
 unfolding packets_of
 imported_reads {file} {o} {o'} {t} {t'} {b} {n} ts rs x =

@@ -1,6 +1,6 @@
 -- What import and export answer on each way, and leave of what was lent.
 use Rattle.numbers.specs.Place.{Place}
-use Rattle.std.specs.Prelude.{ℕ, ◌+◌, ◌*◌, ◌≤◌, ◌<◌, Bool, ltb, eqb, Ok, Err}
+use Rattle.std.specs.Prelude.{ℕ, ◌+◌, ◌*◌, ◌≤◌, ◌<◌, Bool, ltb, eqb, Ok, Err, Option, Some, None}
 use native.Mathlib.Omega.{arith}
 use Rattle.std.proofs.Common.{zero-add, sym, ◌∙◌, length-append}
 use Rattle.std.proofs.Math.Path.{◌≡◌, refl, ap}
@@ -11,12 +11,12 @@ use Rattle.std.proofs.Math.ListN.{length, drop}
 use borrow.Author.Tests.{lt-ltb, le-ltb, ltb-false}
 use Rattle.numbers.specs.Places.{over}
 use Rattle.numbers.proofs.PlaceLaws.{over_then}
-use Rattle.numbers.specs.declared.Refusal.{Refusal}
+use Rattle.numbers.specs.declared.Fault.{Fault}
 use Rattle.numbers.specs.declared.Refusal.TheVariants as R
+use Rattle.captures.specs.declared.Order.{Order}
 use Rattle.captures.specs.declared.Imported.{Imported}
-use Rattle.captures.specs.declared.Imported.TheVariants as I
-use Rattle.captures.specs.Captures.{num_in, headed, order_of, Packets, packet, complete, broken, packets_of, bytes_in, times_in, tallied, within, imported, Imports, frames_in, counted, fits, cut_up, header, exported_file, exported, Exports}
-use Rattle.captures.specs.Steps.{from, Roomy, RoomFor, records, Ready}
+use Rattle.captures.specs.Captures.{num_in, headed, order_of, Packets, packet, complete, broken, packets_of, bytes_in, times_in, Import, Held, tallied, within, imported, Imports, frames_in, counted, fits, unless, cut_up, header, exported_file, exported, Exports}
+use Rattle.captures.specs.Steps.{is_big, OrderIs, from, Roomy, countable, RoomFor, records, Ready}
 use Rattle.captures.proofs.StretchLaws.{starts}
 use Rattle.captures.proofs.PutLaws.{head_length, records_length}
 use Rattle.captures.specs.FrameLaws.{Whole}
@@ -38,17 +38,11 @@ head_inv big s = go (ltb (length s) 24) refl
     go false e f = ltb-false (length s) 24 e
 
 module _ (s : List ℕ) where
-  pub order_little : {b : Bool} → b ≡ headed false s → b ≡ true → order_of s ≡ some false
-  unfolding order_of
-  order_little e f = rw (← e, f)
+  pub some_order : {r : Option Order} {x : Order} → OrderIs s r → r ≡ Some x → order_of s ≡ some (is_big x)
+  some_order i e = rw e at i
 
-  pub order_big : {b c : Bool} → b ≡ headed false s → b ≡ false → c ≡ headed true s → c ≡ true → order_of s ≡ some true
-  unfolding order_of
-  order_big e f g h = rw (← e, f, ← g, h)
-
-  pub order_none : {b c : Bool} → b ≡ headed false s → b ≡ false → c ≡ headed true s → c ≡ false → order_of s ≡ none
-  unfolding order_of
-  order_none e f g h = rw (← e, f, ← g, h)
+  pub no_order : {r : Option Order} → OrderIs s r → r ≡ None → order_of s ≡ none
+  no_order i e = rw e at i
 
   -- it is that of the header
   pub order_inv : {big : Bool} → order_of s ≡ some big → headed big s ≡ true
@@ -65,8 +59,13 @@ module _ (s : List ℕ) where
 
 -- ---- import
 
+pub held_one : {b n b' n' : ℕ} → Held b n ≡ Held b' n' → (b ≡ b') × (n ≡ n')
+held_one {b} {n} {b'} {n'} e =
+    let f : ◌≡◌ {A = Imported} (record { bytes = b; frames = n }) (record { bytes = b'; frames = n' }) = cc e in
+    (ap (λ (t : Imported). t.bytes) f, ap (λ (t : Imported). t.frames) f)
+
 -- how many there are
-pub tallied_held : (r : Packets) (b n : ℕ) {b' n' : ℕ} → tallied b n r ≡ I.Held b' n' → (b' ≡ b + length (bytes_in r)) × (n' ≡ n + length (times_in r))
+pub tallied_held : (r : Packets) (b n : ℕ) {b' n' : ℕ} → tallied b n r ≡ Held b' n' → (b' ≡ b + length (bytes_in r)) × (n' ≡ n + length (times_in r))
 unfolding tallied bytes_in times_in
 tallied_held (packet t f r) b n {b'} {n'} e =
     let i = tallied_held r (b + length f) (n + 1) e in
@@ -75,13 +74,14 @@ tallied_held (packet t f r) b n {b'} {n'} e =
     let l = length-append f (bytes_in r) in
     (omega arith, omega arith)
 tallied_held complete b n {b'} {n'} e =
-    let x : b ≡ b' = cc e in
-    let y : n ≡ n' = cc e in
+    let x = held_one e in
+    let y = x.0 in
+    let z = x.1 in
     (omega arith, omega arith)
 tallied_held (broken p) b n e = absurd (let z : ◌≡◌ {A = ℕ} 0 1 = cc e in omega arith)
 
 module _ (file o : List ℕ) (t : List (List ℕ)) where
-  pub import_none : order_of file ≡ none → Imports file o t o t (I.Refused R.Capture 0)
+  pub import_none : order_of file ≡ none → Imports file o t o t (Err (R.Capture, 0))
   unfolding imported packets_of tallied
   import_none e = record { answer = rw e; bytes = rw e; times = rw e }
 
@@ -90,41 +90,41 @@ module _ (file o : List ℕ) (t : List (List ℕ)) where
     unfolding packets_of
     in_order = rw e
 
-    module _ {r : Imported} (f : r ≡ tallied 0 0 (from big file 24)) where
+    module _ {r : Import} (f : r ≡ tallied 0 0 (from big file 24)) where
       told : imported (length o) (length t) file ≡ within (length o) (length t) r
       unfolding imported
       told = rw (in_order, f)
 
-      pub import_refused : {k : Refusal} {j : ℕ} → r ≡ I.Refused k j → Imports file o t o t r
+      pub import_refused : {x : Fault} → r ≡ Err x → Imports file o t o t (Err x)
       import_refused g = record { answer = rw (told, g); bytes = rw (told, g); times = rw (told, g) }
 
-      module _ {b n : ℕ} (g : r ≡ I.Held b n) where
-        pub import_rows : length t < n → Imports file o t o t (I.Refused R.TableFull 0)
-        import_rows h = let u = lt-ltb (length t) n h in record { answer = rw (told, g, u); bytes = rw (told, g, u); times = rw (told, g, u) }
+      module _ {x : Imported} (g : r ≡ Ok x) where
+        pub import_rows : length t < x.frames → Imports file o t o t (Err (R.TableFull, 0))
+        import_rows h = let u = lt-ltb (length t) x.frames h in record { answer = rw (told, g, u); bytes = rw (told, g, u); times = rw (told, g, u) }
 
-        module _ (h : n ≤ length t) where
-          pub import_room : length o < b → Imports file o t o t (I.Refused R.NoRoom 0)
+        module _ (h : x.frames ≤ length t) where
+          pub import_room : length o < x.bytes → Imports file o t o t (Err (R.NoRoom, 0))
           import_room k =
-              let u = le-ltb (length t) n h in
-              let v = lt-ltb (length o) b k in
+              let u = le-ltb (length t) x.frames h in
+              let v = lt-ltb (length o) x.bytes k in
               record { answer = rw (told, g, u, v); bytes = rw (told, g, u, v); times = rw (told, g, u, v) }
 
-          pub import_ready : b ≤ length o → Roomy file (from big file 24) o t
+          pub import_ready : x.bytes ≤ length o → Roomy file (from big file 24) o t
           import_ready k =
-              let i = tallied_held (from big file 24) 0 0 (sym f ∙ g) in
-              let x = i.0 in
-              let y = i.1 in
+              let i = tallied_held (from big file 24) 0 0 {b' = x.bytes} {n' = x.frames} (sym f ∙ g) in
+              let y = i.0 in
+              let z = i.1 in
               record { head = order_long file e; room = omega arith; rows = omega arith }
 
-          pub import_held : {o' : List ℕ} {t' : List (List ℕ)} → b ≤ length o
-              → (o' ≡ over o 0 (bytes_in (from big file 24))) × (t' ≡ times_in (from big file 24) ++ drop (length (times_in (from big file 24))) t) → Imports file o t o' t' (I.Held b n)
-          import_held k (x, y) =
-              let u = le-ltb (length t) n h in
-              let v = le-ltb (length o) b k in
+          pub import_held : {o' : List ℕ} {t' : List (List ℕ)} → x.bytes ≤ length o
+              → (o' ≡ over o 0 (bytes_in (from big file 24))) × (t' ≡ times_in (from big file 24) ++ drop (length (times_in (from big file 24))) t) → Imports file o t o' t' (Ok x)
+          import_held k (y, z) =
+              let u = le-ltb (length t) x.frames h in
+              let v = le-ltb (length o) x.bytes k in
               record {
                 answer = rw (told, g, u, v);
-                bytes = rw (told, g, u, v, in_order) (x ∙ over_front o (bytes_in (from big file 24)));
-                times = rw (told, g, u, v, in_order) y;
+                bytes = rw (told, g, u, v, in_order) (y ∙ over_front o (bytes_in (from big file 24)));
+                times = rw (told, g, u, v, in_order) z;
               }
 
 -- ---- export
@@ -136,70 +136,85 @@ module _ {room len n : ℕ} {b : Bool} (x : RoomFor room len n b) where
   pub room_no : b ≡ false → room < 24 + len + 16 * n
   room_no e = rw e at x.is
 
-module _ (s : List ℕ) (ts : List (List ℕ)) (o : List ℕ) {p : Place} (c : p ≡ counted 0 (cut_up s)) where
-  pub export_cut : {k : Refusal} {j : ℕ} → p ≡ Err (k, j) → Exports s ts o o p
+-- the first refusal is that of both
+unless_err : (a b q : Place) {x : Fault} → unless a (unless b a) ≡ Err x → unless a (unless b q) ≡ Err x
+unless_err (Err f) b q e = e
+unless_err (Ok n) (Err f) q e = e
+unless_err (Ok n) (Ok m) q e = absurd (let z : ◌≡◌ {A = ℕ} 0 1 = cc e in omega arith)
+
+unless_ok : (a b : Place) {n : ℕ} → unless a (unless b a) ≡ Ok n → (a ≡ Ok n) × (j : ℕ) × (b ≡ Ok j)
+unless_ok (Err f) b e = absurd (let z : ◌≡◌ {A = ℕ} 0 1 = cc e in omega arith)
+unless_ok (Ok n) (Err f) e = absurd (let z : ◌≡◌ {A = ℕ} 0 1 = cc e in omega arith)
+unless_ok (Ok n) (Ok m) e = (e, m, refl)
+
+module _ (s : List ℕ) (ts : List (List ℕ)) (o : List ℕ) {p : Place} (c : p ≡ countable (cut_up s)) where
+  pub export_cut : {x : Fault} → p ≡ Err x → Exports s ts o o (Err x)
   unfolding exported
-  export_cut e = record { answer = rw (← c, e); bytes = rw (← c, e) }
+  export_cut e = let f = unless_err (counted 0 (cut_up s)) (fits (cut_up s)) _ (sym c ∙ e) in record { answer = sym f; bytes = rw f }
 
-  module _ {n : ℕ} {q : Place} (e : p ≡ Ok n) (f : q ≡ fits (cut_up s)) where
-    pub export_long : {k : Refusal} {j : ℕ} → q ≡ Err (k, j) → Exports s ts o o q
+  module _ {n : ℕ} (e : p ≡ Ok n) where
+    both_pass : (counted 0 (cut_up s) ≡ Ok n) × (j : ℕ) × (fits (cut_up s) ≡ Ok j)
+    both_pass = unless_ok (counted 0 (cut_up s)) (fits (cut_up s)) (sym c ∙ e)
+
+    cut : counted 0 (cut_up s) ≡ Ok n
+    cut = both_pass.0
+
+    fit : fits (cut_up s) ≡ Ok both_pass.1
+    fit = both_pass.2
+
+    all : Whole s (cut_up s) 0 0 n
+    all = whole s (cut_up s) 0 (omega arith) (sym (starts s)) cut fit
+
+    pub frames_many : length (frames_in s (cut_up s)) ≡ n
+    frames_many = let h = all.count in omega arith
+
+    pub export_rows : length ts < n → Exports s ts o o (Err (R.TableFull, 0))
     unfolding exported
-    export_long g = record { answer = rw (← c, e, ← f, g); bytes = rw (← c, e, ← f, g) }
+    export_rows h =
+        let u = lt-ltb (length ts) n h in
+        record { answer = rw (cut, fit, frames_many, u); bytes = rw (cut, fit, frames_many, u) }
 
-    module _ {j : ℕ} (g : q ≡ Ok j) where
-      all : Whole s (cut_up s) 0 0 n
-      all = whole s (cut_up s) 0 (omega arith) (sym (starts s)) (sym c ∙ e) (sym f ∙ g)
+    module _ (h : n ≤ length ts) where
+      records_long : length (records s ts) ≡ length s + 16 * n
+      records_long =
+          let m = frames_many in
+          let j = ap length all.joins in
+          let l = records_length ts (frames_in s (cut_up s)) (omega arith) in
+          omega arith
 
-      pub frames_many : length (frames_in s (cut_up s)) ≡ n
-      frames_many = let h = all.count in omega arith
+      file_long : length (exported_file s ts) ≡ 24 + length s + 16 * n
+      file_long =
+          let a = length-append header (records s ts) in
+          let l = head_length in
+          let m = records_long in
+          omega arith
 
-      pub export_rows : length ts < n → Exports s ts o o (Err (R.TableFull, 0))
+      pub export_room : length o < 24 + length s + 16 * n → Exports s ts o o (Err (R.NoRoom, 0))
       unfolding exported
-      export_rows h =
-          let u = lt-ltb (length ts) n h in
-          record { answer = rw (← c, e, ← f, g, frames_many, u); bytes = rw (← c, e, ← f, g, frames_many, u) }
+      export_room k =
+          let u = le-ltb (length ts) n h in
+          let v = lt-ltb (length o) (24 + length s + 16 * n) k in
+          record { answer = rw (cut, fit, frames_many, u, file_long, v); bytes = rw (cut, fit, frames_many, u, file_long, v) }
 
-      module _ (h : n ≤ length ts) where
-        records_long : length (records s ts) ≡ length s + 16 * n
-        records_long =
+      module _ (k : 24 + length s + 16 * n ≤ length o) where
+        pub export_ready : {o1 : List ℕ} → o1 ≡ over o 0 header → length o1 ≡ length o → Ready s ts o1
+        export_ready i l =
             let m = frames_many in
-            let j = ap length all.joins in
-            let l = records_length ts (frames_in s (cut_up s)) (omega arith) in
-            omega arith
+            let r = records_long in
+            record { rows = omega arith; room = omega arith }
 
-        file_long : length (exported_file s ts) ≡ 24 + length s + 16 * n
-        file_long =
-            let a = length-append header (records s ts) in
-            let l = head_length in
-            let m = records_long in
-            omega arith
-
-        pub export_room : length o < 24 + length s + 16 * n → Exports s ts o o (Err (R.NoRoom, 0))
+        pub export_held : {o1 o2 : List ℕ} {m : ℕ} → o1 ≡ over o 0 header → o2 ≡ over o1 24 (records s ts) → m ≡ 24 + length s + 16 * n → Exports s ts o o2 (Ok m)
         unfolding exported
-        export_room k =
+        export_held {o1} {o2} {m} x y z =
             let u = le-ltb (length ts) n h in
-            let v = lt-ltb (length o) (24 + length s + 16 * n) k in
-            record { answer = rw (← c, e, ← f, g, frames_many, u, file_long, v); bytes = rw (← c, e, ← f, g, frames_many, u, file_long, v) }
-
-        module _ (k : 24 + length s + 16 * n ≤ length o) where
-          pub export_ready : {o1 : List ℕ} → o1 ≡ over o 0 header → length o1 ≡ length o → Ready s ts o1
-          export_ready i l =
-              let m = frames_many in
-              let r = records_long in
-              record { rows = omega arith; room = omega arith }
-
-          pub export_held : {o1 o2 : List ℕ} {m : ℕ} → o1 ≡ over o 0 header → o2 ≡ over o1 24 (records s ts) → m ≡ 24 + length s + 16 * n → Exports s ts o o2 (Ok m)
-          unfolding exported
-          export_held {o1} {o2} {m} x y z =
-              let u = le-ltb (length ts) n h in
-              let v = le-ltb (length o) (24 + length s + 16 * n) k in
-              let l = head_length in
-              let w : 24 ≡ 0 + length header = omega arith in
-              let r = file_long in
-              let both : o2 ≡ exported_file s ts ++ drop (length (exported_file s ts)) o
-              = y ∙ ap (λ (a : List ℕ). over a 24 (records s ts)) x ∙ ap (λ i. over (over o 0 header) i (records s ts)) w
-              ∙ over_then o 0 header (records s ts) (omega arith) ∙ over_front o (exported_file s ts) in
-              record {
-                answer = rw (← c, e, ← f, g, frames_many, u, file_long, v, z);
-                bytes = rw (← c, e, ← f, g, frames_many, u, file_long, v) (both ∙ rw file_long);
-              }
+            let v = le-ltb (length o) (24 + length s + 16 * n) k in
+            let l = head_length in
+            let w : 24 ≡ 0 + length header = omega arith in
+            let r = file_long in
+            let both : o2 ≡ exported_file s ts ++ drop (length (exported_file s ts)) o
+            = y ∙ ap (λ (a : List ℕ). over a 24 (records s ts)) x ∙ ap (λ i. over (over o 0 header) i (records s ts)) w
+            ∙ over_then o 0 header (records s ts) (omega arith) ∙ over_front o (exported_file s ts) in
+            record {
+              answer = rw (cut, fit, frames_many, u, file_long, v, z);
+              bytes = rw (cut, fit, frames_many, u, file_long, v) (both ∙ rw file_long);
+            }

@@ -1,13 +1,13 @@
 -- A capture file: a header and records, each with a time and a frame (F13). Of a file, and of a stretch with a table of times.
 use Rattle.numbers.specs.Place.{Place}
-use Rattle.std.specs.Prelude.{ℕ, zero, suc, ◌+◌, ◌≡◌, Bool, true, false, cond, List, [], ◌∷◌, ◌++◌, reverse, length, take, drop, get_or, ltb, eqb, Ok, Err}
+use Rattle.std.specs.Prelude.{ℕ, zero, suc, ◌+◌, ◌≡◌, Bool, true, false, cond, List, [], ◌∷◌, ◌++◌, reverse, length, take, drop, get_or, ltb, eqb, Result, Ok, Err}
 use Rattle.std.proofs.Math.Option.{Option, none, some}
 use Rattle.numbers.specs.Numbers.{from_le, to_le}
+use Rattle.numbers.specs.declared.Fault.{Fault}
 use Rattle.numbers.specs.declared.Refusal.TheVariants as R
 use Rattle.framing.specs.Local.{size_in}
 use Rattle.framing.specs.Stretch.{Listing, entry, ends, stops, listing}
 use Rattle.captures.specs.declared.Imported.{Imported}
-use Rattle.captures.specs.declared.Imported.TheVariants as I
 
 -- ---- a file (F13.1 to F13.3)
 
@@ -82,23 +82,30 @@ times_in (packet t f r) = t ∷ times_in r
 times_in complete = []
 times_in (broken p) = []
 
+-- so many bytes and so many frames, or the refusal and where the file is broken
+abbrev pub Import : Type 0
+Import = Result Imported Fault
+
+abbrev pub Held : ℕ → ℕ → Import
+Held b n = Ok (record { bytes = b; frames = n })
+
 -- how many bytes and frames more than those; 25 where the file is broken
-unfoldable pub tallied : ℕ → ℕ → Packets → Imported
+unfoldable pub tallied : ℕ → ℕ → Packets → Import
 tallied b n (packet t f r) = tallied (b + length f) (n + 1) r
-tallied b n complete = I.Held b n
-tallied b n (broken p) = I.Refused R.Capture p
+tallied b n complete = Held b n
+tallied b n (broken p) = Err (R.Capture, p)
 
 -- 24 where the table has fewer rows; 11 where there is less room
-abbrev pub within : ℕ → ℕ → Imported → Imported
-within room rows (I.Refused k p) = I.Refused k p
-within room rows (I.Held b n) = cond (ltb rows n) (I.Refused R.TableFull 0) (cond (ltb room b) (I.Refused R.NoRoom 0) (I.Held b n))
+abbrev pub within : ℕ → ℕ → Import → Import
+within room rows (Err f) = Err f
+within room rows (Ok t) = cond (ltb rows t.frames) (Err (R.TableFull, 0)) (cond (ltb room t.bytes) (Err (R.NoRoom, 0)) (Ok t))
 
-unfoldable pub imported : ℕ → ℕ → List ℕ → Imported
+unfoldable pub imported : ℕ → ℕ → List ℕ → Import
 imported room rows file = within room rows (tallied 0 0 (packets_of file))
 
-abbrev pub held : Imported → Bool
-held (I.Held b n) = true
-held (I.Refused k p) = false
+abbrev pub held : Import → Bool
+held (Ok t) = true
+held (Err f) = false
 
 -- laid over the first elements of what was lent; refused, that is as it was
 abbrev pub laid : {A : Type 0} → Bool → List A → List A → List A
@@ -106,7 +113,7 @@ laid true xs o = xs ++ drop (length xs) o
 laid false xs o = o
 
 -- what an import leaves of an output and a table, and answers
-pub record Imports (file o : List ℕ) (t : List (List ℕ)) (o' : List ℕ) (t' : List (List ℕ)) (r : Imported) : Type 0 where
+pub record Imports (file o : List ℕ) (t : List (List ℕ)) (o' : List ℕ) (t' : List (List ℕ)) (r : Import) : Type 0 where
   pub answer : r ≡ imported (length o) (length t) file
   pub bytes : o' ≡ laid (held (imported (length o) (length t) file)) (bytes_in (packets_of file)) o
   pub times : t' ≡ laid (held (imported (length o) (length t) file)) (times_in (packets_of file)) t

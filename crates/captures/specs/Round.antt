@@ -1,14 +1,13 @@
 -- The theorems of capture files (F13): there and back again both ways, what an imported stretch is, what a refusal leaves, and that there is one answer.
-use Rattle.std.specs.Prelude.{ℕ, ◌+◌, ◌≤◌, ◌≡◌, List, ◌++◌, length, drop}
-use Rattle.captures.specs.declared.Imported.TheVariants as I
-use Rattle.captures.specs.Captures.{packets_of, bytes_in, times_in, tallied, frames_in, cut_up, exported_file}
+use Rattle.std.specs.Prelude.{ℕ, ◌≤◌, ◌≡◌, List, ◌++◌, length, drop}
+use Rattle.captures.specs.Captures.{Held, packets_of, bytes_in, times_in, tallied, frames_in, cut_up, exported_file}
 use Rattle.captures.specs.Steps.{joined, Goods}
 
 -- ---- what is known where it is not refused
 
 -- of an import: the records stand to the end of the file, and what is lent holds them and then what it held
 pub record Took (file o : List ℕ) (t : List (List ℕ)) (o' : List ℕ) (t' : List (List ℕ)) (b n : ℕ) : Type 0 where
-  pub told : tallied 0 0 (packets_of file) ≡ I.Held b n
+  pub told : tallied 0 0 (packets_of file) ≡ Held b n
   pub rows : n ≤ length t
   pub room : b ≤ length o
   pub bytes : o' ≡ bytes_in (packets_of file) ++ drop b o

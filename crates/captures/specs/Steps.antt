@@ -1,11 +1,24 @@
 -- What the private functions answer, one step at a time.
 use Rattle.numbers.specs.Place.{Place}
-use Rattle.std.specs.Prelude.{ℕ, ◌+◌, ◌*◌, ◌≤◌, ◌<◌, ◌≡◌, Bool, cond, List, [], ◌∷◌, ◌++◌, length, drop, Ok, Err}
+use Rattle.std.specs.Prelude.{ℕ, ◌+◌, ◌*◌, ◌≤◌, ◌<◌, ◌≡◌, Bool, true, false, cond, Option, Some, None, List, [], ◌∷◌, ◌++◌, length, drop, Ok, Err}
+use Rattle.std.proofs.Math.Option.{none, some}
 use Rattle.numbers.specs.declared.Refusal.TheVariants as R
 use Rattle.framing.specs.Local.{size_in}
 use Rattle.framing.specs.Stretch.{Step, frame, end, stop, Listing, list_from}
 use Rattle.numbers.specs.Places.{Tells}
-use Rattle.captures.specs.Captures.{captured, taken, Packets, packets_from, bytes_in, times_in, records_of, frames_in, paired, cut_up}
+use Rattle.captures.specs.declared.Order.{Order}
+use Rattle.captures.specs.declared.Order.TheVariants as O
+use Rattle.captures.specs.Captures.{order_of, captured, taken, Packets, packets_from, bytes_in, times_in, records_of, frames_in, counted, fits, unless, paired, cut_up}
+
+-- the definitions are over a truth value: true where the highest byte comes first
+abbrev pub is_big : Order → Bool
+is_big O.Little = false
+is_big O.Big = true
+
+-- the order in which a header stands at the front, or that there is none
+abbrev pub OrderIs : List ℕ → Option Order → Type 0
+OrderIs s (Some o) = order_of s ≡ some (is_big o)
+OrderIs s None = order_of s ≡ none
 
 -- the size of the frame of a record, of the bytes from p on; 25
 unfoldable pub size_at : Bool → ℕ → List ℕ → Place
@@ -30,6 +43,10 @@ step_to (stop k p) = Err (k, p)
 -- what is listed of it from a position on
 abbrev pub rest : List ℕ → ℕ → Listing
 rest s p = list_from [] [] p 0 (drop p s)
+
+-- how many frames there are: 12, 13; then 25
+abbrev pub countable : Listing → Place
+countable l = unless (counted 0 l) (unless (fits l) (counted 0 l))
 
 -- whether a header, so many bytes and so many records have room
 pub record RoomFor (room len n : ℕ) (r : Bool) : Type 0 where

@@ -2,17 +2,11 @@
 use Rattle.captures.proofs.StretchLaws.{end_whole, end_end, end_stop}
 use Rattle.captures.proofs.frame_end.Goals as goal
 
-pub returns-in-Whole : goal.returns-in-Whole
-returns-in-Whole c =
-    let a = c.args in
-    end_whole a.stretch.now a.at c.cut_at-cut.ensures c.in-Whole.is
+pub returns-in-Ok-Some : goal.returns-in-Ok-Some
+returns-in-Ok-Some c = end_whole _ _ c.cut_at.ensures (rw c.in-Ok-Some.field-0-is at c.in-Ok-Some.is)
 
-pub returns-in-End : goal.returns-in-End
-returns-in-End c =
-    let a = c.args in
-    end_end a.stretch.now a.at c.cut_at-cut.ensures c.in-End.is
+pub returns-in-Ok-None : goal.returns-in-Ok-None
+returns-in-Ok-None c = end_end _ _ c.cut_at.ensures (rw c.in-Ok-None.field-0-is at c.in-Ok-None.is)
 
-pub returns-in-Refused : goal.returns-in-Refused
-returns-in-Refused c =
-    let a = c.args in
-    end_stop a.stretch.now a.at c.cut_at-cut.ensures c.in-Refused.is
+pub returns-in-Err : goal.returns-in-Err
+returns-in-Err c = end_stop _ _ c.cut_at.ensures c.in-Err.is

@@ -1,16 +1,10 @@
--- Two and two bytes, in both orders.
+-- Both orders of four bytes.
 use native.Mathlib.Omega.{arith}
 use Rattle.captures.proofs.FileLaws.{number_big, number_little}
 use Rattle.captures.proofs.number.Goals as goal
 
-pub returns-then-big : goal.returns-then-big
-returns-then-big c =
-    let a = c.args in
-    let e = c.if-big.true in
-    rw e (number_big a.file.now a.at _ _ (omega arith) (rw e at c.short-a.ensures) (rw e at c.short-b.ensures))
+pub returns-in-Little : goal.returns-in-Little
+returns-in-Little c = let a = c.args in rw c.in-Little.is (number_little a.file.now a.at (omega arith) c.from_le_bytes.ensures)
 
-pub returns : goal.returns
-returns c =
-    let a = c.args in
-    let e = c.if-big.false in
-    rw e (number_little a.file.now a.at _ _ (omega arith) (rw e at c.short-a.ensures) (rw e at c.short-b.ensures))
+pub returns-in-Big : goal.returns-in-Big
+returns-in-Big c = let a = c.args in rw c.in-Big.is (number_big a.file.now a.at (omega arith) c.from_be_bytes.ensures)

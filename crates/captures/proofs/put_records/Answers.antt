@@ -29,19 +29,19 @@ bounds-times-i c =
     let x = next a.stretch.now l.at l.invariant.within c.frame_end.ensures c.in-Ok.is in
     omega (arith, row_there a.stretch.now a.times.now a.out.now l.out l.at l.to l.i l.invariant x)
 
-pub bounds-times-i-in-Ok : goal.bounds-times-i-in-Ok
-bounds-times-i-in-Ok c =
-    let a = c.args in
-    let l = c.loop-at in
-    let x = next a.stretch.now l.at l.invariant.within c.frame_end.ensures c.in-Ok.is in
-    omega (arith, row_there a.stretch.now a.times.now a.out.now l.out l.at l.to l.i l.invariant x)
-
 pub put_record-requires : goal.put_record-requires
 put_record-requires c =
     let a = c.args in
     let l = c.loop-at in
     let x = next a.stretch.now l.at l.invariant.within c.frame_end.ensures c.in-Ok.is in
     (omega (arith, x.held, x.on), room_there a.stretch.now a.times.now a.out.now l.out l.at l.to l.i l.invariant x)
+
+pub overflow_add-to : goal.overflow_add-to
+overflow_add-to c =
+    let a = c.args in
+    let l = c.loop-at in
+    let x = next a.stretch.now l.at l.invariant.within c.frame_end.ensures c.in-Ok.is in
+    omega (arith, room_there a.stretch.now a.times.now a.out.now l.out l.at l.to l.i l.invariant x)
 
 pub overflow_add-to-in-loop-at : goal.overflow_add-to-in-loop-at
 overflow_add-to-in-loop-at c =

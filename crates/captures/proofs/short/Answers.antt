@@ -3,16 +3,8 @@ use native.Mathlib.Omega.{arith}
 use Rattle.captures.proofs.FileLaws.{short_big, short_little}
 use Rattle.captures.proofs.short.Goals as goal
 
-pub returns-then-big : goal.returns-then-big
-returns-then-big c =
-    let a = c.args in
-    let x = c.wide-a.ensures.0 in
-    let y = c.wide-b.ensures.0 in
-    rw (x, y, c.if-big.true) (short_big a.file.now a.at (omega arith))
+pub returns-in-Little : goal.returns-in-Little
+returns-in-Little c = let a = c.args in rw c.in-Little.is (short_little a.file.now a.at (omega arith) c.from_le_bytes.ensures)
 
-pub returns : goal.returns
-returns c =
-    let a = c.args in
-    let x = c.wide-a.ensures.0 in
-    let y = c.wide-b.ensures.0 in
-    rw (x, y, c.if-big.false) (short_little a.file.now a.at (omega arith))
+pub returns-in-Big : goal.returns-in-Big
+returns-in-Big c = let a = c.args in rw c.in-Big.is (short_big a.file.now a.at (omega arith) c.from_be_bytes.ensures)
