@@ -1,18 +1,19 @@
 -- Counting the frames of a stretch, position by position; a sealed file reads to its end, and a stretch with its own trailer is sealed.
 use Rattle.numbers.specs.Place.{Place}
-use Rattle.std.specs.Prelude.{ℕ, zero, suc, pred, ◌+◌, ◌-◌, ◌^◌, ◌≤◌, ◌<◌, ◌≡◌, Bool, true, false, cond, List, [], ◌∷◌, ◌++◌, drop, ltb, eqb, Ok, Err}
+use Rattle.std.specs.Prelude.{ℕ, zero, suc, pred, ◌+◌, ◌-◌, ◌^◌, ◌≤◌, ◌<◌, ◌≡◌, Bool, true, false, cond, List, [], ◌∷◌, ◌++◌, drop, ltb, Result, Ok, Err, Option, Some, None}
 use native.Mathlib.Omega.{arith}
 use Rattle.std.proofs.Math.Path.{refl, sym, ap}
 use Rattle.std.proofs.Common.{◌∙◌, append_assoc, append-nil, length-append, length-take-le}
 use Rattle.std.proofs.Math.ListN.{length, take}
 use Rattle.std.proofs.Math.Seq.{take-append_seam, drop-append_seam}
-use borrow.Author.Tests.{lt-ltb, le-ltb, eq-eqb, ne_eqb}
+use borrow.Author.Tests.{lt-ltb, le-ltb, eq-eqb}
 use Rattle.numbers.specs.Numbers.{to_le}
 use Rattle.numbers.proofs.Numbers.{length_to_le}
 use Rattle.numbers.specs.Reading.{read_num}
 use Rattle.numbers.proofs.ReadingLaws.{reads_num}
-use Rattle.numbers.specs.Places.{Within, number_in, num_at, Put, NumRead}
+use Rattle.numbers.specs.Places.{Within, number_in, num_at, Put}
 use Rattle.numbers.proofs.PlaceLaws.{put_stays, put_full, put_then}
+use Rattle.numbers.specs.declared.Fault.{Fault}
 use Rattle.numbers.specs.declared.Refusal.{Refusal}
 use Rattle.numbers.specs.declared.Refusal.TheVariants as R
 use Rattle.layouts.specs.Tables.{table_t, table_r}
@@ -23,11 +24,8 @@ use Rattle.framing.specs.Joining.{Ends}
 use Rattle.framing.specs.Cuts.{between, CutAt}
 use Rattle.framing.proofs.CutLaws.{length_whole, cut_whole, cut_end, cut_stop}
 use Rattle.framing.specs.declared.Cut.{Cut}
-use Rattle.framing.specs.declared.Cut.TheVariants as C
-use Rattle.sealing.specs.Trailers.{extent_from, extent_of, tells, stretch_in, sealed, trailer_bytes, ExtentPut, TrailerPut}
+use Rattle.sealing.specs.Trailers.{Measured, extent_from, extent_of, tells, stretch_in, sealed, trailer_bytes, ExtentPut, TrailerPut}
 use Rattle.sealing.specs.declared.Extent.{Extent}
-use Rattle.sealing.specs.declared.Measured.{Measured}
-use Rattle.sealing.specs.declared.Measured.TheVariants as M
 
 -- ---- one frame on
 
@@ -36,49 +34,26 @@ module _ (s : List ℕ) where
   unfolding listing
   extent_start = refl
 
-  module _ {p : ℕ} {g : Cut} (h : p ≤ length s) (c : CutAt s p g) (n b : ℕ) where
-    pub extent_on : {ty tag e : ℕ} → g ≡ C.Whole ty tag e → extent_from (n + 1) p (listed table_t table_r s e) ≡ extent_from n b (listed table_t table_r s p)
+  module _ {p : ℕ} {g : Result (Option Cut) Refusal} (h : p ≤ length s) (c : CutAt s p g) (n b : ℕ) where
+    pub extent_on : {x : Cut} → g ≡ Ok (Some x) → extent_from (n + 1) p (listed table_t table_r s x.next) ≡ extent_from n b (listed table_t table_r s p)
     unfolding extent_from
-    extent_on {ty} {tag} {e} f =
+    extent_on {x} f =
         let w = cut_whole s p c f in
         let z = length_whole w in
         let v = w.seven in
-        let m : e ≡ p + length (between p e s) = omega arith in
+        let m : x.next ≡ p + length (between p x.next s) = omega arith in
         ap (λ q. extent_from (n + 1) p (listed table_t table_r s q)) m
-        ∙ sym (ap (extent_from n b) (list_step table_t table_r s p h ∙ ap (λ x. goes_on x (listed table_t table_r s)) (sym (w.is table_t table_r))))
+        ∙ sym (ap (extent_from n b) (list_step table_t table_r s p h ∙ ap (λ y. goes_on y (listed table_t table_r s)) (sym (w.is table_t table_r))))
 
-    pub extent_end : g ≡ C.End → M.Whole (record { bytes = p; frames = n; last = b }) ≡ extent_from n b (listed table_t table_r s p)
+    pub extent_end : g ≡ Ok None → Ok (record { bytes = p; frames = n; last = b }) ≡ extent_from n b (listed table_t table_r s p)
     unfolding extent_from
     extent_end f = sym (ap (extent_from n b) (list_step table_t table_r s p h ∙ ap (λ x. goes_on x (listed table_t table_r s)) (sym (cut_end s p c f table_t table_r))))
 
-    pub extent_stop : {k : Refusal} → g ≡ C.Refused k → M.Refused k p ≡ extent_from n b (listed table_t table_r s p)
+    pub extent_stop : {k : Refusal} → g ≡ Err k → Err (k, p) ≡ extent_from n b (listed table_t table_r s p)
     unfolding extent_from
     extent_stop f = sym (ap (extent_from n b) (list_step table_t table_r s p h ∙ ap (λ x. goes_on x (listed table_t table_r s)) (sym (cut_stop s p c f table_t table_r))))
 
 -- ---- a trailer that is read
-
-module _ (bytes frames last : ℕ) {m : Measured} where
-  pub tells_bytes : {e : Extent} → m ≡ M.Whole e → (e.bytes ≡ bytes → ⊥) → false ≡ tells bytes frames last m
-  tells_bytes {e} f h = rw (f, ne_eqb e.bytes bytes h)
-
-  pub tells_frames : {e : Extent} → m ≡ M.Whole e → e.bytes ≡ bytes → (e.frames ≡ frames → ⊥) → false ≡ tells bytes frames last m
-  tells_frames {e} f g h = rw (f, eq-eqb e.bytes bytes g, ne_eqb e.frames frames h)
-
-  pub tells_last : {e : Extent} → m ≡ M.Whole e → e.bytes ≡ bytes → e.frames ≡ frames → eqb e.last last ≡ tells bytes frames last m
-  tells_last {e} f g h = rw (f, eq-eqb e.bytes bytes g, eq-eqb e.frames frames h)
-
-  pub tells_none : {k : Refusal} {p : ℕ} → m ≡ M.Refused k p → false ≡ tells bytes frames last m
-  tells_none f = rw f
-
-module _ (file : List ℕ) where
-  pub sealed_short : length file < 12 → false ≡ sealed file
-  unfolding sealed
-  sealed_short h = rw (lt-ltb (length file) 12 h)
-
-  pub sealed_reads : {a b c : ℕ} {p q r : Place} {m : Measured} {t : Bool} → 12 ≤ length file → NumRead 4 file (Ok (length file - 12)) a p → NumRead 4 file (Ok (length file - 12 + 4)) b q
-      → NumRead 4 file (Ok (length file - 12 + 8)) c r → m ≡ extent_of (listing table_t table_r (stretch_in file)) → t ≡ tells a b c m → t ≡ sealed file
-  unfolding sealed
-  sealed_reads h x y z f e = rw (le-ltb (length file) 12 h, ← x.value, ← y.value, ← z.value, ← f) e
 
 -- a sealed file reads to its end
 extent_ends : (bytes frames last n at : ℕ) (l : Listing) → tells bytes frames last (extent_from n at l) ≡ true → Ends l
@@ -118,17 +93,14 @@ module _ (e : Extent) {o : List ℕ} where
       rw (le-ltb 4294967295 e.bytes h) (put_then s r refl (simp (length-append, length_to_le) (omega arith)))
 
 module _ (bs : List ℕ) {o : List ℕ} {m : Measured} (f : m ≡ extent_of (listing table_t table_r bs)) where
-  pub put_whole : {e : Extent} {o' : List ℕ} {r : Place} → m ≡ M.Whole e → ExtentPut e o o' r → TrailerPut bs o o' r
-  put_whole g p = rw (← f, g) p
-
-  pub put_none : {k : Refusal} {at : ℕ} → m ≡ M.Refused k at → TrailerPut bs o o (Err (k, at))
+  pub put_none : {x : Fault} → m ≡ Err x → TrailerPut bs o o (Err x)
   put_none g = rw (← f, g) (put_stays refl)
 
 -- ---- a stretch with its own trailer is sealed
 
 abbrev Bounded : Measured → Type 0
-Bounded (M.Whole e) = (e.frames ≤ e.bytes) × (e.last ≤ e.bytes)
-Bounded (M.Refused k p) = Unit {0}
+Bounded (Ok e) = (e.frames ≤ e.bytes) × (e.last ≤ e.bytes)
+Bounded (Err f) = Unit {0}
 
 -- a frame has a byte at the least
 bounded : (xs : List ℕ) (p k n b : ℕ) → k ≤ length xs → n ≤ p → b ≤ p → Bounded (extent_from n b (list_from table_t table_r p k xs))
@@ -153,7 +125,7 @@ num_there : (xs ys : List ℕ) (v n : ℕ) → v < 256 ^ 4 → length xs ≡ n �
 unfolding num_at
 num_there xs ys v n h e = ap (λ (z : List ℕ). number_in (read_num 4 z)) (ap (λ m. drop m (xs ++ (to_le 4 v ++ ys))) (sym e) ∙ drop-append_seam xs (to_le 4 v ++ ys)) ∙ ap number_in ((reads_num 4 v h).back ys)
 
-module _ (bs : List ℕ) (e : Extent) (f : extent_of (listing table_t table_r bs) ≡ M.Whole e) (h : e.bytes < 256 ^ 4) where
+module _ (bs : List ℕ) (e : Extent) (f : extent_of (listing table_t table_r bs) ≡ Ok e) (h : e.bytes < 256 ^ 4) where
   abbrev file : List ℕ
   file = bs ++ trailer_bytes e
 

@@ -1,20 +1,23 @@
 -- The trailer of a recording (F15.2): bytes of frames, frames, the position of the last.
 use Rattle.numbers.specs.Place.{Place}
-use Rattle.std.specs.Prelude.{ℕ, ◌+◌, ◌-◌, Bool, false, cond, List, [], ◌++◌, length, take, ltb, eqb, Ok, Err}
+use Rattle.std.specs.Prelude.{ℕ, ◌+◌, ◌-◌, Bool, false, cond, List, [], ◌++◌, length, take, ltb, eqb, Result, Ok, Err}
 use Rattle.numbers.specs.Numbers.{to_le}
 use Rattle.numbers.specs.Places.{num_at, Put}
+use Rattle.numbers.specs.declared.Fault.{Fault}
 use Rattle.numbers.specs.declared.Refusal.TheVariants as R
 use Rattle.layouts.specs.Tables.{table_t, table_r}
 use Rattle.framing.specs.Stretch.{Listing, entry, ends, stops, listing}
 use Rattle.sealing.specs.declared.Extent.{Extent}
-use Rattle.sealing.specs.declared.Measured.{Measured}
-use Rattle.sealing.specs.declared.Measured.TheVariants as M
+
+-- an extent, or why there is none and where
+abbrev pub Measured : Type 0
+Measured = Result Extent Fault
 
 -- n frames are passed, the last of them at `at`, which is 0 where there is none
 unfoldable pub extent_from : ℕ → ℕ → Listing → Measured
 extent_from n at (entry p size ty tag a tail l) = extent_from (n + 1) p l
-extent_from n at (ends p) = M.Whole (record { bytes = p; frames = n; last = at })
-extent_from n at (stops k p) = M.Refused k p
+extent_from n at (ends p) = Ok (record { bytes = p; frames = n; last = at })
+extent_from n at (stops k p) = Err (k, p)
 
 abbrev pub extent_of : Listing → Measured
 extent_of l = extent_from 0 0 l
@@ -22,8 +25,8 @@ extent_of l = extent_from 0 0 l
 -- ---- read
 
 abbrev pub tells : ℕ → ℕ → ℕ → Measured → Bool
-tells bytes frames last (M.Whole e) = cond (eqb e.bytes bytes) (cond (eqb e.frames frames) (eqb e.last last) false) false
-tells bytes frames last (M.Refused k p) = false
+tells bytes frames last (Ok e) = cond (eqb e.bytes bytes) (cond (eqb e.frames frames) (eqb e.last last) false) false
+tells bytes frames last (Err f) = false
 
 -- a file without its last twelve bytes
 abbrev pub stretch_in : List ℕ → List ℕ
@@ -44,13 +47,13 @@ abbrev pub told : Extent → Place
 told e = cond (ltb 4294967295 e.bytes) (Err (R.Trailer, 0)) (Ok 0)
 
 abbrev pub trailer_of : Measured → List ℕ
-trailer_of (M.Whole e) = trailer_bytes e
-trailer_of (M.Refused k p) = []
+trailer_of (Ok e) = trailer_bytes e
+trailer_of (Err f) = []
 
 -- 12 and 13, with the position; 19
 abbrev pub start_of : Measured → Place
-start_of (M.Whole e) = told e
-start_of (M.Refused k p) = Err (k, p)
+start_of (Ok e) = told e
+start_of (Err f) = Err f
 
 -- at the front of the output, or there is no room: 11
 abbrev pub ExtentPut : Extent → List ℕ → List ℕ → Place → Type 0

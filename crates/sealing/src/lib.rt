@@ -8,11 +8,16 @@ ghost use Rattle.layouts.specs.Tables.{table_t, table_r};
 ghost use Rattle.framing.specs.Stretch.{listing};
 ghost use Rattle.sealing.specs.Trailers.{extent_of, tells, sealed, ExtentPut, TrailerPut};
 
-use framing::Cut;
 use numbers::{Fault, Place, Refusal};
 
 // Three numbers of four bytes.
 pub const TRAILER: usize = 12;
+
+// How much room a trailer takes.
+const ROOM: usize = TRAILER;
+
+// What four bytes can tell.
+const MOST_BYTES: usize = 4_294_967_295;
 
 // What a trailer says of a stretch.
 #[derive(Clone, Copy)]
@@ -22,61 +27,44 @@ pub struct Extent {
     pub last: usize,
 }
 
-// A stretch that reads to its end has an extent; else 12 or 13, and the position.
-#[derive(Clone, Copy)]
-pub enum Measured {
-    Whole(Extent),
-    Refused(Refusal, usize),
-}
-
-pub fn measure(stretch: &[u8]) -> Measured
+// A stretch that reads to its end has an extent; else 12 or 13, and the position. A step is a frame's size, which the cut tells.
+pub fn measure(stretch: &[u8]) -> Result<Extent, Fault>
     ensures { result ≡ extent_of (listing table_t table_r stretch.now) }
 {
-    let mut at = 0;
+    let mut bytes = 0;
     let mut frames = 0;
     let mut last = 0;
     loop {
-        let cut = framing::cut_at(stretch, at);
-        match cut {
-            Cut::Whole(_, _, next) => {
-                last = at;
-                at = next;
+        match framing::cut_at(stretch, bytes) {
+            Ok(Some(cut)) => {
+                last = bytes;
+                bytes = cut.next;
                 frames += 1;
             }
-            Cut::End => {
-                let bytes = at;
-                return Measured::Whole(Extent {
+            Ok(None) => {
+                return Ok(Extent {
                     bytes,
                     frames,
                     last,
                 });
             }
-            Cut::Refused(k) => {
-                return Measured::Refused(k, at);
-            }
+            Err(k) => return Err(Fault(k, bytes)),
         }
     }
 }
 
 // Whether the numbers that are told are those of the stretch.
-fn tells(m: Measured, bytes: u32, frames: u32, last: u32) -> bool
+fn tells(m: Result<Extent, Fault>, bytes: u32, frames: u32, last: u32) -> bool
     ensures { result ≡ tells bytes frames last m }
 {
-    match m {
-        Measured::Whole(e) => {
-            if e.bytes != bytes as usize {
-                return false;
-            }
-            if e.frames != frames as usize {
-                return false;
-            }
-            e.last == last as usize
-        }
-        Measured::Refused(_, _) => false,
-    }
+    let Ok(e) = m else {
+        return false;
+    };
+    e.bytes == bytes as usize && e.frames == frames as usize && e.last == last as usize
 }
 
 // Whether a file ends in the trailer of the stretch before it; else it is 19.
+#[tactic(auto, unfolding(crate::specs::Trailers::sealed))]
 pub fn sealed(file: &[u8]) -> bool
     ensures { result ≡ sealed file.now }
 {
@@ -94,20 +82,17 @@ pub fn sealed(file: &[u8]) -> bool
 pub fn write_trailer(out: &mut [u8], stretch: &[u8]) -> Place
     ensures { TrailerPut stretch.now out.old out.new result }
 {
-    let m = measure(stretch);
-    match m {
-        Measured::Whole(e) => put_extent(out, e),
-        Measured::Refused(k, at) => Err(Fault(k, at)),
-    }
+    let extent = measure(stretch)?;
+    put_extent(out, extent)
 }
 
 fn put_extent(out: &mut [u8], e: Extent) -> Place
     ensures { ExtentPut e out.old out.new result }
 {
-    if 4294967295 < e.bytes {
+    if MOST_BYTES < e.bytes {
         return Err(Fault(Refusal::Trailer, 0));
     }
-    if out.len() < TRAILER {
+    if out.len() < ROOM {
         return Err(Fault(Refusal::NoRoom, 0));
     }
     let a = numbers::put_num(out, Ok(0), e.bytes as u64, 4);

@@ -8,8 +8,8 @@ use Rattle.framing.proofs.ListingLaws.{listed}
 use Rattle.sealing.specs.Trailers.{extent_from, extent_of}
 use Rattle.sealing.proofs.measure.Given as goal
 
-abbrev pub invariant-loop-next : goal.invariant-loop-next
-invariant-loop-next l = (l.at ≤ length l.stretch) × (l.frames ≤ l.at) × (extent_from l.frames l.last (listed table_t table_r l.stretch l.at) ≡ extent_of (listing table_t table_r l.stretch))
+abbrev pub invariant-loop-cut : goal.invariant-loop-cut
+invariant-loop-cut l = (l.bytes ≤ length l.stretch) × (l.frames ≤ l.bytes) × (extent_from l.frames l.last (listed table_t table_r l.stretch l.bytes) ≡ extent_of (listing table_t table_r l.stretch))
 
-abbrev pub decreases-loop-next : goal.decreases-loop-next
-decreases-loop-next l = length l.stretch - l.at
+abbrev pub decreases-loop-cut : goal.decreases-loop-cut
+decreases-loop-cut l = length l.stretch - l.bytes
