@@ -1,9 +1,11 @@
 -- What holds of the definitions in specs/SecondLaws.antt.
 use Rattle.numbers.specs.Place.{Place}
 use Rattle.std.specs.Prelude.{ℕ, ◌+◌, ◌≤◌, ◌<◌, ◌≡◌, refl, Bool, true, false, cond, List, [], ◌++◌, length, Ok, Err}
-use Rattle.std.proofs.Common.{arith, sym, ap₂, ◌∙◌}
+use Rattle.std.proofs.Common.{arith, sym, ◌∙◌}
 use borrow.Author.Tests.{le-leb, lt-leb}
 use Rattle.numbers.specs.Reading.{Reading, ok, bad, after}
+use Rattle.numbers.proofs.PlaceLaws.{refused_one}
+use Rattle.numbers.specs.declared.Fault.{Fault}
 use Rattle.numbers.specs.declared.Refusal.{Refusal}
 use Rattle.numbers.specs.declared.Refusal.TheVariants as R
 use Rattle.utf8.specs.Utf8.{utf8, sound_start, no_zero, zero_at}
@@ -38,6 +40,10 @@ passed_on s (Err f) e h = rw e.is h
 pub first_short : (s : List ℕ) {p : Place} {a : ℕ} → p ≡ Ok a → Passed s p → length s ≤ 65535
 first_short s e h = rw e at h
 
+-- a place in a text, counted on from another slice
+moved : {k r : Refusal} {n : ℕ} (m i : ℕ) → (k ≡ r) × (n ≡ 0 + i) → ◌≡◌ {A = Place} (Err (k, m + n)) (Err (r, m + i))
+moved {n = n} m i (c, b) = let d : m + n ≡ m + i = omega arith in rw (c, d) refl
+
 -- ---- the second
 
 module _ (first second : List ℕ) where
@@ -47,7 +53,7 @@ module _ (first second : List ℕ) where
   abbrev pub Alone : Place → Place → Type 0
   Alone p q = FieldMeasured str second (span 0 (length second)) p q
 
-  pub second_stays : {p : Place} {k : Refusal} {at : ℕ} → p ≡ Err (k, at) → AsOne p p
+  pub second_stays : {p : Place} {x : Fault} → p ≡ Err x → AsOne p (Err x)
   unfolding check_field
   second_stays e = record { is = rw e }
 
@@ -68,8 +74,8 @@ module _ (first second : List ℕ) where
     there f = record { is = rw (e, shown, le-leb (length second) 65535 l) f }
 
   module _ {p q : Place} {a : ℕ} (e : p ≡ Ok a) (l : length second ≤ 65535) (m : Alone p q) where
-    pub second_good : {b : ℕ} → q ≡ Ok b → AsOne p q
-    second_good {b} h = there e l (go (utf8 second) (no_zero second) (0 + zero_at second) (0 + sound_start second) (length first + zero_at second) (length first + sound_start second) (alone e l m))
+    pub second_good : {b : ℕ} → q ≡ Ok b → AsOne p (Ok b)
+    second_good {b} h = rw h at (there e l (go (utf8 second) (no_zero second) (0 + zero_at second) (0 + sound_start second) (length first + zero_at second) (length first + sound_start second) (alone e l m)))
       where
         go : (u z : Bool) (i j x y : ℕ) → q ≡ past (cond u (cond z (ok second []) (bad R.ZeroByte i)) (bad R.NotUtf8 j)) a
             → q ≡ past (cond u (cond z (ok second []) (bad R.ZeroByte x)) (bad R.NotUtf8 y)) a
@@ -84,8 +90,8 @@ module _ (first second : List ℕ) where
           go : (u z : Bool) (i j : ℕ) → i ≤ length second → j ≤ length second → q ≡ past (cond u (cond z (ok second []) (bad R.ZeroByte (0 + i))) (bad R.NotUtf8 (0 + j))) a
               → n ≤ length second
           go true true i j x y f = absurd (let g = sym h ∙ f in let z : ◌≡◌ {A = ℕ} 0 1 = cc g in omega arith)
-          go true false i j x y f = let g = sym h ∙ f in let b : n ≡ 0 + i = cc g in omega arith
-          go false z i j x y f = let g = sym h ∙ f in let b : n ≡ 0 + j = cc g in omega arith
+          go true false i j x y f = let b = (refused_one (sym h ∙ f)).1 in omega arith
+          go false z i j x y f = let b = (refused_one (sym h ∙ f)).1 in omega arith
 
       pub second_bad : AsOne p (Err (k, length first + n))
       second_bad = there e l (go (utf8 second) (no_zero second) (zero_at second) (sound_start second) (alone e l m))
@@ -93,13 +99,5 @@ module _ (first second : List ℕ) where
           go : (u z : Bool) (i j : ℕ) → q ≡ past (cond u (cond z (ok second []) (bad R.ZeroByte (0 + i))) (bad R.NotUtf8 (0 + j))) a
               → Err (k, length first + n) ≡ past (cond u (cond z (ok second []) (bad R.ZeroByte (length first + i))) (bad R.NotUtf8 (length first + j))) a
           go true true i j f = absurd (let g = sym h ∙ f in let z : ◌≡◌ {A = ℕ} 0 1 = cc g in omega arith)
-          go true false i j f =
-              let g = sym h ∙ f in
-              let c : k ≡ R.ZeroByte = cc g in
-              let b : n ≡ 0 + i = cc g in
-              ap₂ Err (c, omega arith)
-          go false z i j f =
-              let g = sym h ∙ f in
-              let c : k ≡ R.NotUtf8 = cc g in
-              let b : n ≡ 0 + j = cc g in
-              ap₂ Err (c, omega arith)
+          go true false i j f = moved (length first) i (refused_one (sym h ∙ f))
+          go false z i j f = moved (length first) j (refused_one (sym h ∙ f))

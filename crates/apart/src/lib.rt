@@ -19,6 +19,9 @@ use flat::{U32, WIDTH_T};
 use numbers::{Fault, Place, Refusal};
 use strings::Span;
 
+// The longest string, whose length two bytes can tell.
+const LONGEST: usize = 65_535;
+
 // A string that is all of a slice, measured at a place: 7, 5, 6; then the place after its count and its text.
 fn measure(text: &[u8], p: Place) -> Place
     ensures { FieldMeasured str text.now (span 0 (length text.now)) p result }
@@ -36,19 +39,13 @@ fn measure_second(first: &[u8], second: &[u8], p: Place) -> Place
     requires { Passed first.now p }
     ensures { FieldMeasured str (first.now ++ second.now) (span (length first.now) (length second.now)) p result }
 {
-    let Ok(_) = p else {
-        return p;
-    };
-    if 65535 < second.len() {
+    p?;
+    if LONGEST < second.len() {
         return Err(Fault(Refusal::StringTooLong, 0));
     }
-    let q = measure(second, p);
-    match q {
-        Ok(_) => q,
-        Err(Fault(k, n)) => {
-            let at = first.len() + n;
-            Err(Fault(k, at))
-        }
+    match measure(second, p) {
+        Ok(end) => Ok(end),
+        Err(Fault(k, n)) => Err(Fault(k, first.len() + n)),
     }
 }
 
@@ -56,9 +53,11 @@ fn measure_second(first: &[u8], second: &[u8], p: Place) -> Place
 fn put(out: &mut [u8], p: Place, text: &[u8]) -> Place
     ensures { PutAll (str ∷ []) text.now (span 0 (length text.now) ∷ []) out.old p out.new result }
 {
-    let len = text.len();
-    let all = Span { start: 0, len };
-    let q = numbers::put_num(out, p, len as u64, 2);
+    let all = Span {
+        start: 0,
+        len: text.len(),
+    };
+    let q = numbers::put_num(out, p, text.len() as u64, 2);
     strings::put_bytes(out, q, text, all)
 }
 
@@ -68,6 +67,9 @@ fn put_low(out: &mut [u8], p: Place, value: u64) -> Place
 {
     numbers::put_u32(out, p, (value % U32) as u32)
 }
+
+// The three writers differ in their fields' order alone. Each is one straight line, as the writers of `flat` are: no row of a table is
+// asked at run time.
 
 // A Tsymlink, or a Tauth: 4 s s 4.
 fn write_4ss4(
@@ -146,9 +148,8 @@ pub fn write_flat(
     ensures { ApartWritten (lookup table_two ty) first.now second.now values.now out.old p out.new result }
 {
     match ty {
-        16 => write_4ss4(out, p, first, second, values),
+        16 | 102 => write_4ss4(out, p, first, second, values),
         74 => write_4s4s(out, p, first, second, values),
-        102 => write_4ss4(out, p, first, second, values),
         104 => write_44ss4(out, p, first, second, values),
         _ => Err(Fault(Refusal::UnknownType, 0)),
     }
