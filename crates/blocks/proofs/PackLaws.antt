@@ -5,12 +5,14 @@ use Rattle.std.proofs.Common.{arith, add-one, sym, ap₂, ◌∙◌, append_asso
 use Rattle.std.proofs.Math.Path.{ap}
 use Rattle.std.proofs.Math.Seq.{drop-length}
 use Rattle.std.proofs.lemmas.Bool.{lt-leb}
+use Rattle.std.proofs.lemmas.List.{length-take, get_or-take}
 use Rattle.numbers.specs.Numbers.{Bytes}
 use Rattle.numbers.proofs.Numbers.{length_to_le}
 use Rattle.numbers.specs.Reading.{Reading, ok, bad}
 use Rattle.numbers.proofs.ReadingLaws.{or_else}
 use Rattle.numbers.specs.Places.{Within, over}
-use Rattle.numbers.proofs.PlaceLaws.{inside, over_then, length_over}
+use Rattle.numbers.proofs.PlaceLaws.{inside, over_then, length_over, refused_one}
+use Rattle.numbers.specs.declared.Fault.{Fault}
 use Rattle.numbers.specs.declared.Refusal.{Refusal}
 use Rattle.strings.specs.Strings.{string_bytes}
 use Rattle.strings.specs.Spans.{show_string, check_at, StrCheck}
@@ -24,10 +26,9 @@ use Rattle.laying.proofs.LayingLaws.{put_fields_lem}
 use Rattle.layouts.specs.Tables.{layout_dirent}
 use Rattle.framing.proofs.WritingLaws.{put_fits, over_none}
 use Rattle.flat.specs.Flat.{low, field_values}
-use Rattle.blocks.specs.declared.Packing.{Packing}
-use Rattle.blocks.specs.declared.Packing.TheVariants as P
+use Rattle.blocks.specs.declared.Packed.{Packed}
 use Rattle.blocks.specs.Blocks.{shown, Pack, holds, refuses, more, fitted, pack_from, pack_in, laid_in}
-use Rattle.blocks.specs.Views.{told, Fitting, PackedInto, bytes_of, row_bytes, Shows}
+use Rattle.blocks.specs.Views.{Packing, Holding, told, Fitting, PackedInto, bytes_of, row_bytes, Shows}
 use Rattle.blocks.specs.PackLaws.{Sized, plus, FitTo, first_bytes, Room, Ready, PutTo, Holds}
 
 -- ---- an entry is its numbers and its name
@@ -58,12 +59,12 @@ name_sized names row {bs} e =
 pub entry_passes : (names row : List ℕ) {a : ℕ} {q : Place} → StrCheck names (get_or row 5 0) (get_or row 6 0) (Ok 0) q → q ≡ Ok a → Sized names row
 entry_passes names row c e = name_sized names row (string_passed c e).shows
 
-pub entry_fails : (names row : List ℕ) {k : Refusal} {at : ℕ} {q : Place} → StrCheck names (get_or row 5 0) (get_or row 6 0) (Ok 0) q → q ≡ Err (k, at) → shown names row ≡ bad k at
-entry_fails names row {k} {at} c e = unnamed names row (go (show_string names (get_or row 5 0) (get_or row 6 0)) (sym c.is ∙ e))
+pub entry_fails : (names row : List ℕ) {x : Fault} {q : Place} → StrCheck names (get_or row 5 0) (get_or row 6 0) (Ok 0) q → q ≡ Err x → shown names row ≡ bad x.0 x.1
+entry_fails names row {x} c e = unnamed names row (go (show_string names (get_or row 5 0) (get_or row 6 0)) (sym c.is ∙ e))
   where
-    go : (m : Reading (List ℕ)) → check_at m (Ok 0) ≡ Err (k, at) → m ≡ bad k at
+    go : (m : Reading (List ℕ)) → check_at m (Ok 0) ≡ Err x → m ≡ bad x.0 x.1
     go (ok bs r) f = absurd (let z : ◌≡◌ {A = ℕ} 0 1 = cc f in omega arith)
-    go (bad j n) f = let x : j ≡ k = cc f in let y : n ≡ at = cc f in ap₂ bad x y
+    go (bad j n) f = let y = refused_one f in ap₂ bad y.0 y.1
 
 -- a short plain name passes
 short_small : (s : List ℕ) {b : Bool} → b ≡ short_plain s → b ≡ true → length s ≤ 16
@@ -87,9 +88,6 @@ shows_sized {names} {row} s = go (show_string names (get_or row 5 0) (get_or row
     go : (m : Reading (List ℕ)) → show_string names (get_or row 5 0) (get_or row 6 0) ≡ m → Sized names row
     go (ok bs r) e = name_sized names row e
     go (bad k at) e = absurd (let d = sym s.is ∙ unnamed names row e in let z : ◌≡◌ {A = ℕ} 0 1 = cc d in omega arith)
-
-pub sized_shows : {names row : List ℕ} → Sized names row → Shows names row
-sized_shows s = record { items = s.items; rest = []; is = s.is }
 
 pub row_size : {names row : List ℕ} → Sized names row → length (row_bytes names row) ≡ get_or row 6 0 + 24
 row_size s = ap (λ m. length (bytes_of m)) s.is ∙ s.size
@@ -116,12 +114,15 @@ unfolding pack_from
 pack_none names room = refl
 
 plus_more : (bs : List ℕ) (i u : ℕ) (x : Pack) → plus i u (told (more bs x)) ≡ plus (i + 1) (u + length bs) (told x)
-plus_more bs i u (holds n cs) = let l = length-append bs cs in ap₂ P.Packed (omega arith) (omega arith)
+plus_more bs i u (holds n cs) = let l = length-append bs cs in ap₂ Holding (omega arith) (omega arith)
 plus_more bs i u (refuses k at) = refl
 
 plus_none : (x : Packing) → x ≡ plus 0 0 x
-plus_none (P.Packed n b) = ap₂ P.Packed (omega arith) (omega arith)
-plus_none (P.Refused k at) = refl
+plus_none (Ok x) =
+    let e : x.entries ≡ 0 + x.entries = omega arith in
+    let f : x.bytes ≡ 0 + x.bytes = omega arith in
+    ap₂ Holding e f
+plus_none (Err f) = refl
 
 module _ {names : List ℕ} {room : ℕ} {rows : List (List ℕ)} where
   pub fit_none : FitTo names room rows 0 0
@@ -150,17 +151,17 @@ module _ {names : List ℕ} {room : ℕ} {rows : List (List ℕ)} where
           count = omega arith;
         }
 
-    pub fit_full : Sized names row → room - u < get_or row 6 0 + 24 → Fitting names room rows (P.Packed i u)
+    pub fit_full : Sized names row → room - u < get_or row 6 0 + 24 → Fitting names room rows (Holding i u)
     fit_full s h =
         let w = s.size in
-        record { is = sym (here (pack_full names (drop (suc i) rows) row (room - u) s.is (omega arith)) ∙ ap₂ P.Packed (omega arith) (omega arith)) }
+        record { is = sym (here (pack_full names (drop (suc i) rows) row (room - u) s.is (omega arith)) ∙ ap₂ Holding (omega arith) (omega arith)) }
 
-    pub fit_bad : {k : Refusal} {at : ℕ} → shown names row ≡ bad k at → Fitting names room rows (P.Refused k at)
+    pub fit_bad : {x : Fault} → shown names row ≡ bad x.0 x.1 → Fitting names room rows (Err x)
     fit_bad e = record { is = sym (here (pack_bad names (drop (suc i) rows) row (room - u) e)) }
 
-  pub fit_all : {i u : ℕ} → i ≡ length rows → FitTo names room rows i u → Fitting names room rows (P.Packed i u)
+  pub fit_all : {i u : ℕ} → i ≡ length rows → FitTo names room rows i u → Fitting names room rows (Holding i u)
   fit_all {i} {u} e f =
-      record { is = sym (f.on ∙ ap (λ t. plus i u (told (pack_from names (room - u) t))) (ap (λ n. drop n rows) e ∙ drop-length rows) ∙ ap (λ x. plus i u (told x)) (pack_none names (room - u)) ∙ ap₂ P.Packed (omega arith) (omega arith)) }
+      record { is = sym (f.on ∙ ap (λ t. plus i u (told (pack_from names (room - u) t))) (ap (λ n. drop n rows) e ∙ drop-length rows) ∙ ap (λ x. plus i u (told x)) (pack_none names (room - u)) ∙ ap₂ Holding (omega arith) (omega arith)) }
 
 pub first_none : (names : List ℕ) (rows : List (List ℕ)) → first_bytes names rows 0 ≡ []
 unfolding first_bytes
@@ -206,6 +207,13 @@ put_none names rows o = record {
   at_is = ap length (sym (first_none names rows));
   is = over_none o 0 (omega arith) ∙ ap (over o 0) (sym (first_none names rows));
 }
+
+-- a row among the first n
+pub row_before : (rows : List (List ℕ)) (n : ℕ) {i : ℕ} → i < length (take n rows) → (i < n) × (get_or (take n rows) i [] ≡ get_or rows i [])
+row_before rows n {i} h =
+    let l = length-take n rows in
+    let b : i < n = omega arith in
+    (b, get_or-take n rows i [] b)
 
 module _ {names : List ℕ} {rows : List (List ℕ)} {n i at : ℕ} {o o1 : List ℕ} (r : Ready names rows n (length o)) (l : i < n) (p : PutTo names rows i at o o1) where
   abbrev this : List ℕ
@@ -299,34 +307,28 @@ held_in names room (row ∷ rows) {n} {bs} e = go (shown names row) refl (λ lef
 
 -- ---- what the packer answers
 
-told_packed : (x : Pack) {n b : ℕ} {X : Type 0} → P.Packed n b ≡ told x → ((bs : List ℕ) → x ≡ holds n bs → X) → X
-told_packed (holds m bs) {n} e f = f bs (let z : n ≡ m = cc e in ap (λ k. holds k bs) (sym z))
+holding_one : {n b n' b' : ℕ} → Holding n b ≡ Holding n' b' → n ≡ n'
+holding_one {n} {b} {n'} {b'} e =
+    let f : ◌≡◌ {A = Packed} (record { entries = n; bytes = b }) (record { entries = n'; bytes = b' }) = cc e in ap (λ (x : Packed). x.entries) f
+
+told_packed : (x : Pack) {n b : ℕ} {X : Type 0} → Holding n b ≡ told x → ((bs : List ℕ) → x ≡ holds n bs → X) → X
+told_packed (holds m bs) {n} {b} e f = f bs (ap (λ k. holds k bs) (sym (holding_one e)))
 told_packed (refuses k at) e f = absurd (let z : ◌≡◌ {A = ℕ} 0 1 = cc e in omega arith)
 
 -- for any room that the output has, whatever the count
-pub ready_within : {room : ℕ} {names : List ℕ} {rows : List (List ℕ)} (o : List ℕ) {r : Packing} → room ≤ length o → Fitting names room rows r → {n b : ℕ} → r ≡ P.Packed n b → Ready names rows n (length o)
-ready_within {room} {names} {rows} o l f {n} {b} g =
-    told_packed (pack_from names room rows) (sym g ∙ f.is)
+pub ready_within : {room : ℕ} {names : List ℕ} {rows : List (List ℕ)} (o : List ℕ) {r : Packing} → room ≤ length o → Fitting names room rows r → {x : Packed} → r ≡ Ok x → Ready names rows x.entries (length o)
+ready_within {room} {names} {rows} o l f {x} g =
+    told_packed (pack_from names room rows) {n = x.entries} {b = x.bytes} (sym g ∙ f.is)
     (λ bs h. let k = held_in names room rows h in let y = k.held in let z = ap length k.bytes in record { count = k.count; each = k.each; held = omega arith })
 
 module _ (count : ℕ) {room : ℕ} {names : List ℕ} {rows : List (List ℕ)} (o : List ℕ) {r : Packing} (e : room ≡ min count (length o)) (f : Fitting names room rows r) where
   answered : r ≡ told (pack_in count (length o) names rows)
   answered = f.is ∙ ap (λ n. told (pack_from names n rows)) e
 
-  pub pack_ready : {n b : ℕ} → r ≡ P.Packed n b → Ready names rows n (length o)
-  pack_ready g = ready_within o (omega arith) f g
-
-  pub pack_put : {n b : ℕ} {o' : List ℕ} → r ≡ P.Packed n b → o' ≡ over o 0 (first_bytes names rows n) → PackedInto count names rows o o' (P.Packed n b)
-  pack_put {n} {b} {o'} g h =
-      told_packed (pack_from names room rows) (sym g ∙ f.is)
-      (λ bs x.
-      let k = held_in names room rows x in
-      let w : pack_in count (length o) names rows ≡ holds n bs = ap (λ m. pack_from names m rows) (sym e) ∙ x in
+  pub pack_put : {x : Packed} {o' : List ℕ} → r ≡ Ok x → o' ≡ over o 0 (first_bytes names rows x.entries) → PackedInto count names rows o o' (Ok x)
+  pack_put {x} {o'} g h =
+      told_packed (pack_from names room rows) {n = x.entries} {b = x.bytes} (sym g ∙ f.is)
+      (λ bs y.
+      let k = held_in names room rows y in
+      let w : pack_in count (length o) names rows ≡ holds x.entries bs = ap (λ m. pack_from names m rows) (sym e) ∙ y in
       record { answer = sym g ∙ answered; left = h ∙ ap (over o 0) (sym k.bytes) ∙ ap (laid_in o) (sym w) })
-
-  pub pack_refused : {k : Refusal} {at : ℕ} → r ≡ P.Refused k at → PackedInto count names rows o o r
-  pack_refused {k} {at} g = record { answer = answered; left = go (pack_in count (length o) names rows) (sym g ∙ answered) }
-    where
-      go : (x : Pack) → P.Refused k at ≡ told x → o ≡ laid_in o x
-      go (holds n bs) d = absurd (let z : ◌≡◌ {A = ℕ} 0 1 = cc d in omega arith)
-      go (refuses j i) d = refl

@@ -1,6 +1,6 @@
 -- What holds of the definitions in specs/StepLaws.antt.
 use Rattle.numbers.specs.Place.{Place}
-use Rattle.std.specs.Prelude.{ℕ, ◌<◌, ◌≡◌, refl, false, length, drop, Ok, Err}
+use Rattle.std.specs.Prelude.{ℕ, ◌<◌, ◌≡◌, refl, false, length, drop, Ok, Err, Some, None}
 use Rattle.std.proofs.Common.{arith, ◌∙◌}
 use Rattle.std.proofs.Math.Path.{sym, ap, ap₂}
 use mathlib.Core.List.{List, [], ◌∷◌}
@@ -9,7 +9,7 @@ use Rattle.numbers.specs.Numbers.{Bytes}
 use Rattle.numbers.specs.Reading.{Reading, ok, bad}
 use Rattle.numbers.proofs.ReadingLaws.{or_else}
 use Rattle.numbers.proofs.PlaceLaws.{num_short}
-use Rattle.numbers.specs.declared.Refusal.{Refusal}
+use Rattle.numbers.specs.declared.Fault.{Fault}
 use Rattle.numbers.specs.declared.Refusal.TheVariants as R
 use Rattle.fields.specs.Layouts.{num, str, Item, read_fields}
 use Rattle.fields.specs.Values.{Value}
@@ -18,8 +18,7 @@ use Rattle.fields.proofs.FieldLaws.{number_field, fields_accepted, fields_refuse
 use Rattle.layouts.specs.Tables.{layout_dirent}
 use Rattle.layouts.specs.declared.dirents.Dirent.{Dirent}
 use Rattle.layouts.specs.Records.{dirent}
-use Rattle.blocks.specs.declared.Step.TheVariants as S
-use Rattle.blocks.specs.Blocks.{entry, entry_of, front, entry_at}
+use Rattle.blocks.specs.Blocks.{entry_of, front, entry_at}
 use Rattle.blocks.specs.Views.{Asked}
 use Rattle.blocks.specs.StepLaws.{found_at}
 
@@ -47,12 +46,12 @@ module _ (s : List ℕ) (p : ℕ) where
     found : (p ≡ length s → ⊥) → found_at p vs e ≡ entry_at s p
     found n = or_else p (length s) (λ l. in_block (or_else (length s) p (λ m. absurd (n (omega arith))) (λ m. m))) (λ l. past_block l)
 
-  pub asked_end : p ≡ length s → Asked s p (S.End p)
+  pub asked_end : p ≡ length s → Asked s p (Ok None)
   unfolding entry_at
   asked_end e = record { is = rw (le-ltb (length s) p (omega arith), eq-eqb (length s) p (sym e)) }
 
-  pub asked_entry : {d : Dirent} {e : Place} {n : ℕ} → Bytes s → (p ≡ length s → ⊥) → Fields layout_dirent s (Ok p) (dirent d) e → e ≡ Ok n → Asked s p (S.Entry record { at = p; entry = d; next = n })
+  pub asked_entry : {d : Dirent} {e : Place} {n : ℕ} → Bytes s → (p ≡ length s → ⊥) → Fields layout_dirent s (Ok p) (dirent d) e → e ≡ Ok n → Asked s p (Ok (Some (record { at = p; entry = d; next = n })))
   asked_entry {d} b h f g = record { is = ap (found_at p (dirent d)) (sym g) ∙ found b f h }
 
-  pub asked_stop : {vs : List Value} {e : Place} {k : Refusal} {n : ℕ} → Bytes s → (p ≡ length s → ⊥) → Fields layout_dirent s (Ok p) vs e → e ≡ Err (k, n) → Asked s p (S.Refused k n p)
+  pub asked_stop : {vs : List Value} {e : Place} {x : Fault} → Bytes s → (p ≡ length s → ⊥) → Fields layout_dirent s (Ok p) vs e → e ≡ Err x → Asked s p (Err x)
   asked_stop {vs} b h f g = record { is = ap (found_at p vs) (sym g) ∙ found b f h }

@@ -1,5 +1,5 @@
 -- What is packed is listed again, entry by entry; no more entries from the front would fit; and what stands after the packed bytes is as it was.
-use Rattle.std.specs.Prelude.{ℕ, ◌+◌, ◌^◌, ◌<◌, ◌≡◌, List, [], ◌∷◌, ◌++◌, length, get_or}
+use Rattle.std.specs.Prelude.{ℕ, ◌^◌, ◌<◌, ◌≡◌, List, [], ◌∷◌, ◌++◌, length, get_or}
 use Rattle.numbers.specs.Reading.{Reading, ok}
 use Rattle.fields.specs.Layouts.{Item}
 use Rattle.fields.specs.Values.{places, shows}

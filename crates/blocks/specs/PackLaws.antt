@@ -1,13 +1,10 @@
 -- Packing by two passes, one that finds how many entries fit and one that puts them, is packing entry by entry.
-use Rattle.std.specs.Prelude.{ℕ, zero, suc, ◌+◌, ◌-◌, ◌≤◌, ◌<◌, ◌≡◌, List, [], ◌∷◌, ◌++◌, length, drop, get_or}
+use Rattle.std.specs.Prelude.{ℕ, zero, suc, ◌+◌, ◌-◌, ◌≤◌, ◌<◌, ◌≡◌, List, [], ◌∷◌, ◌++◌, length, drop, get_or, Ok, Err}
 use Rattle.numbers.specs.Reading.{ok}
 use Rattle.numbers.specs.Places.{over}
 use Rattle.fields.specs.Layouts.{Item, items_bytes}
-use Rattle.fields.specs.Values.{shows}
-use Rattle.blocks.specs.declared.Packing.{Packing}
-use Rattle.blocks.specs.declared.Packing.TheVariants as P
 use Rattle.blocks.specs.Blocks.{shown, pack_from}
-use Rattle.blocks.specs.Views.{told, row_bytes, Shows}
+use Rattle.blocks.specs.Views.{Packing, Holding, told, row_bytes, Shows}
 
 -- what is known of an entry whose name passes
 pub record Sized (names row : List ℕ) : Type 0 where
@@ -19,8 +16,8 @@ pub record Sized (names row : List ℕ) : Type 0 where
 -- ---- how many fit
 
 abbrev pub plus : ℕ → ℕ → Packing → Packing
-plus i u (P.Packed n b) = P.Packed (i + n) (u + b)
-plus i u (P.Refused k at) = P.Refused k at
+plus i u (Ok x) = Holding (i + x.entries) (u + x.bytes)
+plus i u (Err f) = Err f
 
 -- the entries before the i-th fit, and take u bytes: whoever goes on with the others has gone through them all
 pub record FitTo (names : List ℕ) (room : ℕ) (rows : List (List ℕ)) (i u : ℕ) : Type 0 where

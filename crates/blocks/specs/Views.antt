@@ -1,30 +1,39 @@
 -- What the functions answer, as the definition has it. What the contracts cite.
-use Rattle.std.specs.Prelude.{ℕ, ◌≡◌, List, [], length}
+use Rattle.std.specs.Prelude.{ℕ, ◌≡◌, List, [], length, Result, Ok, Err, Option, Some, None}
+use Rattle.numbers.specs.declared.Fault.{Fault}
 use Rattle.numbers.specs.Reading.{Reading, ok, bad}
 use Rattle.fields.specs.Layouts.{Item, items_bytes}
 use Rattle.layouts.specs.Records.{dirent}
-use Rattle.blocks.specs.declared.Step.{Step}
-use Rattle.blocks.specs.declared.Step.TheVariants as S
-use Rattle.blocks.specs.declared.Packing.{Packing}
-use Rattle.blocks.specs.declared.Packing.TheVariants as P
+use Rattle.blocks.specs.declared.Listed.{Listed}
+use Rattle.blocks.specs.declared.Packed.{Packed}
 use Rattle.blocks.specs.Blocks.{Found, entry, end, stop, entry_at, shown, Pack, holds, refuses, pack_from, pack_in, laid_in}
 
 -- ---- one entry
 
-abbrev pub view_step : Step → Found
-view_step (S.Entry l) = entry l.at (dirent l.entry) l.next
-view_step (S.End p) = end p
-view_step (S.Refused k at p) = stop k at p
+abbrev pub Step : Type 0
+Step = Result (Option Listed) Fault
+
+-- of the position that was asked
+abbrev pub view_step : ℕ → Step → Found
+view_step p (Ok (Some l)) = entry l.at (dirent l.entry) l.next
+view_step p (Ok None) = end p
+view_step p (Err f) = stop f.0 f.1 p
 
 pub record Asked (s : List ℕ) (p : ℕ) (r : Step) : Type 0 where
-  pub is : view_step r ≡ entry_at s p
+  pub is : view_step p r ≡ entry_at s p
 
 -- ---- packing
 
--- how many entries and how many bytes
+-- how many entries and how many bytes; or the refusal of a name, and its place
+abbrev pub Packing : Type 0
+Packing = Result Packed Fault
+
+abbrev pub Holding : ℕ → ℕ → Packing
+Holding n b = Ok (record { entries = n; bytes = b })
+
 abbrev pub told : Pack → Packing
-told (holds n bs) = P.Packed n (length bs)
-told (refuses k at) = P.Refused k at
+told (holds n bs) = Holding n (length bs)
+told (refuses k at) = Err (k, at)
 
 -- how many entries fit so much room
 pub record Fitting (names : List ℕ) (room : ℕ) (rows : List (List ℕ)) (r : Packing) : Type 0 where

@@ -7,7 +7,7 @@ use Rattle.blocks.proofs.put_entry.Goals as goal
 pub returns-then-within : goal.returns-then-within
 returns-then-within c =
     let b = bytes_all c.args.names.now (λ i. (c.type_inv.names i).fits) in
-    put_row b c.requires c.dirent_of-d.ensures c.put_dirent.ensures
+    put_row b c.requires c.dirent_of.ensures c.put_dirent.ensures
 
-pub returns : goal.returns
-returns c = no_entry c.requires (outside c.within.ensures c.if-within.false)
+pub returns-else-within : goal.returns-else-within
+returns-else-within c = no_entry c.requires (outside c.within.ensures c.if-within.false)
