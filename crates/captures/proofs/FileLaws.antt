@@ -14,7 +14,7 @@ use Rattle.numbers.specs.Numbers.{from_le}
 use Rattle.numbers.specs.declared.Fault.{Fault}
 use Rattle.numbers.specs.declared.Refusal.TheVariants as R
 use Rattle.framing.specs.Local.{size_in}
-use Rattle.captures.specs.Captures.{from_order, num_in, headed, captured, time_in, frame_in, taken, Packets, packet, complete, broken, packets_from, bytes_in, times_in, Held, tallied}
+use Rattle.captures.specs.Captures.{from_order, num_in, captured, time_in, frame_in, taken, Packets, packet, complete, broken, packets_from, bytes_in, times_in, Held, tallied}
 use Rattle.captures.specs.Steps.{size_at, from}
 use Rattle.captures.specs.FileLaws.{Taken}
 
@@ -47,23 +47,7 @@ module _ (s : List ℕ) (at : ℕ) {n : ℕ} where
     unfolding from_order from_le
     number_little e = rw (four_at s at h) (omega arith)
 
--- ---- the header
-
-module _ (big : Bool) (s : List ℕ) where
-  pub head_short : length s < 24 → false ≡ headed big s
-  unfolding headed
-  head_short h = rw (lt-ltb (length s) 24 h)
-
-  module _ (l : 24 ≤ length s) {m v w : ℕ} (e1 : m ≡ num_in big 4 0 s) (e2 : v ≡ num_in big 2 4 s) (e3 : w ≡ num_in big 2 6 s) where
-    pub head_holds : {n : ℕ} → (m ≡ 2712847316) × (v ≡ 2) × (w ≡ 4) → n ≡ num_in big 4 20 s → eqb n 147 ≡ headed big s
-    unfolding headed
-    head_holds (h1, h2, h3) e4 = rw (le-ltb (length s) 24 l, ← e1, eq-eqb m 2712847316 h1, ← e2, eq-eqb v 2 h2, ← e3, eq-eqb w 4 h3, ← e4)
-
-    pub head_fails : {t : Bool} → ((m ≡ 2712847316) × (v ≡ 2) × (w ≡ 4 → ⊥)) ⊎ (((m ≡ 2712847316) × (v ≡ 2 → ⊥)) ⊎ (m ≡ 2712847316 → ⊥)) → t ≡ false → t ≡ headed big s
-    unfolding headed
-    head_fails (inl (h1, h2, h3)) f = rw (f, le-ltb (length s) 24 l, ← e1, eq-eqb m 2712847316 h1, ← e2, eq-eqb v 2 h2, ← e3, ne_eqb w 4 h3)
-    head_fails (inr (inl (h1, h2))) f = rw (f, le-ltb (length s) 24 l, ← e1, eq-eqb m 2712847316 h1, ← e2, ne_eqb v 2 h2)
-    head_fails (inr (inr h1)) f = rw (f, le-ltb (length s) 24 l, ← e1, ne_eqb m 2712847316 h1)
+-- ---- a record that is taken
 
 pub is_taken : (big : Bool) (xs : List ℕ) {n : ℕ} → Taken big xs n → taken big xs ≡ true
 unfolding taken

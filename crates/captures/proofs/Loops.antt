@@ -44,12 +44,6 @@ pub record Taking (big : Bool) (file o₀ : List ℕ) (t₀ : List (List ℕ)) (
   pub times : sets t i (times_in (from big file at)) ≡ sets t₀ 0 (times_in (from big file 24))
 
 module _ (big : Bool) (file o₀ : List ℕ) (t₀ : List (List ℕ)) where
-  pub take_begins : Roomy file (from big file 24) o₀ t₀ → Taking big file o₀ t₀ o₀ t₀ 24 0 0
-  take_begins r =
-      let h = r.room in
-      let k = r.rows in
-      record { within = r.head; output = refl; table = refl; room = omega arith; rows = omega arith; bytes = refl; times = refl }
-
   module _ (o : List ℕ) (t : List (List ℕ)) (at to i : ℕ) (w : Taking big file o₀ t₀ o t at to i) where
     pub row_left : {n : ℕ} → Stands big file at n → i < length t
     row_left x =

@@ -1,11 +1,12 @@
 -- What holds of the definitions in specs/StretchLaws.antt.
 use Rattle.numbers.specs.Place.{Place}
-use Rattle.std.specs.Prelude.{ℕ, ◌+◌, ◌-◌, ◌≤◌, ◌<◌, ◌≡◌, refl, List, [], ◌∷◌, length, take, drop, Result, Ok, Err, Option, Some, None}
+use Rattle.std.specs.Prelude.{ℕ, ◌+◌, ◌-◌, ◌≤◌, ◌<◌, ◌≡◌, refl, List, [], ◌∷◌, length, take, drop, Result, Ok, Err, Option, Some, None, is_ok, true, false}
 use Rattle.std.proofs.Common.{arith, sym, ap, ◌∙◌, drop_of_length-le, length-take-le, take-take}
 use borrow.Author.Tests.{lt-ltb, le-ltb, ne_eqb}
 use Rattle.numbers.specs.Numbers.{from_le}
 use Rattle.numbers.proofs.ReadingLaws.{or_else}
 use Rattle.numbers.proofs.PlaceLaws.{refused_one}
+use Rattle.numbers.specs.declared.Fault.{Fault}
 use Rattle.numbers.specs.declared.Refusal.{Refusal}
 use Rattle.numbers.specs.declared.Refusal.TheVariants as R
 use Rattle.layouts.specs.Bodies.{Answer}
@@ -14,8 +15,8 @@ use Rattle.framing.proofs.ListingLaws.{front_case, list_step, whole_at, moves_on
 use Rattle.framing.specs.Cuts.{CutAt, between}
 use Rattle.framing.proofs.CutLaws.{cut_whole, cut_end, cut_stop, length_whole}
 use Rattle.framing.specs.declared.Cut.{Cut}
-use Rattle.captures.specs.Captures.{frames_in, counted, fits, cut_up}
-use Rattle.captures.specs.Steps.{step_to, rest}
+use Rattle.captures.specs.Captures.{frames_in, counted, fits, unless, cut_up}
+use Rattle.captures.specs.Steps.{step_to, rest, countable}
 use Rattle.captures.specs.StretchLaws.{Next}
 
 -- ---- the ways of a cut
@@ -123,10 +124,6 @@ module _ (s : List ℕ) (p : ℕ) {k : Refusal} {j : ℕ} (x : rest s p ≡ stop
   unfolding counted
   count_stop m = rw x
 
-  pub fit_stop : Err (k, j) ≡ fits (rest s p)
-  unfolding fits
-  fit_stop = rw x
-
   pub frames_stop : frames_in s (rest s p) ≡ []
   unfolding frames_in
   frames_stop = rw x
@@ -143,3 +140,58 @@ module _ (s : List ℕ) (p : ℕ) (x : rest s p ≡ ends p) where
   pub frames_end : frames_in s (rest s p) ≡ []
   unfolding frames_in
   frames_end = rw x
+
+-- what the count keeps: n frames come before `at`; none of them, or the first that no record holds
+pub record Counting (s : List ℕ) (at n : ℕ) (q : Place) : Type 0 where
+  pub within : at ≤ length s
+  pub many : n ≤ at
+  pub counts : counted n (rest s at) ≡ counted 0 (cut_up s)
+  pub fit : unless q (fits (rest s at)) ≡ fits (cut_up s)
+
+pub count_begins : (s : List ℕ) → Counting s 0 0 (Ok 0)
+count_begins s = record { within = omega arith; many = omega arith; counts = ap (counted 0) (starts s); fit = ap fits (starts s) }
+
+module _ {s : List ℕ} {at n : ℕ} {q : Place} (w : Counting s at n q) where
+  module _ {e : ℕ} (x : Next s at e) where
+    turned : {q' : Place} → unless q' (fits (rest s e)) ≡ unless q (fits (rest s at)) → Counting s e (n + 1) q'
+    turned f =
+        let a = x.on in
+        let b = x.seven in
+        let c = w.many in
+        record { within = x.held; many = omega arith; counts = count_turn x n ∙ w.counts; fit = f ∙ w.fit }
+
+    pub count_long : true ≡ is_ok q → 65535 < e - at → Counting s e (n + 1) (Err (R.Capture, at))
+    count_long g h = turned (go q g)
+      where
+        go : (p : Place) → true ≡ is_ok p → Err (R.Capture, at) ≡ unless p (fits (rest s at))
+        go (Ok m) i = fit_long x h
+        go (Err f) i = absurd (let z : ◌≡◌ {A = ℕ} 0 1 = cc in omega arith)
+
+    pub count_short : e - at ≤ 65535 → Counting s e (n + 1) q
+    count_short h = turned (ap (unless q) (fit_turn x h))
+
+    pub count_refused : false ≡ is_ok q → Counting s e (n + 1) q
+    count_refused g = turned (go q g)
+      where
+        go : (p : Place) → false ≡ is_ok p → unless p (fits (rest s e)) ≡ unless p (fits (rest s at))
+        go (Ok m) i = absurd (let z : ◌≡◌ {A = ℕ} 0 1 = cc in omega arith)
+        go (Err f) i = refl
+
+  pub count_stops : {k : Refusal} {j : ℕ} → rest s at ≡ stops k j → Err (k, j) ≡ countable (cut_up s)
+  count_stops x = let f = count_stop s at x n ∙ w.counts in rw (← f) refl
+
+  module _ (h : length s ≤ at) where
+    ended : rest s at ≡ ends at
+    ended = at_end_lem s at h
+
+    pub count_unfit : {f : Fault} → q ≡ Err f → Err f ≡ countable (cut_up s)
+    count_unfit g =
+        let a = count_end s at ended n ∙ w.counts in
+        let b = rw g at w.fit in
+        rw (← a, ← b) refl
+
+    pub count_fit : {m : ℕ} → q ≡ Ok m → Ok n ≡ countable (cut_up s)
+    count_fit g =
+        let a = count_end s at ended n ∙ w.counts in
+        let b = fit_end s at ended ∙ (rw g at w.fit) in
+        rw (← a, ← b) refl

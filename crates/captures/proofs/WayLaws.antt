@@ -15,8 +15,8 @@ use Rattle.numbers.specs.declared.Fault.{Fault}
 use Rattle.numbers.specs.declared.Refusal.TheVariants as R
 use Rattle.captures.specs.declared.Order.{Order}
 use Rattle.captures.specs.declared.Imported.{Imported}
-use Rattle.captures.specs.Captures.{num_in, headed, order_of, Packets, packet, complete, broken, packets_of, bytes_in, times_in, Import, Held, tallied, within, imported, Imports, frames_in, counted, fits, cut_up, header, exported_file, exported, Exports}
-use Rattle.captures.specs.Steps.{is_big, OrderIs, from, Roomy, RoomFor, records, Ready}
+use Rattle.captures.specs.Captures.{num_in, headed, order_of, Packets, packet, complete, broken, packets_of, bytes_in, times_in, Import, Held, tallied, within, imported, Imports, frames_in, counted, fits, unless, cut_up, header, exported_file, exported, Exports}
+use Rattle.captures.specs.Steps.{is_big, OrderIs, from, Roomy, countable, RoomFor, records, Ready}
 use Rattle.captures.proofs.StretchLaws.{starts}
 use Rattle.captures.proofs.PutLaws.{head_length, records_length}
 use Rattle.captures.specs.FrameLaws.{Whole}
@@ -38,18 +38,6 @@ head_inv big s = go (ltb (length s) 24) refl
     go false e f = ltb-false (length s) 24 e
 
 module _ (s : List ℕ) where
-  pub order_little : {b : Bool} → b ≡ headed false s → b ≡ true → order_of s ≡ some false
-  unfolding order_of
-  order_little e f = rw (← e, f)
-
-  pub order_big : {b c : Bool} → b ≡ headed false s → b ≡ false → c ≡ headed true s → c ≡ true → order_of s ≡ some true
-  unfolding order_of
-  order_big e f g h = rw (← e, f, ← g, h)
-
-  pub order_none : {b c : Bool} → b ≡ headed false s → b ≡ false → c ≡ headed true s → c ≡ false → order_of s ≡ none
-  unfolding order_of
-  order_none e f g h = rw (← e, f, ← g, h)
-
   pub some_order : {r : Option Order} {x : Order} → OrderIs s r → r ≡ Some x → order_of s ≡ some (is_big x)
   some_order i e = rw e at i
 
@@ -148,70 +136,85 @@ module _ {room len n : ℕ} {b : Bool} (x : RoomFor room len n b) where
   pub room_no : b ≡ false → room < 24 + len + 16 * n
   room_no e = rw e at x.is
 
-module _ (s : List ℕ) (ts : List (List ℕ)) (o : List ℕ) {p : Place} (c : p ≡ counted 0 (cut_up s)) where
+-- the first refusal is that of both
+unless_err : (a b q : Place) {x : Fault} → unless a (unless b a) ≡ Err x → unless a (unless b q) ≡ Err x
+unless_err (Err f) b q e = e
+unless_err (Ok n) (Err f) q e = e
+unless_err (Ok n) (Ok m) q e = absurd (let z : ◌≡◌ {A = ℕ} 0 1 = cc e in omega arith)
+
+unless_ok : (a b : Place) {n : ℕ} → unless a (unless b a) ≡ Ok n → (a ≡ Ok n) × (j : ℕ) × (b ≡ Ok j)
+unless_ok (Err f) b e = absurd (let z : ◌≡◌ {A = ℕ} 0 1 = cc e in omega arith)
+unless_ok (Ok n) (Err f) e = absurd (let z : ◌≡◌ {A = ℕ} 0 1 = cc e in omega arith)
+unless_ok (Ok n) (Ok m) e = (e, m, refl)
+
+module _ (s : List ℕ) (ts : List (List ℕ)) (o : List ℕ) {p : Place} (c : p ≡ countable (cut_up s)) where
   pub export_cut : {x : Fault} → p ≡ Err x → Exports s ts o o (Err x)
   unfolding exported
-  export_cut e = record { answer = rw (← c, e); bytes = rw (← c, e) }
+  export_cut e = let f = unless_err (counted 0 (cut_up s)) (fits (cut_up s)) _ (sym c ∙ e) in record { answer = sym f; bytes = rw f }
 
-  module _ {n : ℕ} {q : Place} (e : p ≡ Ok n) (f : q ≡ fits (cut_up s)) where
-    pub export_long : {x : Fault} → q ≡ Err x → Exports s ts o o (Err x)
+  module _ {n : ℕ} (e : p ≡ Ok n) where
+    both_pass : (counted 0 (cut_up s) ≡ Ok n) × (j : ℕ) × (fits (cut_up s) ≡ Ok j)
+    both_pass = unless_ok (counted 0 (cut_up s)) (fits (cut_up s)) (sym c ∙ e)
+
+    cut : counted 0 (cut_up s) ≡ Ok n
+    cut = both_pass.0
+
+    fit : fits (cut_up s) ≡ Ok both_pass.1
+    fit = both_pass.2
+
+    all : Whole s (cut_up s) 0 0 n
+    all = whole s (cut_up s) 0 (omega arith) (sym (starts s)) cut fit
+
+    pub frames_many : length (frames_in s (cut_up s)) ≡ n
+    frames_many = let h = all.count in omega arith
+
+    pub export_rows : length ts < n → Exports s ts o o (Err (R.TableFull, 0))
     unfolding exported
-    export_long g = record { answer = rw (← c, e, ← f, g); bytes = rw (← c, e, ← f, g) }
+    export_rows h =
+        let u = lt-ltb (length ts) n h in
+        record { answer = rw (cut, fit, frames_many, u); bytes = rw (cut, fit, frames_many, u) }
 
-    module _ {j : ℕ} (g : q ≡ Ok j) where
-      all : Whole s (cut_up s) 0 0 n
-      all = whole s (cut_up s) 0 (omega arith) (sym (starts s)) (sym c ∙ e) (sym f ∙ g)
+    module _ (h : n ≤ length ts) where
+      records_long : length (records s ts) ≡ length s + 16 * n
+      records_long =
+          let m = frames_many in
+          let j = ap length all.joins in
+          let l = records_length ts (frames_in s (cut_up s)) (omega arith) in
+          omega arith
 
-      pub frames_many : length (frames_in s (cut_up s)) ≡ n
-      frames_many = let h = all.count in omega arith
+      file_long : length (exported_file s ts) ≡ 24 + length s + 16 * n
+      file_long =
+          let a = length-append header (records s ts) in
+          let l = head_length in
+          let m = records_long in
+          omega arith
 
-      pub export_rows : length ts < n → Exports s ts o o (Err (R.TableFull, 0))
+      pub export_room : length o < 24 + length s + 16 * n → Exports s ts o o (Err (R.NoRoom, 0))
       unfolding exported
-      export_rows h =
-          let u = lt-ltb (length ts) n h in
-          record { answer = rw (← c, e, ← f, g, frames_many, u); bytes = rw (← c, e, ← f, g, frames_many, u) }
+      export_room k =
+          let u = le-ltb (length ts) n h in
+          let v = lt-ltb (length o) (24 + length s + 16 * n) k in
+          record { answer = rw (cut, fit, frames_many, u, file_long, v); bytes = rw (cut, fit, frames_many, u, file_long, v) }
 
-      module _ (h : n ≤ length ts) where
-        records_long : length (records s ts) ≡ length s + 16 * n
-        records_long =
+      module _ (k : 24 + length s + 16 * n ≤ length o) where
+        pub export_ready : {o1 : List ℕ} → o1 ≡ over o 0 header → length o1 ≡ length o → Ready s ts o1
+        export_ready i l =
             let m = frames_many in
-            let j = ap length all.joins in
-            let l = records_length ts (frames_in s (cut_up s)) (omega arith) in
-            omega arith
+            let r = records_long in
+            record { rows = omega arith; room = omega arith }
 
-        file_long : length (exported_file s ts) ≡ 24 + length s + 16 * n
-        file_long =
-            let a = length-append header (records s ts) in
-            let l = head_length in
-            let m = records_long in
-            omega arith
-
-        pub export_room : length o < 24 + length s + 16 * n → Exports s ts o o (Err (R.NoRoom, 0))
+        pub export_held : {o1 o2 : List ℕ} {m : ℕ} → o1 ≡ over o 0 header → o2 ≡ over o1 24 (records s ts) → m ≡ 24 + length s + 16 * n → Exports s ts o o2 (Ok m)
         unfolding exported
-        export_room k =
+        export_held {o1} {o2} {m} x y z =
             let u = le-ltb (length ts) n h in
-            let v = lt-ltb (length o) (24 + length s + 16 * n) k in
-            record { answer = rw (← c, e, ← f, g, frames_many, u, file_long, v); bytes = rw (← c, e, ← f, g, frames_many, u, file_long, v) }
-
-        module _ (k : 24 + length s + 16 * n ≤ length o) where
-          pub export_ready : {o1 : List ℕ} → o1 ≡ over o 0 header → length o1 ≡ length o → Ready s ts o1
-          export_ready i l =
-              let m = frames_many in
-              let r = records_long in
-              record { rows = omega arith; room = omega arith }
-
-          pub export_held : {o1 o2 : List ℕ} {m : ℕ} → o1 ≡ over o 0 header → o2 ≡ over o1 24 (records s ts) → m ≡ 24 + length s + 16 * n → Exports s ts o o2 (Ok m)
-          unfolding exported
-          export_held {o1} {o2} {m} x y z =
-              let u = le-ltb (length ts) n h in
-              let v = le-ltb (length o) (24 + length s + 16 * n) k in
-              let l = head_length in
-              let w : 24 ≡ 0 + length header = omega arith in
-              let r = file_long in
-              let both : o2 ≡ exported_file s ts ++ drop (length (exported_file s ts)) o
-              = y ∙ ap (λ (a : List ℕ). over a 24 (records s ts)) x ∙ ap (λ i. over (over o 0 header) i (records s ts)) w
-              ∙ over_then o 0 header (records s ts) (omega arith) ∙ over_front o (exported_file s ts) in
-              record {
-                answer = rw (← c, e, ← f, g, frames_many, u, file_long, v, z);
-                bytes = rw (← c, e, ← f, g, frames_many, u, file_long, v) (both ∙ rw file_long);
-              }
+            let v = le-ltb (length o) (24 + length s + 16 * n) k in
+            let l = head_length in
+            let w : 24 ≡ 0 + length header = omega arith in
+            let r = file_long in
+            let both : o2 ≡ exported_file s ts ++ drop (length (exported_file s ts)) o
+            = y ∙ ap (λ (a : List ℕ). over a 24 (records s ts)) x ∙ ap (λ i. over (over o 0 header) i (records s ts)) w
+            ∙ over_then o 0 header (records s ts) (omega arith) ∙ over_front o (exported_file s ts) in
+            record {
+              answer = rw (cut, fit, frames_many, u, file_long, v, z);
+              bytes = rw (cut, fit, frames_many, u, file_long, v) (both ∙ rw file_long);
+            }

@@ -8,7 +8,7 @@ use Rattle.framing.specs.Stretch.{Step, frame, end, stop, Listing, list_from}
 use Rattle.numbers.specs.Places.{Tells}
 use Rattle.captures.specs.declared.Order.{Order}
 use Rattle.captures.specs.declared.Order.TheVariants as O
-use Rattle.captures.specs.Captures.{order_of, captured, taken, Packets, packets_from, bytes_in, times_in, records_of, frames_in, paired, cut_up}
+use Rattle.captures.specs.Captures.{order_of, captured, taken, Packets, packets_from, bytes_in, times_in, records_of, frames_in, counted, fits, unless, paired, cut_up}
 
 -- the definitions are over a truth value: true where the highest byte comes first
 abbrev pub is_big : Order → Bool
@@ -43,6 +43,10 @@ step_to (stop k p) = Err (k, p)
 -- what is listed of it from a position on
 abbrev pub rest : List ℕ → ℕ → Listing
 rest s p = list_from [] [] p 0 (drop p s)
+
+-- how many frames there are: 12, 13; then 25
+abbrev pub countable : Listing → Place
+countable l = unless (counted 0 l) (unless (fits l) (counted 0 l))
 
 -- whether a header, so many bytes and so many records have room
 pub record RoomFor (room len n : ℕ) (r : Bool) : Type 0 where

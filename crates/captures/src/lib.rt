@@ -6,8 +6,8 @@
 ghost use Rattle.std.specs.Prelude.{◌≡◌, ◌+◌, ◌≤◌, [], ◌++◌, length, take, drop, get_or};
 ghost use Rattle.numbers.specs.Places.{over};
 ghost use Rattle.framing.specs.Stretch.{frame_at};
-ghost use Rattle.captures.specs.Captures.{num_in, headed, bytes_in, times_in, tallied, Imports, counted, fits, cut_up, header, record_bytes, Exports};
-ghost use Rattle.captures.specs.Steps.{is_big, OrderIs, size_at, from, Roomy, step_to, RoomFor, records, Ready};
+ghost use Rattle.captures.specs.Captures.{num_in, headed, bytes_in, times_in, tallied, Imports, cut_up, header, record_bytes, Exports};
+ghost use Rattle.captures.specs.Steps.{is_big, OrderIs, size_at, from, Roomy, step_to, countable, RoomFor, records, Ready};
 
 use numbers::{Fault, Place, Refusal};
 use strings::Span;
@@ -71,6 +71,7 @@ fn number(file: &[u8], at: usize, order: Order) -> u32
 }
 
 // Whether a header in this order stands at the front. Zone, accuracy and snapshot length may be anything.
+#[tactic(auto, unfolding(crate::specs::Captures::headed))]
 fn headed(file: &[u8], order: Order) -> bool
     ensures { result ≡ headed (is_big order) file.now }
 {
@@ -85,6 +86,7 @@ fn headed(file: &[u8], order: Order) -> bool
 }
 
 // The order in which a header stands at the front, if there is one.
+#[tactic(auto, unfolding(crate::specs::Captures::order_of))]
 fn order_of(file: &[u8]) -> Option<Order>
     ensures { OrderIs file.now result }
 {
@@ -191,32 +193,24 @@ fn frame_end(stretch: &[u8], at: usize) -> Place
     }
 }
 
-// How many frames the stretch has; 12, 13. A step is a frame's size, here and below: no range has it.
+// How many frames the stretch has: 12, 13; then, once it is cut to its end, 25 at the first that no record holds. A step is a frame's size,
+// here and below: no range has it.
 fn count(stretch: &[u8]) -> Place
-    ensures { result ≡ counted 0 (cut_up stretch.now) }
+    ensures { result ≡ countable (cut_up stretch.now) }
 {
     let mut at = 0;
-    let mut n = 0;
-    while at < stretch.len() {
-        at = frame_end(stretch, at)?;
-        n += 1;
-    }
-    Ok(n)
-}
-
-// 25 at the first frame that no record holds.
-fn fit(stretch: &[u8]) -> Place
-    ensures { result ≡ fits (cut_up stretch.now) }
-{
-    let mut at = 0;
+    let mut frames = 0;
+    let mut fit: Place = Ok(0);
     while at < stretch.len() {
         let next = frame_end(stretch, at)?;
-        if (MOST as usize) < next - at {
-            return Err(Fault(Refusal::Capture, at));
+        if fit.is_ok() && (MOST as usize) < next - at {
+            fit = Err(Fault(Refusal::Capture, at));
         }
         at = next;
+        frames += 1;
     }
-    Ok(at)
+    fit?;
+    Ok(frames)
 }
 
 // Whether the output has room for a header, so many bytes and so many records.
@@ -276,7 +270,6 @@ pub fn export(out: &mut [u8], stretch: &[u8], times: &[[u32; 2]]) -> Place
     ensures { Exports stretch.now times.now out.old out.new result }
 {
     let frames = count(stretch)?;
-    fit(stretch)?;
     if times.len() < frames {
         return Err(Fault(Refusal::TableFull, 0));
     }

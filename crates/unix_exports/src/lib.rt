@@ -10,7 +10,6 @@ ghost use Rattle.pairs.specs.Pairs.{rerror, pairs};
 ghost use Rattle.exports.specs.Frames.{FrameRead, BodyRead, FlatWrote};
 
 use exports::Outcome;
-use framing::Head;
 use layouts::ids::Tag;
 use numbers::{Fault, Refusal};
 use pairs::Mark;
@@ -20,18 +19,13 @@ use plain_flat::{WIDTH_R, WIDTH_T};
 pub fn sheafsledge_unix_read_tframe(bytes: &[u8], values: &mut [u64; WIDTH_T]) -> Outcome
     ensures { FrameRead (read_frame table_t bytes.now) values.old values.new result }
 {
-    let head = framing::read_header(bytes);
-    match head {
-        Head::Held(n, ty, tag) => {
-            let next = unix_flat_requests::read_flat(
-                &bytes[..n],
-                ty,
-                Ok(framing::BODY),
-                values,
-            );
-            exports::outcome_of(ty, tag, true, next)
+    match framing::read_header(bytes) {
+        Ok(head) => {
+            let own = &bytes[..head.len];
+            let next = unix_flat_requests::read_flat(own, head.ty, Ok(framing::BODY), values);
+            exports::outcome_of(head.ty, head.tag, true, next)
         }
-        Head::Refused(k) => exports::ended(Err(Fault(k, 0))),
+        Err(k) => exports::ended(Err(Fault(k, 0))),
     }
 }
 
@@ -39,21 +33,15 @@ pub fn sheafsledge_unix_read_tframe(bytes: &[u8], values: &mut [u64; WIDTH_T]) -
 pub fn sheafsledge_unix_read_rframe(bytes: &[u8], values: &mut [u64; WIDTH_R]) -> Outcome
     ensures { FrameRead (refused_whole (read_frame table_r bytes.now)) values.old values.new result }
 {
-    let head = framing::read_header(bytes);
-    match head {
-        Head::Held(n, ty, tag) => {
-            let next = unix_flat_replies::read_flat(
-                &bytes[..n],
-                ty,
-                Ok(framing::BODY),
-                values,
-            );
-            let Ok(_) = next else {
-                return exports::ended(next);
-            };
-            exports::outcome_of(ty, tag, true, next)
+    match framing::read_header(bytes) {
+        Ok(head) => {
+            let own = &bytes[..head.len];
+            match unix_flat_replies::read_flat(own, head.ty, Ok(framing::BODY), values) {
+                Ok(end) => exports::outcome_of(head.ty, head.tag, true, Ok(end)),
+                Err(f) => exports::ended(Err(f)),
+            }
         }
-        Head::Refused(k) => exports::ended(Err(Fault(k, 0))),
+        Err(k) => exports::ended(Err(Fault(k, 0))),
     }
 }
 

@@ -1,42 +1,44 @@
 use native.Mathlib.Omega.{arith}
-use mathlib.Core.Path.{◌∙◌}
 use Rattle.std.proofs.lemmas.Result.{err_from_is_err_and}
-use Rattle.captures.specs.Captures.{counted}
-use Rattle.captures.proofs.StretchLaws.{next, stopped, at_end_lem, starts, count_turn, count_stop, count_end}
-use mathlib.Core.Path.{ap}
+use Rattle.captures.proofs.StretchLaws.{next, stopped, count_begins, count_long, count_short, count_refused, count_stops, count_unfit, count_fit}
 use Rattle.captures.proofs.count.Goals as goal
+use Rattle.captures.proofs.count.Goals.{then-is_ok+then-next-at, else-is_ok, else-is_ok-via-then-is_ok+else-next-at, else-is_ok-via-else-is_ok}
 
 pub loop-at-init : goal.loop-at-init
-loop-at-init c = (omega arith, omega arith, ap (counted 0) (starts c.args.stretch.now))
+loop-at-init c = count_begins _
 
-pub returns-in_err-at : goal.returns-in_err-at
-returns-in_err-at c =
-    let a = c.args in
+pub returns-in_err-next : goal.returns-in_err-next
+returns-in_err-next c =
     let l = c.loop-at in
     let e = err_from_is_err_and c.from_residual.result c.from_residual.ensures.1 in
-    let x = stopped a.stretch.now l.at c.loop-at-test.true c.frame_end.ensures c.in_err-at.was in
-    rw (e.1, e.2) (count_stop a.stretch.now l.at x l.n ∙ l.invariant.2)
+    rw (e.1, e.2) (count_stops l.invariant (stopped _ _ c.loop-at-test.true c.frame_end.ensures c.in_err-next.was))
+
+pub overflow_sub-next : goal.overflow_sub-next
+overflow_sub-next c =
+    let x = next c.args.stretch.now c.loop-at.at c.loop-at.invariant.within c.frame_end.ensures c.in_ok-next.was in omega (arith, x.on)
 
 pub loop-at-smaller : goal.loop-at-smaller
 loop-at-smaller c =
-    let a = c.args in
-    let l = c.loop-at in
-    let x = next a.stretch.now l.at l.invariant.0 c.frame_end.ensures c.in_ok-at.was in
-    omega (arith, x.held, x.on, x.seven, l.invariant.0, l.invariant.1)
+    let x = next c.args.stretch.now c.loop-at.at c.loop-at.invariant.within c.frame_end.ensures c.in_ok-next.was in
+    omega (arith, x.held, x.on, x.seven)
 
 pub loop-at-preserved : goal.loop-at-preserved
 loop-at-preserved c =
-    let a = c.args in
-    let l = c.loop-at in
-    let x = next a.stretch.now l.at l.invariant.0 c.frame_end.ensures c.in_ok-at.was in
-    let h = x.held in
-    let k = l.invariant.1 in
-    let m = x.on in
-    let v = x.seven in
-    (omega arith, omega arith, count_turn x l.n ∙ l.invariant.2)
+    let w = c.loop-at.invariant in
+    let x = next c.args.stretch.now c.loop-at.at w.within c.frame_end.ensures c.in_ok-next.was in
+    elim c.if-is_ok.branch [
+      | then-is_ok+then-next-at v ↦ rw v.fit-is (count_long w x v.if-is_ok.ensures.value v.if-next-at.true)
+      | else-is_ok v ↦
+          rw v.fit-is (elim v.else-is_ok.branch [
+            | else-is_ok-via-then-is_ok+else-next-at u ↦ count_short w x u.if-next-at.false
+            | else-is_ok-via-else-is_ok u ↦ count_refused w x u.if-is_ok.ensures.value
+          ])
+    ]
+
+pub returns-in_err-fit : goal.returns-in_err-fit
+returns-in_err-fit c =
+    let e = err_from_is_err_and c.from_residual-in_err-fit.result c.from_residual-in_err-fit.ensures.1 in
+    rw (e.1, e.2) (count_unfit c.loop-at.invariant (omega arith) c.in_err-fit.was)
 
 pub returns : goal.returns
-returns c =
-    let a = c.args in
-    let l = c.loop-at in
-    count_end a.stretch.now l.at (at_end_lem a.stretch.now l.at (omega arith)) l.n ∙ l.invariant.2
+returns c = count_fit c.loop-at.invariant (omega arith) c.in_ok-fit.was

@@ -8,15 +8,14 @@ use Rattle.layouts.specs.Plain.{table_t}
 use Rattle.exports.specs.FrameReading.{flat_requests, headless_read, request_read}
 use Rattle.plain_exports.proofs.sheafsledge_plain_read_tframe.Goals as goal
 
-pub slice_bounds-read_flat-end : goal.slice_bounds-read_flat-end
-slice_bounds-read_flat-end c =
-    sym (length-take-le _ _ (head_yes _ c.read_header-head.ensures c.in-Held.is).held)
+pub slice_bounds-own-end : goal.slice_bounds-own-end
+slice_bounds-own-end c = sym (length-take-le _ _ (head_yes _ c.read_header.ensures c.in-Ok.is).held)
 
-pub returns-in-Held : goal.returns-in-Held
-returns-in-Held c =
+pub returns-in-Ok : goal.returns-in-Ok
+returns-in-Ok c =
     let b = bytes_all c.args.bytes.now (λ i. (c.type_inv.bytes i).fits) in
-    request_read table_t _ c.read_header-head.ensures b c.in-Held.is c.read_flat-next.ensures c.outcome_of.ensures
+    request_read table_t _ c.read_header.ensures b c.in-Ok.is c.read_flat-next.ensures c.outcome_of.ensures
 
-pub returns-in-Refused : goal.returns-in-Refused
-returns-in-Refused c =
-    headless_read (flat_requests table_t) _ c.read_header-head.ensures c.in-Refused.is c.ended.ensures refl
+pub returns-in-Err : goal.returns-in-Err
+returns-in-Err c =
+    headless_read (flat_requests table_t) _ c.read_header.ensures c.in-Err.is c.ended.ensures refl
