@@ -9,26 +9,22 @@ fn number(p: Place, width: u64, s: &[u8]) {
     match width {
         1 => {
             let r = numbers::read_u8(s, p);
-            let next = r.next;
-            questions::placed(next);
+            questions::placed(r.next);
             questions::figure(r.value as u64);
         }
         2 => {
             let r = numbers::read_u16(s, p);
-            let next = r.next;
-            questions::placed(next);
+            questions::placed(r.next);
             questions::figure(r.value as u64);
         }
         4 => {
             let r = numbers::read_u32(s, p);
-            let next = r.next;
-            questions::placed(next);
+            questions::placed(r.next);
             questions::figure(r.value as u64);
         }
         _ => {
             let r = numbers::read_u64(s, p);
-            let next = r.next;
-            questions::placed(next);
+            questions::placed(r.next);
             questions::figure(r.value);
         }
     }
@@ -36,10 +32,8 @@ fn number(p: Place, width: u64, s: &[u8]) {
 
 fn string(p: Place, s: &[u8]) {
     let r = strings::read_str(s, p);
-    let v = r.value;
-    let next = r.next;
-    questions::placed(next);
-    questions::list(&[v.start as u64, v.len as u64]);
+    questions::placed(r.next);
+    questions::list(&[r.value.start as u64, r.value.len as u64]);
 }
 
 // A span, as a part of the bytes, as a string, and its text by itself.

@@ -12,13 +12,11 @@ mod sweeps;
 
 fn main() {
     let mut line = questions::room();
-    let mut turns = u64::MAX;
-    while 0 < turns {
+    for _ in 0..u64::MAX {
         let n = questions::next_line(&mut line);
         if n == questions::ENDED {
             return;
         }
         answers::answer(questions::part(&line, 0, n));
-        turns -= 1;
     }
 }

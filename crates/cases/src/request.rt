@@ -1,31 +1,21 @@
 // Requests, as the functions over records have them.
 
-use frames::ReadTframe;
-use numbers::{Fault, Place};
-use requests::Tbody;
+use numbers::Place;
 
 // A body read at a place and written again there.
 fn body(out: &mut [u8], ty: u8, p: Place, s: &[u8]) -> Place {
-    let b = requests::read_tmessage(s, ty, p);
-    match b {
-        Ok((m, end)) => {
-            questions::at(0, end);
-            requests::write_tmessage(out, p, s, m)
-        }
-        Err(Fault(k, n)) => Err(Fault(k, n)),
-    }
+    let (m, end) = requests::read_tmessage(s, ty, p)?;
+    questions::at(0, end);
+    requests::write_tmessage(out, p, s, m)
 }
 
 // The answer is where writing ended; 0 where there is no frame to write.
 fn frame(s: &[u8], ty: u8, out: &mut [u8]) -> Place {
-    let r = frames::read_tframe(s);
-    match r {
+    match frames::read_tframe(s) {
         Ok(f) => {
-            let tag = f.tag;
-            let msg = f.msg;
-            match msg {
-                Ok((_, used)) => questions::head(0, ty, tag.0, true, used),
-                Err(Fault(k, _)) => questions::head(numbers::number(k), 0, tag.0, true, 0),
+            match f.msg {
+                Ok((_, used)) => questions::head(0, ty, f.tag.0, true, used),
+                Err(e) => questions::head(numbers::number(e.0), 0, f.tag.0, true, 0),
             }
             frames::write_tframe(out, s, f)
         }

@@ -2,25 +2,18 @@
 
 ghost use Rattle.std.specs.Prelude.{◌<◌};
 
-use numbers::Fault;
 use strings::Span;
 
 // The byte at `i` of the ranges; 0 where there is none, so that a range that is not given has one byte.
 fn byte(ranges: &[u8], i: usize) -> u8 {
-    if i < ranges.len() {
-        return ranges[i];
-    }
-    0
+    ranges.get(i).copied().unwrap_or(0)
 }
 
 // How many bytes a range has, from `low` on.
 fn width(low: u8, high: u8) -> u64
     ensures { 0 < result }
 {
-    if low < high {
-        return (high - low) as u64 + 1;
-    }
-    1
+    high.saturating_sub(low) as u64 + 1
 }
 
 fn nth(low: u8, n: u64) -> u8 {
@@ -33,21 +26,10 @@ fn answer(s: &[u8]) -> usize {
         start: 0,
         len: s.len(),
     };
-    let p = strings::check_str(s, all, Ok(3));
-    match p {
-        Ok(n) => {
-            if n == 3 {
-                return 0;
-            }
-            7
-        }
-        Err(Fault(k, _)) => {
-            let n = numbers::number(k) as usize;
-            if n < 7 {
-                return n;
-            }
-            7
-        }
+    match strings::check_str(s, all, Ok(3)) {
+        Ok(3) => 0,
+        Ok(_) => 7,
+        Err(f) => (numbers::number(f.0) as usize).min(7),
     }
 }
 
@@ -70,10 +52,6 @@ fn try_one(counts: &mut [u64; 14], s: &[u8]) {
     }
 }
 
-fn show(counts: &[u64; 14]) {
-    questions::list(counts);
-}
-
 // Up to four ranges, each by its first and its last byte. There are at most 2^32 strings.
 pub(crate) fn sweep(r: &[u8]) {
     let a = byte(r, 0);
@@ -85,8 +63,7 @@ pub(crate) fn sweep(r: &[u8]) {
     let thirds = width(c, byte(r, 5));
     let fourths = width(d, byte(r, 7));
     let mut counts = [0u64; 14];
-    let mut n: u64 = 0;
-    while n < 0x100000000 {
+    for n in 0..0x100000000 {
         let turn = n / fourths / thirds / seconds;
         if firsts <= turn {
             break;
@@ -98,7 +75,6 @@ pub(crate) fn sweep(r: &[u8]) {
             nth(d, n % fourths),
         ];
         try_one(&mut counts, questions::part(&s, 0, r.len() / 2));
-        n += 1;
     }
-    show(&counts);
+    questions::list(&counts);
 }

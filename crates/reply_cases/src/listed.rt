@@ -1,18 +1,11 @@
 // The lister's text of a stretch, in one line.
 
-fn barred(c: u8) -> u8 {
-    if c == b'\n' {
-        return b'|';
-    }
-    c
-}
-
 // Each line end becomes a bar, so that a listing is one line.
 fn join(text: &mut [u8]) {
-    let mut i = 0;
-    while i < text.len() {
-        text[i] = barred(text[i]);
-        i += 1;
+    for c in text {
+        if *c == b'\n' {
+            *c = b'|';
+        }
     }
 }
 

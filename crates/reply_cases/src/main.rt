@@ -6,33 +6,24 @@
 
 mod listed;
 
-use frames::ReadRframe;
-use numbers::{Fault, Place};
-use replies::Rbody;
+use numbers::Place;
 
 // A body read at a place and written again there.
 fn body(out: &mut [u8], ty: u8, p: Place, s: &[u8]) -> Place {
-    let b = replies::read_rmessage(s, ty, p);
-    match b {
-        Ok((m, end)) => {
-            questions::at(0, end);
-            replies::write_rmessage(out, p, s, m)
-        }
-        Err(Fault(k, n)) => Err(Fault(k, n)),
-    }
+    let (m, end) = replies::read_rmessage(s, ty, p)?;
+    questions::at(0, end);
+    replies::write_rmessage(out, p, s, m)
 }
 
 // The answer is where writing ended; 0 where there is no frame to write.
 fn reply(s: &[u8], ty: u8, out: &mut [u8]) -> Place {
-    let r = frames::read_rframe(s);
-    match r {
+    match frames::read_rframe(s) {
         Ok((f, used)) => {
-            let tag = f.tag;
-            questions::head(0, ty, tag.0, true, used);
+            questions::head(0, ty, f.tag.0, true, used);
             frames::write_rframe(out, s, f)
         }
-        Err(Fault(k, _)) => {
-            questions::head(numbers::number(k), 0, 0, false, 0);
+        Err(e) => {
+            questions::head(numbers::number(e.0), 0, 0, false, 0);
             Ok(0)
         }
     }
@@ -68,8 +59,7 @@ fn question(kind: u8, line: &[u8]) {
 
 fn main() {
     let mut line = questions::room();
-    let mut turns = u64::MAX;
-    while 0 < turns {
+    for _ in 0..u64::MAX {
         let n = questions::next_line(&mut line);
         if n == questions::ENDED {
             return;
@@ -80,6 +70,5 @@ fn main() {
             question(kind, text);
         }
         questions::word(b"\n");
-        turns -= 1;
     }
 }
