@@ -1,7 +1,7 @@
 -- The ways that the checks, the reader and the writers of strings go: one law for each way out, over plain variables.
 use Rattle.std.specs.Prelude.{Ok, Err}
 use Rattle.numbers.specs.Place.{Place}
-use Prim.Native.Nat.{ℕ, ◌+◌, ◌-◌, ◌≤◌, ◌<◌}
+use Prim.Native.Nat.{ℕ, ◌+◌, ◌-◌, ◌≤◌, ◌<◌, min}
 use native.Mathlib.Omega.{arith}
 use mathlib.Core.Path.{◌≡◌, refl, sym, ap, ap₂, ◌∙◌}
 use mathlib.Core.Bool.{Bool, true, false}
@@ -13,7 +13,7 @@ use Rattle.numbers.specs.Numbers.{to_le}
 use Rattle.numbers.proofs.Numbers.{length_to_le}
 use Rattle.numbers.specs.Reading.{bad}
 use Rattle.numbers.specs.Places.{Within, read_from, NumRead, over, Put}
-use Rattle.numbers.proofs.PlaceLaws.{inside, outside, num_holds, num_refused, put_refuses, put_full, put_done, put_then}
+use Rattle.numbers.proofs.PlaceLaws.{inside, outside, num_holds, num_refused, put_refuses, put_full, put_done, put_then, over_then}
 use Rattle.numbers.specs.declared.Fault.{Fault}
 use Rattle.numbers.specs.declared.Refusal.{Refusal}
 use Rattle.numbers.specs.declared.Refusal.TheVariants as R
@@ -154,6 +154,21 @@ copy_eights o lent at start len {o1} {o2} g l h k e f =
     let mid : take m x ++ b ≡ take len x = sym (take-add m 8 x) ∙ ap (λ n. take n x) n3 in
     f ∙ ap (λ (z : List ℕ). over z (at + m) (take 8 (drop (start + m) lent))) e ∙ ap (λ (z : List ℕ). over (d ++ r) (at + m) z) c
     ∙ ap₂ (λ (y z : List ℕ). y ++ b ++ z) front back ∙ ap (λ (z : List ℕ). z ++ drop (at + length (take len x)) o) (append_assoc (take at o) (take m x) b ∙ ap (λ (z : List ℕ). take at o ++ z) mid)
+
+-- the next block is not empty, and no longer than what is left
+pub next_block : {n left : ℕ} → n ≡ min left 65536 → 0 < left → (0 < n) × (n ≤ left) × (n ≤ 65536)
+next_block e h = (omega arith, omega arith, omega arith)
+
+-- the blocks so far, and one more
+pub copy_more : (o0 lent : List ℕ) (at start len done n : ℕ) {o o' : List ℕ} → at + len ≤ length o0 → start + len ≤ length lent → done + n ≤ len
+    → o ≡ over o0 at (take done (drop start lent)) → o' ≡ over o (at + done) (take n (drop (start + done) lent)) → o' ≡ over o0 at (take (done + n) (drop start lent))
+copy_more o0 lent at start len done n h k l e f =
+    let bs = take done (drop start lent) in
+    let cs = take n (drop (start + done) lent) in
+    let b : length bs ≡ done = shown_length lent start done (omega arith) in
+    let t : take (done + n) (drop start lent) ≡ bs ++ cs = take-add done n (drop start lent) ∙ ap (λ (x : List ℕ). bs ++ take n x) (drop-drop done start lent) in
+    let m : length (bs ++ cs) ≡ done + n = ap length (sym t) ∙ shown_length lent start (done + n) (omega arith) in
+    f ∙ ap (λ (x : List ℕ). over x (at + done) cs) e ∙ ap (λ i. over (over o0 at bs) (at + i) cs) (sym b) ∙ over_then o0 at bs cs (omega arith) ∙ ap (over o0 at) (sym t)
 
 -- ---- bytes that are put
 

@@ -114,27 +114,47 @@ pub fn read_str(s: &[u8], p: Place) -> Read<Span>
     Read { value: some, next }
 }
 
-// The lent bytes from `start` on, over those of the output from `at` on. Eight to sixteen bytes, as most names have, are two blocks of eight,
-// which may overlap: each is the move of one number, where a copy of any length is a call.
+// A copy goes by blocks of so many bytes.
+const BLOCK: usize = 65536;
+
+// One block of the lent bytes from `start` on, over those of the output from `at` on, by way of an array. For all the compiler knows the
+// output overlaps the lent bytes; an array of our own it knows to lie apart, so it makes a move of each copy, one move of the two, and no
+// array of what is left. One `copy_from_slice` from the lent bytes to the output was tried: it looks for an overlap each time, and writing
+// a walk takes half as long again.
+fn copy_block(out: &mut [u8], at: usize, lent: &[u8], start: usize, len: usize)
+    requires { (len ≤ 65536) × (at + len ≤ length out.old) × (start + len ≤ length lent.now) }
+    ensures { out.new ≡ over out.old at (take len (drop start lent.now)) }
+{
+    let mut block = [0u8; BLOCK];
+    block[..len].copy_from_slice(&lent[start..start + len]);
+    out[at..at + len].copy_from_slice(&block[..len]);
+}
+
+// The same for any length, block by block; no `for`, since the last may be shorter.
+fn copy_blocks(out: &mut [u8], at: usize, lent: &[u8], start: usize, len: usize)
+    requires { (at + len ≤ length out.old) × (start + len ≤ length lent.now) }
+    ensures { out.new ≡ over out.old at (take len (drop start lent.now)) }
+{
+    let mut done = 0;
+    while done < len {
+        let n = (len - done).min(BLOCK);
+        copy_block(out, at + done, lent, start + done, n);
+        done += n;
+    }
+}
+
+// The same again. Eight to sixteen bytes, as most names have, are two blocks of eight, which may overlap: each is the move of one number.
 fn copy(out: &mut [u8], at: usize, lent: &[u8], start: usize, len: usize)
     requires { (at + len ≤ length out.old) × (start + len ≤ length lent.now) }
     ensures { out.new ≡ over out.old at (take len (drop start lent.now)) }
 {
     if 8 <= len && len <= 16 {
         let last = len - 8;
-        copy_all(out, at, lent, start, 8);
-        copy_all(out, at + last, lent, start + last, 8);
+        copy_block(out, at, lent, start, 8);
+        copy_block(out, at + last, lent, start + last, 8);
     } else {
-        copy_all(out, at, lent, start, len);
+        copy_blocks(out, at, lent, start, len);
     }
-}
-
-// The same by one copy.
-fn copy_all(out: &mut [u8], at: usize, lent: &[u8], start: usize, len: usize)
-    requires { (at + len ≤ length out.old) × (start + len ≤ length lent.now) }
-    ensures { out.new ≡ over out.old at (take len (drop start lent.now)) }
-{
-    out[at..at + len].copy_from_slice(&lent[start..start + len]);
 }
 
 // The bytes that a span shows, put at a place: 9, 11.
