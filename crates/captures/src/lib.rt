@@ -142,6 +142,7 @@ fn tally(file: &[u8], order: Order) -> Result<Imported, Fault>
 }
 
 // The frames over the first bytes of the output, the times over the first rows of the table. `tally` has looked at each record before.
+// No `for` here either.
 fn take_packets(out: &mut [u8], times: &mut [[u32; 2]], file: &[u8], order: Order)
     requires { Roomy file.now (from (is_big order) file.now 24) out.old times.old }
     ensures { (out.new ≡ over out.old 0 (bytes_in (from (is_big order) file.now 24))) × (times.new ≡ times_in (from (is_big order) file.now 24) ++ drop (length (times_in (from (is_big order) file.now 24))) times.old) }
@@ -245,7 +246,7 @@ fn put_record(out: &mut [u8], to: usize, time: [u32; 2], stretch: &[u8], frame: 
     let _ = strings::put_bytes(out, d, stretch, frame);
 }
 
-// A record for each frame, after the header. `count` has cut the stretch before.
+// A record for each frame, after the header. `count` has cut the stretch before; no `for` here either.
 fn put_records(out: &mut [u8], stretch: &[u8], times: &[[u32; 2]])
     requires { Ready stretch.now times.now out.old }
     ensures { out.new ≡ over out.old 24 (records stretch.now times.now) }

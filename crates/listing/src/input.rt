@@ -5,6 +5,7 @@ ghost use Rattle.listing.specs.Inputs.{Holds};
 use std::io::Read;
 
 // Reads until the buffer is full or the input ends: so many bytes stand at the front of the buffer. None where a read fails.
+// No `for`: a step is what one read gives.
 pub fn read<R: Read>(source: &mut R, buf: &mut [u8]) -> Option<usize>
     ensures { Holds buf.new result }
 {

@@ -110,7 +110,7 @@ pub fn put_stop(out: &mut [u8], p: Place, position: usize, k: Refusal) -> Place
     put_last(out, p, b"stop ", position, numbers::number(k) as u64)
 }
 
-// A line for each frame, and the last line.
+// A line for each frame, and the last line. No `for`: a step is a frame's size, which the cut tells.
 fn put_lines(out: &mut [u8], from: Place, bytes: &[u8]) -> Place
     ensures { LinesPut bytes.now out.old from out.new result }
 {

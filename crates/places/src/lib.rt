@@ -169,7 +169,7 @@ impl Places {
         put_name(out, n, stretch, self.name_of(place))
     }
 
-    // Whether the path of a place has at most so many bytes. No sum is formed that could wrap.
+    // Whether the path of a place has at most so many bytes. No sum is formed that could wrap. No `for`: a step is to the older place.
     fn fits(&self, place: u8, stretch: &[u8], room: usize) -> bool
         ensures { result ≡ leb (length (path stretch.now self.now place)) room }
     {

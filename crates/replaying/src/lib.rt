@@ -17,7 +17,7 @@ pub fn answer_of(a: Result<(), Refusal>) -> u8
     }
 }
 
-// A line for each frame, with the session's answer, and the last line.
+// A line for each frame, with the session's answer, and the last line. No `for`: a step is a frame's size, which the cut tells.
 fn put_lines(out: &mut [u8], from: Place, stretch: &[u8]) -> Place
     ensures { LinesPut stretch.now out.old from out.new result }
 {
