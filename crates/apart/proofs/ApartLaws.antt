@@ -1,12 +1,13 @@
 -- What holds of the definitions in specs/ApartLaws.antt.
 use Rattle.numbers.specs.Place.{Place}
-use Rattle.std.specs.Prelude.{ℕ, ◌≡◌, refl, Bool, true, false, List, [], ◌∷◌, ◌++◌, length, eqb}
+use Rattle.std.specs.Prelude.{ℕ, ◌≡◌, refl, Bool, true, false, List, [], ◌∷◌, ◌++◌, length, eqb, Err}
 use Rattle.std.proofs.Common.{arith, sym, ◌∙◌, length-append, eqb-true}
 use Rattle.std.proofs.Math.Option.{some}
 use Rattle.std.proofs.Math.Seq.{take-length, take-append_seam, drop-append_seam}
 use Rattle.numbers.specs.Numbers.{Bytes}
 use Rattle.numbers.proofs.Numbers.{bytes_join}
 use Rattle.numbers.specs.Reading.{ok}
+use Rattle.numbers.specs.declared.Refusal.TheVariants as R
 use Rattle.strings.specs.Spans.{show_span, show_string}
 use Rattle.strings.proofs.SpanLaws.{shown_in}
 use Rattle.fields.specs.Layouts.{str, Layout}
@@ -15,8 +16,9 @@ use Rattle.laying.specs.Laying.{check_field, put_field, past_put_field, put_fiel
 use Rattle.laying.proofs.LayingLaws.{measure}
 use Rattle.laying.proofs.WritingLaws.{written, written_length}
 use Rattle.layouts.specs.Tables.{Row, row, table_t, lookup}
+use Rattle.layouts.specs.BodyLaws.{Nots}
 use Rattle.flat.specs.Flat.{field_values}
-use Rattle.flat.specs.FlatLaws.{written_known}
+use Rattle.flat.specs.FlatLaws.{written_known, written_unknown}
 use Rattle.apart.specs.Apart.{table_two, together, ApartWritten}
 use Rattle.apart.specs.ApartLaws.{of_two}
 
@@ -93,3 +95,8 @@ pub apart_length : {l : Layout} {first second ns o o' : List ℕ} {p q : Place} 
 apart_length {l} {first} {second} {ns} {o} {o'} {p} {q} w =
     let v : Written l (first ++ second) (field_values l (together (some l) first second ns)) o p o' q = record { bytes = w.is.bytes; next = w.is.next } in
     written_length v
+
+-- a type that has not two strings
+pub apart_unknown : {first second ns o : List ℕ} {p q : Place} (ty : ℕ) → Nots (Unit {0}) table_two ty → q ≡ Err (R.UnknownType, 0)
+    → ApartWritten (lookup table_two ty) first second ns o p o q
+apart_unknown ty h e = record { is = written_unknown table_two ty h e }

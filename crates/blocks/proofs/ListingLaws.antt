@@ -4,7 +4,7 @@ use native.Mathlib.Omega.{arith}
 use Rattle.std.proofs.Common.{add-zero, ap₂, ◌∙◌, length-append, drop-drop}
 use Rattle.std.proofs.Math.Path.{◌≡◌, sym, ap}
 use Rattle.std.proofs.Math.ListN.{length, length-drop}
-use Rattle.std.proofs.Math.Seq.{drop-length}
+use Rattle.std.proofs.Math.Seq.{drop-length, drop-append_seam}
 use borrow.Author.Tests.{lt-ltb, le-ltb, eq-eqb, ne_eqb}
 use Rattle.numbers.specs.Numbers.{Bytes}
 use Rattle.numbers.proofs.Numbers.{length_to_le, bytes_drop}
@@ -51,6 +51,9 @@ module _ {p : ℕ} {xs : List ℕ} {is : List Item} (f : Front p xs is) where
 
   pub front_held : length (items_bytes is) ≤ length xs
   front_held = let e = ap length f.whole ∙ length-append (items_bytes is) f.left in omega arith
+
+  pub front_left : drop (length (items_bytes is)) xs ≡ f.left
+  front_left = ap (drop (length (items_bytes is))) f.whole ∙ drop-append_seam (items_bytes is) f.left
 
   pub front_entry : front p xs ≡ entry p (places p is) (p + length (items_bytes is))
   unfolding front

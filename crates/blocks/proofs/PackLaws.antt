@@ -89,6 +89,9 @@ shows_sized {names} {row} s = go (show_string names (get_or row 5 0) (get_or row
     go (ok bs r) e = name_sized names row e
     go (bad k at) e = absurd (let d = sym s.is ∙ unnamed names row e in let z : ◌≡◌ {A = ℕ} 0 1 = cc d in omega arith)
 
+pub sized_shows : {names row : List ℕ} → Sized names row → Shows names row
+sized_shows s = record { items = s.items; rest = []; is = s.is }
+
 pub row_size : {names row : List ℕ} → Sized names row → length (row_bytes names row) ≡ get_or row 6 0 + 24
 row_size s = ap (λ m. length (bytes_of m)) s.is ∙ s.size
 
@@ -325,6 +328,9 @@ module _ (count : ℕ) {room : ℕ} {names : List ℕ} {rows : List (List ℕ)} 
   answered : r ≡ told (pack_in count (length o) names rows)
   answered = f.is ∙ ap (λ n. told (pack_from names n rows)) e
 
+  pub pack_ready : {x : Packed} → r ≡ Ok x → Ready names rows x.entries (length o)
+  pack_ready g = ready_within o (omega arith) f g
+
   pub pack_put : {x : Packed} {o' : List ℕ} → r ≡ Ok x → o' ≡ over o 0 (first_bytes names rows x.entries) → PackedInto count names rows o o' (Ok x)
   pack_put {x} {o'} g h =
       told_packed (pack_from names room rows) {n = x.entries} {b = x.bytes} (sym g ∙ f.is)
@@ -332,3 +338,10 @@ module _ (count : ℕ) {room : ℕ} {names : List ℕ} {rows : List (List ℕ)} 
       let k = held_in names room rows y in
       let w : pack_in count (length o) names rows ≡ holds x.entries bs = ap (λ m. pack_from names m rows) (sym e) ∙ y in
       record { answer = sym g ∙ answered; left = h ∙ ap (over o 0) (sym k.bytes) ∙ ap (laid_in o) (sym w) })
+
+  pub pack_refused : {x : Fault} → r ≡ Err x → PackedInto count names rows o o r
+  pack_refused {x} g = record { answer = answered; left = go (pack_in count (length o) names rows) (sym g ∙ answered) }
+    where
+      go : (y : Pack) → Err x ≡ told y → o ≡ laid_in o y
+      go (holds n bs) d = absurd (let z : ◌≡◌ {A = ℕ} 0 1 = cc d in omega arith)
+      go (refuses j i) d = refl

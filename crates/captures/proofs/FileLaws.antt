@@ -1,6 +1,6 @@
 -- What holds of the definitions in specs/FileLaws.antt.
 use Rattle.numbers.specs.Place.{Place}
-use Prim.Native.Nat.{ℕ, zero, suc, ◌+◌, ◌≤◌, ◌<◌}
+use Prim.Native.Nat.{ℕ, zero, suc, ◌+◌, ◌*◌, ◌≤◌, ◌<◌}
 use Rattle.std.proofs.Common.{arith, add-zero, add-one, ap₂, ◌∙◌, drop_of_length-le, drop-cons, drop-drop, take-add, length-take-le}
 use Rattle.std.specs.Prelude.{◌≡◌, Bool, length, take, drop, get_or, ltb, eqb, Ok, Err}
 use Rattle.std.specs.Int.{w16, w32, from_le_bytes, from_be_bytes}
@@ -14,7 +14,7 @@ use Rattle.numbers.specs.Numbers.{from_le}
 use Rattle.numbers.specs.declared.Fault.{Fault}
 use Rattle.numbers.specs.declared.Refusal.TheVariants as R
 use Rattle.framing.specs.Local.{size_in}
-use Rattle.captures.specs.Captures.{from_order, num_in, captured, time_in, frame_in, taken, Packets, packet, complete, broken, packets_from, bytes_in, times_in, Held, tallied}
+use Rattle.captures.specs.Captures.{from_order, num_in, headed, captured, time_in, frame_in, taken, Packets, packet, complete, broken, packets_from, bytes_in, times_in, Held, tallied}
 use Rattle.captures.specs.Steps.{size_at, from}
 use Rattle.captures.specs.FileLaws.{Taken}
 
@@ -23,29 +23,76 @@ use Rattle.captures.specs.FileLaws.{Taken}
 two_at : (s : List ℕ) (at : ℕ) → at + 2 ≤ length s → take 2 (drop at s) ≡ get_or s at 0 ∷ get_or s (at + 1) 0 ∷ []
 two_at s at h = rw (drop-cons s at 0 (omega arith), drop-cons s (suc at) 0 (omega arith), add-one)
 
-four_at : (s : List ℕ) (at : ℕ) → at + 4 ≤ length s → take 4 (drop at s) ≡ get_or s at 0 ∷ get_or s (at + 1) 0 ∷ get_or s (at + 2) 0 ∷ get_or s (at + 3) 0 ∷ []
-four_at s at h =
+pub short_big : (s : List ℕ) (at : ℕ) → at + 2 ≤ length s → get_or s at 0 * 256 + get_or s (at + 1) 0 ≡ num_in true 2 at s
+unfolding from_order from_le
+short_big s at h = rw (two_at s at h) (omega arith)
+
+pub short_little : (s : List ℕ) (at : ℕ) → at + 2 ≤ length s → get_or s at 0 + get_or s (at + 1) 0 * 256 ≡ num_in false 2 at s
+unfolding from_order from_le
+short_little s at h = rw (two_at s at h) (omega arith)
+
+four_at : (s : List ℕ) (at : ℕ) → take 4 (drop at s) ≡ take 2 (drop at s) ++ take 2 (drop (at + 2) s)
+four_at s at = take-add 2 2 (drop at s) ∙ ap (λ (x : List ℕ). take 2 (drop at s) ++ take 2 x) (drop-drop 2 at s)
+
+module _ (s : List ℕ) (at a b : ℕ) (h : at + 4 ≤ length s) where
+  pub number_big : a ≡ num_in true 2 at s → b ≡ num_in true 2 (at + 2) s → a * 65536 + b ≡ num_in true 4 at s
+  unfolding from_order from_le
+  number_big e f = rw (e, f, four_at s at, two_at s at (omega arith), two_at s (at + 2) (omega arith)) (omega arith)
+
+  pub number_little : a ≡ num_in false 2 at s → b ≡ num_in false 2 (at + 2) s → a + b * 65536 ≡ num_in false 4 at s
+  unfolding from_order from_le
+  number_little e f = rw (e, f, four_at s at, two_at s at (omega arith), two_at s (at + 2) (omega arith)) (omega arith)
+
+-- by the functions of the library
+four_bytes_at : (s : List ℕ) (at : ℕ) → at + 4 ≤ length s → take 4 (drop at s) ≡ get_or s at 0 ∷ get_or s (at + 1) 0 ∷ get_or s (at + 2) 0 ∷ get_or s (at + 3) 0 ∷ []
+four_bytes_at s at h =
     let plus_one : at + 2 + 1 ≡ at + 3 = omega arith in
     rw (take-add 2 2 (drop at s), drop-drop 2 at s, two_at s at (omega arith), two_at s (at + 2) (omega arith), plus_one) refl
 
 module _ (s : List ℕ) (at : ℕ) {n : ℕ} where
   module _ (h : at + 2 ≤ length s) where
-    pub short_big : n ≡ from_be_bytes w16 (get_or s at 0 ∷ get_or s (at + 1) 0 ∷ []) → n ≡ num_in true 2 at s
+    pub short_from_be : n ≡ from_be_bytes w16 (get_or s at 0 ∷ get_or s (at + 1) 0 ∷ []) → n ≡ num_in true 2 at s
     unfolding from_order from_le
-    short_big e = rw (two_at s at h) (omega arith)
+    short_from_be e = rw (two_at s at h) (omega arith)
 
-    pub short_little : n ≡ from_le_bytes w16 (get_or s at 0 ∷ get_or s (at + 1) 0 ∷ []) → n ≡ num_in false 2 at s
+    pub short_from_le : n ≡ from_le_bytes w16 (get_or s at 0 ∷ get_or s (at + 1) 0 ∷ []) → n ≡ num_in false 2 at s
     unfolding from_order from_le
-    short_little e = rw (two_at s at h) (omega arith)
+    short_from_le e = rw (two_at s at h) (omega arith)
 
   module _ (h : at + 4 ≤ length s) where
-    pub number_big : n ≡ from_be_bytes w32 (get_or s at 0 ∷ get_or s (at + 1) 0 ∷ get_or s (at + 2) 0 ∷ get_or s (at + 3) 0 ∷ []) → n ≡ num_in true 4 at s
+    pub number_from_be : n ≡ from_be_bytes w32 (get_or s at 0 ∷ get_or s (at + 1) 0 ∷ get_or s (at + 2) 0 ∷ get_or s (at + 3) 0 ∷ []) → n ≡ num_in true 4 at s
     unfolding from_order from_le
-    number_big e = rw (four_at s at h) (omega arith)
+    number_from_be e = rw (four_bytes_at s at h) (omega arith)
 
-    pub number_little : n ≡ from_le_bytes w32 (get_or s at 0 ∷ get_or s (at + 1) 0 ∷ get_or s (at + 2) 0 ∷ get_or s (at + 3) 0 ∷ []) → n ≡ num_in false 4 at s
+    pub number_from_le : n ≡ from_le_bytes w32 (get_or s at 0 ∷ get_or s (at + 1) 0 ∷ get_or s (at + 2) 0 ∷ get_or s (at + 3) 0 ∷ []) → n ≡ num_in false 4 at s
     unfolding from_order from_le
-    number_little e = rw (four_at s at h) (omega arith)
+    number_from_le e = rw (four_bytes_at s at h) (omega arith)
+
+-- ---- the header
+
+module _ (big : Bool) (s : List ℕ) where
+  pub head_short : length s < 24 → false ≡ headed big s
+  unfolding headed
+  head_short h = rw (lt-ltb (length s) 24 h)
+
+  module _ (l : 24 ≤ length s) {m : ℕ} (e1 : m ≡ num_in big 4 0 s) where
+    pub head_magic : (m ≡ 2712847316 → ⊥) → false ≡ headed big s
+    unfolding headed
+    head_magic h = rw (le-ltb (length s) 24 l, ← e1, ne_eqb m 2712847316 h)
+
+    module _ {v : ℕ} (h1 : m ≡ 2712847316) (e2 : v ≡ num_in big 2 4 s) where
+      pub head_major : (v ≡ 2 → ⊥) → false ≡ headed big s
+      unfolding headed
+      head_major h = rw (le-ltb (length s) 24 l, ← e1, eq-eqb m 2712847316 h1, ← e2, ne_eqb v 2 h)
+
+      module _ {w : ℕ} (h2 : v ≡ 2) (e3 : w ≡ num_in big 2 6 s) where
+        pub head_minor : (w ≡ 4 → ⊥) → false ≡ headed big s
+        unfolding headed
+        head_minor h = rw (le-ltb (length s) 24 l, ← e1, eq-eqb m 2712847316 h1, ← e2, eq-eqb v 2 h2, ← e3, ne_eqb w 4 h)
+
+        pub head_link : {n : ℕ} → w ≡ 4 → n ≡ num_in big 4 20 s → eqb n 147 ≡ headed big s
+        unfolding headed
+        head_link h3 e4 = rw (le-ltb (length s) 24 l, ← e1, eq-eqb m 2712847316 h1, ← e2, eq-eqb v 2 h2, ← e3, eq-eqb w 4 h3, ← e4)
 
 -- ---- a record that is taken
 
@@ -104,6 +151,12 @@ module _ (big : Bool) (s : List ℕ) (at : ℕ) where
       unfolding size_at taken
       size_out (inl i) = rw (le-ltb (length (drop at s)) 16 long, cap, orig, eq-eqb c o g, lt-ltb c 7 i)
       size_out (inr (i, j)) = rw (le-ltb (length (drop at s)) 16 long, cap, orig, eq-eqb c o g, le-ltb c 7 i, lt-ltb 65535 c j)
+
+      pub size_small : c < 7 → Err (R.Capture, at) ≡ size_at big at (drop at s)
+      size_small i = size_out (inl i)
+
+      pub size_large : 7 ≤ c → 65535 < c → Err (R.Capture, at) ≡ size_at big at (drop at s)
+      size_large i j = size_out (inr (i, j))
 
       module _ (i : 7 ≤ c) (j : c ≤ 65535) where
         pub size_long : length s < at + 16 + c → Err (R.Capture, at) ≡ size_at big at (drop at s)

@@ -124,6 +124,10 @@ module _ (s : List ℕ) (p : ℕ) {k : Refusal} {j : ℕ} (x : rest s p ≡ stop
   unfolding counted
   count_stop m = rw x
 
+  pub fit_stop : Err (k, j) ≡ fits (rest s p)
+  unfolding fits
+  fit_stop = rw x
+
   pub frames_stop : frames_in s (rest s p) ≡ []
   unfolding frames_in
   frames_stop = rw x

@@ -12,6 +12,7 @@ use borrow.Author.Tests.{lt-ltb, le-ltb, ltb-false}
 use Rattle.numbers.specs.Places.{over}
 use Rattle.numbers.proofs.PlaceLaws.{over_then}
 use Rattle.numbers.specs.declared.Fault.{Fault}
+use Rattle.numbers.specs.declared.Refusal.{Refusal}
 use Rattle.numbers.specs.declared.Refusal.TheVariants as R
 use Rattle.captures.specs.declared.Order.{Order}
 use Rattle.captures.specs.declared.Imported.{Imported}
@@ -38,6 +39,18 @@ head_inv big s = go (ltb (length s) 24) refl
     go false e f = ltb-false (length s) 24 e
 
 module _ (s : List ℕ) where
+  pub order_little : {b : Bool} → b ≡ headed false s → b ≡ true → order_of s ≡ some false
+  unfolding order_of
+  order_little e f = rw (← e, f)
+
+  pub order_big : {b c : Bool} → b ≡ headed false s → b ≡ false → c ≡ headed true s → c ≡ true → order_of s ≡ some true
+  unfolding order_of
+  order_big e f g h = rw (← e, f, ← g, h)
+
+  pub order_none : {b c : Bool} → b ≡ headed false s → b ≡ false → c ≡ headed true s → c ≡ false → order_of s ≡ none
+  unfolding order_of
+  order_none e f g h = rw (← e, f, ← g, h)
+
   pub some_order : {r : Option Order} {x : Order} → OrderIs s r → r ≡ Some x → order_of s ≡ some (is_big x)
   some_order i e = rw e at i
 
@@ -146,6 +159,12 @@ unless_ok : (a b : Place) {n : ℕ} → unless a (unless b a) ≡ Ok n → (a �
 unless_ok (Err f) b e = absurd (let z : ◌≡◌ {A = ℕ} 0 1 = cc e in omega arith)
 unless_ok (Ok n) (Err f) e = absurd (let z : ◌≡◌ {A = ℕ} 0 1 = cc e in omega arith)
 unless_ok (Ok n) (Ok m) e = (e, m, refl)
+
+-- it is cut to its end, and a frame is too long for a record
+module _ (s : List ℕ) (ts : List (List ℕ)) (o : List ℕ) {p : Place} (c : p ≡ counted 0 (cut_up s)) {n : ℕ} {q : Place} (e : p ≡ Ok n) (f : q ≡ fits (cut_up s)) where
+  pub export_long : {k : Refusal} {j : ℕ} → q ≡ Err (k, j) → Exports s ts o o q
+  unfolding exported
+  export_long g = record { answer = rw (← c, e, ← f, g); bytes = rw (← c, e, ← f, g) }
 
 module _ (s : List ℕ) (ts : List (List ℕ)) (o : List ℕ) {p : Place} (c : p ≡ countable (cut_up s)) where
   pub export_cut : {x : Fault} → p ≡ Err x → Exports s ts o o (Err x)

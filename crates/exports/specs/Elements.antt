@@ -1,8 +1,8 @@
 -- An element of a walk as Rust has it: where it starts among the lent bytes, its length, and the place after it.
 use Rattle.numbers.specs.Place.{Place}
-use Rattle.std.specs.Prelude.{ℕ, zero, suc, ◌+◌, ◌*◌, ◌^◌, ◌≤◌, ◌<◌, ◌≡◌, take, drop, get_or, eqb, Ok, Err}
+use Rattle.std.specs.Prelude.{ℕ, zero, suc, ◌+◌, ◌*◌, ◌^◌, ◌≤◌, ◌<◌, ◌≡◌, take, drop, get_or, eqb, Result, Ok, Err}
 use Rattle.std.proofs.Common.{arith, sym, ◌∙◌, length-append}
-use Rattle.std.proofs.Math.Path.{ap}
+use Rattle.std.proofs.Math.Path.{refl, ap}
 use mathlib.Core.List.{List, [], ◌∷◌, append-nil}
 use Rattle.std.proofs.Math.ListN.{length}
 use borrow.Author.Tests.{eqb-true}
@@ -10,6 +10,8 @@ use Rattle.numbers.specs.Numbers.{Bytes}
 use Rattle.numbers.proofs.Numbers.{length_to_le, bytes_take, bytes_drop}
 use Rattle.numbers.specs.Reading.{Reading, ok, bad}
 use Rattle.numbers.proofs.ReadingLaws.{after_inv, cond_inv}
+use Rattle.numbers.specs.declared.Fault.{Fault}
+use Rattle.numbers.specs.declared.Refusal.{Refusal}
 use Rattle.numbers.specs.declared.Refusal.TheVariants as R
 use Rattle.strings.specs.Strings.{string_bytes}
 use Rattle.strings.proofs.SpanLaws.{span_inv}
@@ -17,9 +19,10 @@ use Rattle.fields.specs.Layouts.{Field, strs, quids, Item, strings, qids, read_m
 use Rattle.fields.proofs.LayoutLaws.{took_many}
 use Rattle.fields.specs.Values.{Value, start_of, len_of, count_of, part, show_part, whole_part, show}
 use Rattle.laying.proofs.LayingLaws.{span_shown, part_inv, whole_inv}
-use Rattle.laying.specs.Elements.{element_in, asked_for, element_at}
+use Rattle.strings.specs.declared.Span.{Span}
+use Rattle.laying.specs.Elements.{element_in, asked_for, element_at, view_element}
 use Rattle.laying.proofs.ElementLaws.{asked_inv}
-use Rattle.flat.specs.Flat.{laid}
+use Rattle.flat.specs.Flat.{stored, laid}
 use Rattle.exports.specs.Answers.{ended, Answered}
 use Rattle.exports.specs.declared.Outcome.{Outcome}
 
@@ -116,6 +119,22 @@ module _ (lent : List ℕ) (c x y i : ℕ) (b : Bytes lent) (m : length lent < 2
   qid_lies (ok v r) h = let n = qid_within (sym h) in omega arith
 
 -- ---- what is answered for it
+
+module _ (e : Result Span Fault) where
+  pub ends_at : {s : Span} → e ≡ Ok s → Ends (view_element e) → s.start + s.len < 2 ^ 64
+  unfolding view_element
+  ends_at h n = rw h at n
+
+  pub spanned_found : {before after : List ℕ} {s : Span} {r : Outcome} → e ≡ Ok s → after ≡ stored before 0 (s.start ∷ s.len ∷ []) → r ≡ ended (Ok (s.start + s.len)) → Spanned (view_element e) before after r
+  unfolding view_element
+  spanned_found h a x = rw h (record { is = record { answer = x; left = a } })
+
+  pub spanned_refused : {before : List ℕ} {k : Refusal} {at : ℕ} {r : Outcome} → e ≡ Err (k, at) → r ≡ ended (Err (k, at)) → Spanned (view_element e) before before r
+  unfolding view_element
+  spanned_refused h x = rw h (record { is = record { answer = x; left = refl } })
+
+pub spanned_same : {e f : Reading Value} {before after : List ℕ} {r : Outcome} → Spanned e before after r → e ≡ f → Spanned f before after r
+spanned_same s h = rw (← h) s
 
 pub spanned : {e f : Reading Value} {before after : List ℕ} {q : Place} {r : Outcome} → SpanLaid e before after q → e ≡ f → r ≡ ended q → Spanned f before after r
 spanned s h x = rw (← h) (record { is = record { answer = x ∙ ap ended s.place; left = s.left } })

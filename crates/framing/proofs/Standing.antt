@@ -1,4 +1,4 @@
--- A frame that stands at a position, by its header; over any table.
+-- What holds of the definitions in specs/Standing.antt.
 use Rattle.std.specs.Prelude.{ℕ, ◌+◌, ◌-◌, ◌≤◌, min, ◌≡◌, List, length, take, drop, Result, Ok, Err}
 use Rattle.std.proofs.Common.{arith, sym, ◌∙◌, length-drop, drop_of_length-le, take_all}
 use Rattle.std.proofs.Math.Nat.{min-eq_left, min-eq_right}
@@ -15,6 +15,13 @@ use Rattle.framing.proofs.RaisedLaws.{frame_there}
 use Rattle.framing.specs.Headers.{HeadIs}
 use Rattle.framing.proofs.HeaderLaws.{frame_headless, head_yes}
 use Rattle.framing.specs.declared.Head.{Head}
+use Rattle.framing.specs.Standing.{Why}
+
+pub why_not : {h : Result Head Refusal} {x : Head} (k : Refusal) → h ≡ Ok x → Why h k
+why_not k e = record { is = λ j f. absurd (let d = sym e ∙ f in let z : ◌≡◌ {A = ℕ} 0 1 = cc d in omega arith) }
+
+pub why_so : {h : Result Head Refusal} {k : Refusal} → h ≡ Err k → Why h k
+why_so e = record { is = λ j f. (let d = sym e ∙ f in cc d) }
 
 -- a position past the end is the end
 same_bytes : (s : List ℕ) (p : ℕ) {at : ℕ} → at ≡ min p (length s) → drop at s ≡ drop p s

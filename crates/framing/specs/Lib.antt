@@ -19,3 +19,4 @@ pub mod Damage
 pub mod DamageLaws
 pub mod Limits
 pub mod Dialects
+pub mod Standing

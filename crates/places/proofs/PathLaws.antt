@@ -82,6 +82,14 @@ module _ (s os xs ys : List ℕ) where
         let k : length (path_in s os xs ys (get_or os i 0) ++ (47 ∷ name_in s x y)) ≤ length o = rw put_child at g in
         (e ∙ rw z (sym path_longer), f ∙ rw (z, w) (front_then o (path_in s os xs ys (get_or os i 0)) (47 ∷ name_in s x y) k) ∙ ap (over o 0) (sym put_child))
 
+  -- j is i as an index
+  module _ {i j : ℕ} (o : List ℕ) (e : j ≡ i) (h : get_or os j 0 < i) (g : length (path_in s os xs ys i) ≤ length o) where
+    put_falls : get_or os i 0 < i
+    put_falls = rw e at h
+
+    pub put_longer : length (path_in s os xs ys i) ≡ length (path_in s os xs ys (get_or os j 0)) + suc (length (name_in s (get_or xs j 0) (get_or ys j 0)))
+    put_longer = path_longer put_falls refl refl ∙ rw e
+
 -- ---- a name
 
 over_none : (o : List ℕ) (a : ℕ) → over o a [] ≡ o

@@ -1,7 +1,7 @@
 -- What holds of the definitions in specs/PlanLaws.antt.
 use Rattle.numbers.specs.Place.{Place}
-use Prim.Native.Nat.{ℕ, suc, zero, ◌+◌, ◌-◌, ◌*◌, min, ◌≤◌, ◌<◌}
-use Rattle.std.proofs.Math.Nat.{suc-mul, div-eq_of_lt, lt-div-mul-add, lt_of_mul-lt-mul_right}
+use Prim.Native.Nat.{ℕ, suc, zero, ◌+◌, ◌-◌, ◌*◌, ◌/◌, min, ◌≤◌, ◌<◌}
+use Rattle.std.proofs.Math.Nat.{suc-mul, div-eq_of_lt, add-div_right, lt-div-mul-add, lt_of_mul-lt-mul_right}
 use Rattle.std.specs.Int.{div_ceil}
 use Rattle.std.proofs.lemmas.Grind.{div_ceil_times}
 use Rattle.std.proofs.Common.{zero-mul, div-lt_iff_lt-mul, ap, ◌∙◌}
@@ -42,6 +42,10 @@ module _ (most : ℕ) (h : 0 < most) where
   pub fewest_none : (len : ℕ) → len ≡ 0 → 0 ≡ fewest most len
   unfolding fewest
   fewest_none len e = sym (div-eq_of_lt (omega arith))
+
+  pub fewest_some : (len : ℕ) → 0 < len → (len - 1) / most + 1 ≡ fewest most len
+  unfolding fewest
+  fewest_some len l = let e : len + (most - 1) ≡ (len - 1) + most = omega arith in rw e (sym (add-div_right (len - 1) h))
 
   pub fewest_least : (len : ℕ) → Least most (fewest most len) len
   unfolding fewest
@@ -135,16 +139,28 @@ module _ (msize : ℕ) where
               let k = f b.here b.some b.most in
               absurd (omega arith)
 
--- ---- neither 26 nor 27
+-- ---- 26, then 27, and then neither
 
 module _ (first len msize : ℕ) where
+  pub small : msize < 24 → Err (R.MsizeTooSmall, 0) ≡ agreed first len msize
+  unfolding agreed
+  small h = rw (lt-ltb msize 24 h)
+
+  pub far : 24 ≤ msize → greatest < first + len → Err (R.EndTooFar, 0) ≡ agreed first len msize
+  unfolding agreed
+  far h l = rw (le-ltb msize 24 h, lt-ltb greatest (first + len) l)
+
+  pub neither : 24 ≤ msize → first + len ≤ greatest → Ok 0 ≡ agreed first len msize
+  unfolding agreed
+  neither h l = rw (le-ltb msize 24 h, le-ltb greatest (first + len) l)
+
+  -- a place is at hand only where neither holds
   pub record Good : Type 0 where
     pub msize_is : 24 ≤ msize
     pub end_is : first + len ≤ greatest
 
-  neither : Good → Ok 0 ≡ agreed first len msize
-  unfolding agreed
-  neither g = rw (le-ltb msize 24 g.msize_is, le-ltb greatest (first + len) g.end_is)
+  agrees : Good → Ok 0 ≡ agreed first len msize
+  agrees g = neither g.msize_is g.end_is
 
   pub good : {p : Place} → p ≡ agreed first len msize → is_err p ≡ false → Good
   unfolding agreed
@@ -164,7 +180,7 @@ module _ (first len msize : ℕ) where
 
   pub accepted_runs : (ps : List (List ℕ)) → Good → runs_on msize first (first + len) ps ≡ accepted ps first len msize
   unfolding accepted
-  accepted_runs ps g = rw (← neither g)
+  accepted_runs ps g = rw (← agrees g)
 
   module _ (t : List (List ℕ)) where
     pub planned_refused : {p : Place} {k : Refusal} {n : ℕ} → p ≡ agreed first len msize → p ≡ Err (k, n) → Planned t first len msize t (Err (k, n))
@@ -175,13 +191,13 @@ module _ (first len msize : ℕ) where
       pub planned_full : length t < n → Planned t first len msize t (Err (R.TableFull, 0))
       unfolding planned table_of
       planned_full l =
-          let e = neither g in
+          let e = agrees g in
           let h = lt-ltb (length t) n l in
           record { table = rw (← e, ← d, ← f, h); answer = rw (← e, ← d, ← f, h) }
 
       pub planned_fits : {t' : List (List ℕ)} → n ≤ length t → t' ≡ cut most n first len ++ drop n t → Planned t first len msize t' (Ok n)
       unfolding planned table_of
       planned_fits l j =
-          let e = neither g in
+          let e = agrees g in
           let h = le-ltb (length t) n l in
           record { table = rw (← e, ← d, ← f, h) j; answer = rw (← e, ← d, ← f, h) }

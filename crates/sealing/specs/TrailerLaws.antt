@@ -1,17 +1,17 @@
 -- Counting the frames of a stretch, position by position; a sealed file reads to its end, and a stretch with its own trailer is sealed.
 use Rattle.numbers.specs.Place.{Place}
-use Rattle.std.specs.Prelude.{ℕ, zero, suc, pred, ◌+◌, ◌-◌, ◌^◌, ◌≤◌, ◌<◌, ◌≡◌, Bool, true, false, cond, List, [], ◌∷◌, ◌++◌, drop, ltb, Result, Ok, Err, Option, Some, None}
+use Rattle.std.specs.Prelude.{ℕ, zero, suc, pred, ◌+◌, ◌-◌, ◌^◌, ◌≤◌, ◌<◌, ◌≡◌, Bool, true, false, cond, List, [], ◌∷◌, ◌++◌, drop, ltb, eqb, Result, Ok, Err, Option, Some, None}
 use native.Mathlib.Omega.{arith}
 use Rattle.std.proofs.Math.Path.{refl, sym, ap}
 use Rattle.std.proofs.Common.{◌∙◌, append_assoc, append-nil, length-append, length-take-le}
 use Rattle.std.proofs.Math.ListN.{length, take}
 use Rattle.std.proofs.Math.Seq.{take-append_seam, drop-append_seam}
-use borrow.Author.Tests.{lt-ltb, le-ltb, eq-eqb}
+use borrow.Author.Tests.{lt-ltb, le-ltb, eq-eqb, ne_eqb}
 use Rattle.numbers.specs.Numbers.{to_le}
 use Rattle.numbers.proofs.Numbers.{length_to_le}
 use Rattle.numbers.specs.Reading.{read_num}
 use Rattle.numbers.proofs.ReadingLaws.{reads_num}
-use Rattle.numbers.specs.Places.{Within, number_in, num_at, Put}
+use Rattle.numbers.specs.Places.{Within, number_in, num_at, Put, NumRead}
 use Rattle.numbers.proofs.PlaceLaws.{put_stays, put_full, put_then}
 use Rattle.numbers.specs.declared.Fault.{Fault}
 use Rattle.numbers.specs.declared.Refusal.{Refusal}
@@ -55,6 +55,29 @@ module _ (s : List ℕ) where
 
 -- ---- a trailer that is read
 
+module _ (bytes frames last : ℕ) {m : Measured} where
+  pub tells_bytes : {e : Extent} → m ≡ Ok e → (e.bytes ≡ bytes → ⊥) → false ≡ tells bytes frames last m
+  tells_bytes {e} f h = rw (f, ne_eqb e.bytes bytes h)
+
+  pub tells_frames : {e : Extent} → m ≡ Ok e → e.bytes ≡ bytes → (e.frames ≡ frames → ⊥) → false ≡ tells bytes frames last m
+  tells_frames {e} f g h = rw (f, eq-eqb e.bytes bytes g, ne_eqb e.frames frames h)
+
+  pub tells_last : {e : Extent} → m ≡ Ok e → e.bytes ≡ bytes → e.frames ≡ frames → eqb e.last last ≡ tells bytes frames last m
+  tells_last {e} f g h = rw (f, eq-eqb e.bytes bytes g, eq-eqb e.frames frames h)
+
+  pub tells_none : {k : Refusal} {p : ℕ} → m ≡ Err (k, p) → false ≡ tells bytes frames last m
+  tells_none f = rw f
+
+module _ (file : List ℕ) where
+  pub sealed_short : length file < 12 → false ≡ sealed file
+  unfolding sealed
+  sealed_short h = rw (lt-ltb (length file) 12 h)
+
+  pub sealed_reads : {a b c : ℕ} {p q r : Place} {m : Measured} {t : Bool} → 12 ≤ length file → NumRead 4 file (Ok (length file - 12)) a p → NumRead 4 file (Ok (length file - 12 + 4)) b q
+      → NumRead 4 file (Ok (length file - 12 + 8)) c r → m ≡ extent_of (listing table_t table_r (stretch_in file)) → t ≡ tells a b c m → t ≡ sealed file
+  unfolding sealed
+  sealed_reads h x y z f e = rw (le-ltb (length file) 12 h, ← x.value, ← y.value, ← z.value, ← f) e
+
 -- a sealed file reads to its end
 extent_ends : (bytes frames last n at : ℕ) (l : Listing) → tells bytes frames last (extent_from n at l) ≡ true → Ends l
 unfolding extent_from
@@ -93,6 +116,9 @@ module _ (e : Extent) {o : List ℕ} where
       rw (le-ltb 4294967295 e.bytes h) (put_then s r refl (simp (length-append, length_to_le) (omega arith)))
 
 module _ (bs : List ℕ) {o : List ℕ} {m : Measured} (f : m ≡ extent_of (listing table_t table_r bs)) where
+  pub put_whole : {e : Extent} {o' : List ℕ} {r : Place} → m ≡ Ok e → ExtentPut e o o' r → TrailerPut bs o o' r
+  put_whole g p = rw (← f, g) p
+
   pub put_none : {x : Fault} → m ≡ Err x → TrailerPut bs o o (Err x)
   put_none g = rw (← f, g) (put_stays refl)
 

@@ -1,5 +1,5 @@
 -- What holds of the definitions in specs/Rows.antt.
-use Prim.Native.Nat.{ℕ, zero, suc, ◌+◌, ◌<◌, ◌≤◌}
+use Prim.Native.Nat.{ℕ, zero, suc, ◌+◌, ◌-◌, ◌<◌, ◌≤◌}
 use native.Mathlib.Omega.{arith}
 use Rattle.std.specs.Prelude.{◌≡◌, Bool, List, [], ◌∷◌, Option, Some, None, length, drop, not}
 use Rattle.std.specs.List.{position, position_or_len}
@@ -9,7 +9,7 @@ use Rattle.std.proofs.Math.Path.{refl}
 use Rattle.std.proofs.Math.Bool.{true, false, cond}
 use Rattle.std.proofs.Math.ListN.{get_or}
 use Rattle.std.proofs.Math.Dec.{eqb, ltb}
-use borrow.Author.Tests.{eqb-true, eqb-false, ltb-true, ltb-false}
+use borrow.Author.Tests.{eq-eqb, ne_eqb, eqb-true, eqb-false, ltb-true, ltb-false}
 use Rattle.session.specs.Rows.{row_from, row_of, IsRow}
 
 later : {i j : ℕ} → i ≤ j → (j ≡ i → ⊥) → i + 1 ≤ j
@@ -17,6 +17,22 @@ later a z = omega arith
 
 module _ (k : ℕ) (xs : List ℕ) where
   -- ---- how it is found
+
+  pub row_start : row_from k xs 0 (64 - 0) ≡ row_of k xs
+  unfolding row_of
+  row_start = refl
+
+  pub row_here : (i : ℕ) → i < 64 → get_or xs i 0 ≡ k → i ≡ row_from k xs i (64 - i)
+  unfolding row_from
+  row_here i h e = let m : 64 - i ≡ suc (64 - (i + 1)) = omega arith in rw (m, row_from, eq-eqb _ _ e)
+
+  pub row_on : (i : ℕ) → i < 64 → (get_or xs i 0 ≡ k → ⊥) → row_from k xs (i + 1) (64 - (i + 1)) ≡ row_from k xs i (64 - i)
+  unfolding row_from
+  row_on i h e = let m : 64 - i ≡ suc (64 - (i + 1)) = omega arith in rw (m, row_from, ne_eqb _ _ e)
+
+  pub row_none : (i : ℕ) → 64 ≤ i → i ≡ row_from k xs i (64 - i)
+  unfolding row_from
+  row_none i h = let m : 64 - i ≡ 0 = omega arith in rw (m, row_from)
 
   row_position : (n i : ℕ) → i + n ≡ length xs → row_from k xs i n ≡ i + position_or_len (λ y. eqb y k) (drop i xs)
   unfolding row_from

@@ -1,5 +1,5 @@
--- What the definitions say where the check finds no proof of its own: a reply that only closes its tag, and a path of a fid that is not known.
-use Rattle.std.specs.Prelude.{Err}
+-- For some ways through the code: what the definition says there.
+use Rattle.std.specs.Prelude.{Result, Err}
 use Prim.Native.Nat.{ℕ, ◌<◌, ◌≤◌}
 use mathlib.Core.Path.{◌≡◌, refl, sym, ap, ◌∙◌}
 use mathlib.Core.Bool.{Bool, true, false, cond}
@@ -8,6 +8,7 @@ use lib.ListN.{get_or, set}
 use lib.Dec.{eqb}
 use borrow.Author.Tests.{lt-ltb, le-ltb}
 use Rattle.numbers.proofs.PlaceLaws.{put_stays}
+use Rattle.numbers.specs.declared.Refusal.{Refusal}
 use Rattle.numbers.specs.declared.Refusal.TheVariants as R
 use Rattle.layouts.specs.Tables.{table_t}
 use Rattle.pairs.specs.Pairs.{rlerror, pairs}
@@ -16,10 +17,40 @@ use Rattle.session.specs.declared.Session.{Session}
 use Rattle.session.specs.declared.Stepped.{Stepped}
 use Rattle.session.specs.declared.Effect.{Effect}
 use Rattle.session.specs.declared.Effect.TheVariants as E
+use Rattle.session.specs.declared.Way.{Way}
 use Rattle.session.specs.Rows.{row_of}
-use Rattle.session.specs.Rules.{free, blank, accepts, effect_of, nothing_else, only_closes, closed, done, finished, replied, answered, FidPath}
+use Rattle.session.specs.Rules.{free, blank, fresh, accepts, refuses, unless, unfit, asked, effect_of, nothing_else, only_closes, closed, reached, given, done, finished, replied, answered, FidPath}
 
--- ---- a reply that only closes its tag
+-- ---- a request
+
+pub unfit_used : (fids : List ℕ) (r : Request) {i : ℕ} → i ≡ row_of r.new fids → i < 64 → Err R.FidInUse ≡ unfit fids r
+unfolding unfit
+unfit_used fids r {i} e h = rw (← e, lt-ltb i 64 h)
+
+module _ (s : Session) (tag : ℕ) (r : Request) {i : ℕ} (e : i ≡ row_of tag s.tags) (h : 64 ≤ i) {a : Result (Unit {0}) Refusal} (f : a ≡ unfit s.fids r) where
+  pub asked_unfit : {k : Refusal} → a ≡ Err k → ◌≡◌ {A = Stepped} (record { session = s; answer = a }) (asked s tag r)
+  unfolding asked
+  asked_unfit g = rw (← e, le-ltb i 64 h, ← f, g)
+
+-- ---- what a reply does
+
+module _ (bs : List ℕ) (s : Session) {e : Effect} (r : Request) {t : Stepped} where
+  pub done_empties : {u : Session} → e ≡ E.Empties → u ≡ fresh → t ≡ accepts u → t ≡ done bs s e r
+  unfolding done
+  done_empties h g f = rw h (f ∙ ap accepts g)
+
+  pub done_gives : {w : Way} → e ≡ E.Gives w → t ≡ unless (unfit s.fids r) s (given s r.to (reached bs s w r)) → t ≡ done bs s e r
+  unfolding done
+  done_gives h f = rw h f
+
+-- ---- a reply
+
+module _ (s : Session) (tag : ℕ) (d : Stepped) {t : Stepped} where
+  pub finish_refused : {k : Refusal} → d.answer ≡ Err k → t ≡ refuses s k → t ≡ finished s tag d
+  unfolding finished
+  finish_refused h f = rw h f
+
+-- where it does nothing but close its tag
 
 no : false ≡ true → ⊥
 no e = cc

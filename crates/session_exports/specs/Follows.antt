@@ -16,6 +16,8 @@ use Rattle.sealing.specs.Trailers.{TrailerPut}
 use Rattle.session.specs.Rules.{none, stepped, FidPath}
 use Rattle.session.specs.About.{fid_of}
 use Rattle.session.specs.declared.Session.{Session}
+use Rattle.session.specs.declared.Event.{Event}
+use Rattle.session.specs.declared.Stepped.{Stepped}
 use Rattle.events.specs.Events.{event_of}
 use Rattle.exports.specs.Answers.{ended}
 use Rattle.exports.specs.declared.Outcome.{Outcome}
@@ -54,6 +56,19 @@ pub record TrailerMade (bs o o' : List ℕ) (r : Outcome) : Type 0 where
   pub answer : r ≡ ended place
 
 -- ---- the ways through a step
+
+module _ (ty tag next tail fid : ℕ) {a : Result (Unit {0}) Refusal} where
+  pub told_accepted : {u : Unit {0}} → a ≡ Ok u → told_of ty tag next tail fid (Ok u) ≡ told_of ty tag next tail fid a
+  told_accepted e = rw e
+
+  pub told_refused : {k : Refusal} {n : ℕ} → a ≡ Err k → n ≡ number_of k
+      → ◌≡◌ {A = Told} (record { refusal = n; ty = ty; tag = tag; held = true; place = next; tail = 0; fid = none }) (told_of ty tag next tail fid a)
+  told_refused e f = rw (e, f)
+
+pub followed_by_lem : (bs : List ℕ) (s : Session) (ty tag tail next : ℕ) (a : Answer) {e : Event} {fid : ℕ} {d : Stepped} {t : Told} → e ≡ event_of ty tag a → fid ≡ fid_of s e → d ≡ stepped bs s e
+    → t ≡ told_of ty tag next tail fid d.answer → ◌≡◌ {A = Followed} (record { session = d.session; told = t }) (followed_by bs s ty tag a tail next)
+unfolding followed_by
+followed_by_lem bs s ty tag tail next a e f g h = rw (h, f, g, e)
 
 module _ (bs : List ℕ) (s : Session) (p : ℕ) {r : Answered} (a : Asked bs p r) where
   pub followed_frame : {l : Listed} {f : Followed} → r ≡ Ok (Some l) → f ≡ followed_by bs s l.ty l.tag.0 (view_body l.body) l.tail l.next → f ≡ followed_at bs s (frame_at table_t table_r bs p)

@@ -119,6 +119,9 @@ merged s (Err e) w ws fs f = record { is = f.is }
 
 -- ---- numbers, and a string
 
+pub pass_refused : {fs : List Shape} {s : List ℕ} {p : Place} {k : Refusal} {at : ℕ} → p ≡ Err (k, at) → Followed fs s p p
+pass_refused e = record { is = rw e }
+
 module _ {n a : ℕ} {s : List ℕ} {p : Place} (e : p ≡ Ok a) {t : Bool} (i : Within a n (length s) t) where
   pub skip_held : t ≡ true → Followed (fixed n ∷ []) s p (Ok (a + n))
   unfolding follow

@@ -12,7 +12,7 @@ use Rattle.numbers.specs.Reading.{Reading, ok, bad, after, raw, read_num}
 use Rattle.numbers.proofs.ReadingLaws.{or_else, raw_short}
 use Rattle.numbers.specs.Places.{Within, read_at, rest_at, NumRead, Put}
 use Rattle.numbers.specs.PlaceLaws.{Held}
-use Rattle.numbers.proofs.PlaceLaws.{outside, held_num, num_holds, num_refused}
+use Rattle.numbers.proofs.PlaceLaws.{inside, outside, held_num, num_holds, num_refused}
 use Rattle.numbers.specs.declared.Fault.{Fault}
 use Rattle.numbers.specs.declared.Refusal.{Refusal}
 use Rattle.numbers.specs.declared.Refusal.TheVariants as R
@@ -23,7 +23,7 @@ use Rattle.fields.specs.Fields.{no_slot, past_field, FieldRead}
 use Rattle.fields.specs.BoxLaws.{plain_of, Opened}
 use Rattle.laying.specs.Laying.{with_sizes, sized, FieldMeasured, Measured, CellsPut, Countable, Advanced}
 use Rattle.laying.specs.BoxLaws.{value_of}
-use Rattle.laying.proofs.BoxLaws.{box_measured, put_amount}
+use Rattle.laying.proofs.BoxLaws.{box_measured, put_amount, put_cells_length}
 use Rattle.layouts.specs.Plain.{stat_shape}
 use Rattle.laying.proofs.LayingLaws.{drop_take}
 use Rattle.stats.specs.Unix as U
@@ -104,6 +104,17 @@ module _ (fs : List Shape) {s : List ℕ} {start x : ℕ} {p : Place} (l : start
           go (bad k b) i g = absurd (let z : ◌≡◌ {A = ℕ} 0 1 = cc g in omega arith)
 
 -- ---- where its fields are
+
+pub start_within : (s : List ℕ) {start n : ℕ} {t : Bool} → Within start n (length s) t → t ≡ true → start ≤ length (take (start + n) s)
+start_within s {start} {n} i h = let l = length-take-le (start + n) s (inside i h) in omega arith
+
+-- what agrees has room for its size
+pub start_two : (fs : List Shape) (s : List ℕ) (start n : ℕ) {b : Bool} → start + n ≤ length s → b ≡ agrees fs (drop start (take (start + n) s)) → b ≡ true → start + 2 ≤ length s
+start_two fs s start n a g w =
+    let l = length-take-le (start + n) s a in
+    let d = length-drop start (take (start + n) s) in
+    let two = (agreed fs (drop start (take (start + n) s)) (sym g ∙ w)).two in
+    omega arith
 
 -- the count is cut off
 pub open_cut : {fs : List Shape} {s : List ℕ} {p q : Place} {n : ℕ} {w : Fault} → NumRead 2 s p n q → q ≡ Err w → Opened fs s p q (length s)
@@ -228,3 +239,6 @@ pub fields_put : {lent : List ℕ} {x1 x2 x3 x4 x5 x6 x7 x8 x9 s1 l1 s2 l2 s3 l3
     → CellsPut stat_shape lent (slot x1 ∷ slot x2 ∷ slot x3 ∷ slot x4 ∷ slot x5 ∷ slot x6 ∷ slot x7 ∷ slot x8 ∷ slot x9 ∷ text s1 l1 ∷ text s2 l2 ∷ text s3 l3 ∷ text s4 l4 ∷ []) o0 p0 o13 p13
 fields_put a1 a2 a3 a4 a5 a6 a7 a8 a9 b1 b2 b3 b4 =
     put_amount a1 (put_amount a2 (put_amount a3 (put_amount a4 (put_amount a5 (put_amount a6 (put_amount a7 (put_amount a8 (put_amount a9 (put_then refl b1 (put_then refl b2 (put_then refl b3 b4)))))))))))
+
+pub cells_length : {fs : List Shape} {lent : List ℕ} {vs : List Slot} {o o' : List ℕ} {p q : Place} → CellsPut fs lent vs o p o' q → length o' ≡ length o
+cells_length {fs} {lent} {vs} {o} {p = p} c = ap length c.bytes ∙ put_cells_length fs lent vs o p

@@ -134,6 +134,9 @@ fitting room n {e} f =
     (λ l. absurd (let d = rw (c, lt-ltb room (9 + 13 * n) l) at f in let z : ◌≡◌ {A = ℕ} 0 1 = cc d in omega arith)))
     (λ h. absurd (let d = rw (lt-leb n 16 h) at f in let z : ◌≡◌ {A = ℕ} 0 1 = cc d in omega arith))
 
+pub head_none : (n tag : ℕ) (o : List ℕ) {p : Place} {k : Refusal} {at : ℕ} → p ≡ rwalk_past (length o) n → p ≡ Err (k, at) → (0 ≡ to_follow (length o) n) × (o ≡ headed o tag n)
+head_none n tag o f g = let d = sym f ∙ g in (ap (λ p. all_of n p) (sym d), ap (λ p. head_at o tag n p) (sym d))
+
 pub head_put : (n tag : ℕ) (o : List ℕ) {e : ℕ} {o1 o2 : List ℕ} {p q r : Place} → p ≡ rwalk_past (length o) n → p ≡ Ok e → HeadPut 111 tag p o o1 q → Put (to_le 2 n) o1 (Ok 7) o2 r
     → (n ≡ to_follow (length o) n) × (o2 ≡ headed o tag n)
 head_put n tag o {e} f g a b =

@@ -1,11 +1,11 @@
 -- Which row of the RFC the bytes fit: octet by octet, and the row that a first octet begins.
-use Prim.Native.Nat.{ℕ, zero, suc, ◌≤◌, ◌<◌}
+use Prim.Native.Nat.{ℕ, zero, suc, ◌+◌, ◌≤◌, ◌<◌}
 use native.Mathlib.Omega.{arith}
 use native.Mathlib.Numerals.{add-one}
 use mathlib.Core.Path.{◌≡◌, refl, sym, ap, ◌∙◌}
 use mathlib.Core.Bool.{Bool, true, false, cond, ◌&&◌}
 use mathlib.Core.List.{List, [], ◌∷◌, ◌++◌}
-use lib.ListN.{length, take, drop, get_or, drop_of_length-le, take-append-drop}
+use lib.ListN.{length, take, drop, get_or, length-drop, drop_of_length-le, take-append-drop}
 use lib.Seq.{drop-cons}
 use lib.Dec.{leb, ltb, lit<}
 use Rattle.std.proofs.Math.Bool.{and-false}
@@ -16,8 +16,40 @@ use Rattle.std.specs.List.{list_all}
 use Rattle.utf8.specs.declared.Octets.{Octets}
 use Rattle.utf8.specs.Utf8.{Range, ◌to◌, in_range, rows, fits, char_in, char, CharAt}
 use Rattle.utf8.specs.Utf8Laws.{Rest}
+use Rattle.utf8.proofs.Utf8Laws.{fits_length}
 
 -- ---- the octets after the first
+
+-- whether the bytes of s from `at` on begin with an octet of each range
+pub record FitsAt (rs : List Range) (s : List ℕ) (at : ℕ) (r : Bool) : Type 0 where
+  pub is : r ≡ fits rs (drop at s)
+
+pub no_more : {s : List ℕ} {at : ℕ} → FitsAt [] s at true
+no_more = record { is = refl }
+
+module _ {r : Range} {rs : List Range} {s : List ℕ} {at : ℕ} {t : Bool} (h : at < length s) (e : t ≡ in_range r (get_or s at 0)) where
+  pub goes_on : {next : ℕ} {u : Bool} → t ≡ true → at + 1 ≡ next → FitsAt rs s next u → FitsAt (r ∷ rs) s at u
+  goes_on k f b = record {
+    is = b.is ∙ ap (λ n. fits rs (drop n s)) (sym f ∙ add-one at) ∙ rw (drop-cons s at 0 h, sym e ∙ k);
+  }
+
+  pub breaks : t ≡ false → FitsAt (r ∷ rs) s at false
+  breaks k = record { is = rw (drop-cons s at 0 h, sym e ∙ k) }
+
+module _ {rs : List Range} {s : List ℕ} {i : ℕ} where
+  pub hit : FitsAt rs s (i + 1) true → Rest rs s i (suc (length rs))
+  hit a = record { is = rw (sym a.is) }
+
+  pub miss : FitsAt rs s (i + 1) false → Rest rs s i 0
+  miss a = record { is = rw (sym a.is) }
+
+  -- the text ends before the row does
+  pub cut_off : i < length s → length s < i + suc (length rs) → Rest rs s i 0
+  cut_off g h = record { is = go (fits rs (drop (i + 1) s)) refl }
+    where
+      go : (t : Bool) → fits rs (drop (i + 1) s) ≡ t → 0 ≡ cond t (suc (length rs)) 0
+      go true e = absurd (let l = fits_length rs (drop (i + 1) s) e in let d = length-drop (i + 1) s in omega arith)
+      go false e = refl
 
 abbrev pub range_of : Octets → Range
 range_of r = r.0 to r.1
@@ -105,7 +137,7 @@ module _ {s : List ℕ} {i : ℕ} where
   unfolding char
   in_row n h l p q r = record { is = r.is ∙ rw (drop-cons s i 0 h, add-one) (sym (begun (get_or s i 0) (drop (suc i) s) rows refl n l p q)) }
 
-  in_gap : (n h k : ℕ) → i < length s → h < get_or s i 0 → get_or s i 0 ≤ k → below h (take n rows) ≡ true → above k (drop n rows) ≡ true → CharAt s i 0
+  pub in_gap : (n h k : ℕ) → i < length s → h < get_or s i 0 → get_or s i 0 ≤ k → below h (take n rows) ≡ true → above k (drop n rows) ≡ true → CharAt s i 0
   unfolding char
   in_gap n h k l p q e f = record {
     is =
@@ -114,12 +146,16 @@ module _ {s : List ℕ} {i : ℕ} where
         ∙ missed (get_or s i 0) h k (drop (suc i) s) p q (take n rows) (drop n rows) e f));
   }
 
-  pub at_end : length s ≤ i → CharAt s i 0
+  pub at_end_lem : length s ≤ i → CharAt s i 0
   unfolding char
-  at_end h = record { is = rw (drop_of_length-le s h) }
+  at_end_lem h = record { is = rw (drop_of_length-le s h) }
+
+  -- a row of one octet
+  pub alone : Rest [] s i 1
+  alone = record { is = refl }
 
   pub row_of_one : i < length s → get_or s i 0 ≤ 127 → CharAt s i 1
-  row_of_one h p = in_row 0 h (lit< tt) (omega arith) p (record { is = refl })
+  row_of_one h p = in_row 0 h (lit< tt) (omega arith) p alone
 
   pub row_of_two : {k : ℕ} → i < length s → 194 ≤ get_or s i 0 → get_or s i 0 ≤ 223 → Rest (128 to 191 ∷ []) s i k → CharAt s i k
   row_of_two h p q r = in_row 1 h (lit< tt) p q r
@@ -131,4 +167,4 @@ module _ {s : List ℕ} {i : ℕ} where
   after_all_rows h p = in_gap 9 244 (get_or s i 0) h p (omega arith) refl refl
 
 -- what the tactics find for the arms of one octet and two, and for those of none
-pub ruleset short_rows = (at_end, row_of_one, row_of_two, after_row_of_one, after_all_rows)
+pub ruleset short_rows = (at_end_lem, row_of_one, row_of_two, after_row_of_one, after_all_rows)

@@ -52,12 +52,15 @@ one_char (b ∷ bs) (suc k) e h =
 
 -- ---- the loop over the characters of s, i bytes on
 
-pub char_in_lem : (s : List ℕ) (i k : ℕ) → i < length s → CharAt s i k → i + k ≤ length s
-char_in_lem s i k h a =
+pub char_in_lem : {s : List ℕ} {i k : ℕ} → CharAt s i k → i ≤ length s → i + k ≤ length s
+char_in_lem {s} {i} {k} a h =
     let l = char_length (drop i s) in
     let d = length-drop i s in
     let e = a.is in
     omega arith
+
+pub char_inside : (s : List ℕ) (i k : ℕ) → i < length s → CharAt s i k → i + k ≤ length s
+char_inside s i k h a = char_in_lem a (omega arith)
 
 pub char_turn : {s : List ℕ} {i k : ℕ} {x : Bool} → CharAt s i k → (k ≡ 0 → ⊥) → utf8 (drop i s) ≡ x → utf8 (drop (i + k) s) ≡ x
 char_turn {s} {i} {k} a h e = ap utf8 (sym (drop-drop k i s)) ∙ sym (one_char (drop i s) k a.is h) ∙ e
