@@ -9,6 +9,7 @@ use Rattle.flat.specs.Flat.{flat_values, stored}
 use Rattle.exports.specs.declared.Outcome.{Outcome}
 use Rattle.exports.specs.Answers.{outcome_of, ended, Answered}
 use Rattle.blocks.specs.declared.Listed.{Listed}
+use Rattle.blocks.specs.declared.NoEntry.{NoEntry}
 use Rattle.blocks.specs.Blocks.{Found, entry, end, stop, entry_at, Pack, holds, refuses, pack_in, laid_in}
 use Rattle.blocks.specs.Views.{Step, Packing, view_step, Asked, told, PackedInto}
 use Rattle.blocks.specs.declared.Packed.{Packed as Count}
@@ -43,7 +44,7 @@ module _ {s : List ℕ} {p : ℕ} {before : List ℕ} {x : Step} {r : Outcome} (
   pub end_there : x ≡ Ok None → r ≡ ended (Ok p) → EntryRead s p before before r
   end_there e g = found a e g refl
 
-  pub stop_there : {f : Fault} → x ≡ Err f → r ≡ ended (Err f) → EntryRead s p before before r
+  pub stop_there : {y : NoEntry} → x ≡ Err y → r ≡ ended (Err y.fault) → EntryRead s p before before r
   stop_there e g = found a e g refl
 
 -- ---- packing

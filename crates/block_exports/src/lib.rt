@@ -28,7 +28,7 @@ pub fn sheafsledge_entry_at(block: &[u8], position: usize, values: &mut [u64; 7]
             exports::outcome_of(0, 0, true, Ok(listed.next))
         }
         Ok(None) => exports::ended(Ok(position)),
-        Err(f) => exports::ended(Err(f)),
+        Err(x) => exports::ended(Err(x.fault)),
     }
 }
 

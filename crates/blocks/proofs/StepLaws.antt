@@ -53,5 +53,5 @@ module _ (s : List ℕ) (p : ℕ) where
   pub asked_entry : {d : Dirent} {e : Place} {n : ℕ} → Bytes s → (p ≡ length s → ⊥) → Fields layout_dirent s (Ok p) (dirent d) e → e ≡ Ok n → Asked s p (Ok (Some (record { at = p; entry = d; next = n })))
   asked_entry {d} b h f g = record { is = ap (found_at p (dirent d)) (sym g) ∙ found b f h }
 
-  pub asked_stop : {vs : List Value} {e : Place} {x : Fault} → Bytes s → (p ≡ length s → ⊥) → Fields layout_dirent s (Ok p) vs e → e ≡ Err x → Asked s p (Err x)
+  pub asked_stop : {vs : List Value} {e : Place} {x : Fault} → Bytes s → (p ≡ length s → ⊥) → Fields layout_dirent s (Ok p) vs e → e ≡ Err x → Asked s p (Err (record { fault = x; position = p }))
   asked_stop {vs} b h f g = record { is = ap (found_at p vs) (sym g) ∙ found b f h }

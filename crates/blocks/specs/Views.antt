@@ -5,19 +5,20 @@ use Rattle.numbers.specs.Reading.{Reading, ok, bad}
 use Rattle.fields.specs.Layouts.{Item, items_bytes}
 use Rattle.layouts.specs.Records.{dirent}
 use Rattle.blocks.specs.declared.Listed.{Listed}
+use Rattle.blocks.specs.declared.NoEntry.{NoEntry}
 use Rattle.blocks.specs.declared.Packed.{Packed}
 use Rattle.blocks.specs.Blocks.{Found, entry, end, stop, entry_at, shown, Pack, holds, refuses, pack_from, pack_in, laid_in}
 
 -- ---- one entry
 
 abbrev pub Step : Type 0
-Step = Result (Option Listed) Fault
+Step = Result (Option Listed) NoEntry
 
--- of the position that was asked
+-- an end is that of the position that was asked
 abbrev pub view_step : ℕ → Step → Found
 view_step p (Ok (Some l)) = entry l.at (dirent l.entry) l.next
 view_step p (Ok None) = end p
-view_step p (Err f) = stop f.0 f.1 p
+view_step p (Err x) = stop x.fault.0 x.fault.1 x.position
 
 pub record Asked (s : List ℕ) (p : ℕ) (r : Step) : Type 0 where
   pub is : view_step p r ≡ entry_at s p

@@ -27,20 +27,29 @@ pub struct Listed {
     pub next: usize,
 }
 
-// What is at a position: an entry and the next position; none at the end, where exactly nothing is left; or 1, 5, 6, where a text breaks (F2.7).
-pub fn entry_at(block: &[u8], position: usize) -> Result<Option<Listed>, Fault>
+// Why no entry is read, where its text breaks (F2.7), and the position that was asked.
+#[derive(Clone, Copy, Debug, PartialEq, Eq)]
+pub struct NoEntry {
+    pub fault: Fault,
+    pub position: usize,
+}
+
+// What is at a position: an entry and the next position; none at the end, where exactly nothing is left; or 1, 5, 6, with the position.
+pub fn entry_at(block: &[u8], position: usize) -> Result<Option<Listed>, NoEntry>
     ensures { Asked block.now position result }
 {
     if position == block.len() {
         return Ok(None);
     }
     let read = dirents::read_dirent(block, Ok(position));
-    let next = read.next?;
-    Ok(Some(Listed {
-        at: position,
-        entry: read.value,
-        next,
-    }))
+    match read.next {
+        Ok(next) => Ok(Some(Listed {
+            at: position,
+            entry: read.value,
+            next,
+        })),
+        Err(fault) => Err(NoEntry { fault, position }),
+    }
 }
 
 // How many entries are packed, and how many bytes they are.
