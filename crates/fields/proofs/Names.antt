@@ -7,7 +7,7 @@ use mathlib.Core.Path.{◌≡◌, refl, sym, ap, ◌∙◌}
 use mathlib.Core.Bool.{Bool, true, false}
 use mathlib.Core.List.{List, ◌∷◌}
 use lib.ListN.{length, take, drop, get_or, length-drop, length-append}
-use lib.Seq.{length-take-le}
+use lib.Seq.{drop-length, length-take-le}
 use Rattle.numbers.proofs.Numbers.{length_to_le}
 use Rattle.numbers.specs.Reading.{Reading, ok, bad, after}
 use Rattle.numbers.specs.Places.{rest_at, NumRead, Within}
@@ -16,12 +16,12 @@ use Rattle.numbers.proofs.PlaceLaws.{inside, outside, num_holds, num_refused}
 use Rattle.numbers.specs.declared.Fault.{Fault}
 use Rattle.numbers.specs.declared.Refusal.{Refusal}
 use Rattle.numbers.specs.declared.Refusal.TheVariants as R
-use Rattle.utf8.specs.Utf8.{◌to◌, in_range, utf8, no_zero}
+use Rattle.utf8.specs.Utf8.{◌to◌, in_range, chars, utf8, no_zero}
 use Rattle.utf8.specs.Plain.{plain_at}
 use Rattle.utf8.proofs.Plain.{plain_each}
 use Rattle.utf8.proofs.Utf8Laws.{chars_over, plain_turn, plain_full, full_over}
 use Rattle.strings.specs.Strings.{ok_text, read_string, string_bytes}
-use Rattle.strings.proofs.SpanLaws.{string_cut, string_held, string_short, text_refused, text_passed}
+use Rattle.strings.proofs.SpanLaws.{string_cut, string_held, string_short, text_refused, text_good, text_passed}
 use Rattle.strings.specs.Spans.{TextCheck}
 use Rattle.fields.specs.Layouts.{read_many}
 use Rattle.fields.specs.Runs.{Plains, Run, Passed, NotPassed, NamePassed}
@@ -83,6 +83,18 @@ plain_run t i (suc n) r s =
     let q = plain_run t i n (record { held = omega arith; plain = record { each = λ j l m. r.plain.each j l (omega arith) } }) s in
     let e : i + n + 1 ≡ i + suc n = omega arith in
     rw e at (plain_byte t (i + n) (omega arith) (sym (r.plain.each (i + n) (omega arith) (omega arith))) refl q)
+
+-- all of it looked at, and passed
+all_same : (t : List ℕ) (i : ℕ) → length t ≡ i → utf8 t ≡ true → no_zero t ≡ true → Same t i
+unfolding utf8 chars no_zero
+all_same t i l u z = rw (← l) (record { form = rw (drop-length t) (sym u); full = rw (drop-length t) (sym z) })
+
+pub all_good : {s : List ℕ} {x y n a : ℕ} {q : Place} (i : ℕ) → length (take (x + y - x) (drop x s)) ≡ i → TextCheck s x y (Ok n) q → q ≡ Ok a
+    → Same (take (x + y - x) (drop x s)) i
+all_good {s} {x} {y} i l c e =
+    let n : x + y - x ≡ y = omega arith in
+    let g = text_good c e in
+    all_same (take (x + y - x) (drop x s)) i l (rw n g.0) (rw n g.1)
 
 -- ---- a name passed over, or refused
 

@@ -6,7 +6,7 @@ ghost use Rattle.std.specs.Prelude.{◌+◌, ◌≤◌, ◌<◌, ◌≡◌, leng
 ghost use Rattle.fields.specs.Layouts.{dat, strs, quids};
 ghost use Rattle.fields.specs.Values.{span, part};
 ghost use Rattle.fields.specs.Fields.{FieldRead, CountCheck, CountRead, ManyRead, Nowhere};
-ghost use Rattle.fields.specs.Runs.{Run, NamePassed};
+ghost use Rattle.fields.specs.Runs.{Run};
 
 use numbers::{Fault, Place, Read, Refusal};
 use strings::Span;
@@ -97,39 +97,44 @@ fn read_count(s: &[u8], p: Place) -> Read<u16>
     }
 }
 
-// The place after the string at a position. Names are plain but for a few: a byte that is not has all of the name looked at.
-fn pass_name(s: &[u8], at: usize) -> Place
-    ensures { NamePassed s.now at result }
-{
-    let count = numbers::read_u16(s, Ok(at));
-    let start = count.next?;
-    let len = count.value as usize;
-    if !numbers::within(start, len, s.len()) {
-        return Err(Fault(Refusal::Short, 0));
-    }
-    let end = start + len;
-    let name = &s[start..end];
-    let mut i = 0;
-    while i < len {
-        let k = plain_from(name, i);
-        if k == 0 {
-            return strings::check_str(s, Span { start, len }, Ok(end));
-        }
-        i += k;
-    }
-    Ok(end)
-}
-
-// So many strings from a position on: the place after them, or the refusal of the first that fails, whichever that is.
+// So many strings from a position on: the place after them, or the refusal of the first that fails, whichever that is. Names are plain but
+// for a few: a byte that is not has all of the name looked at.
 fn scan_names(s: &[u8], from: usize, count: u16) -> Place
     requires { from ≤ length s.now }
     ensures { ManyRead count s.now from result }
 {
     let mut at = from;
-    for _n in 0..count {
-        at = pass_name(s, at)?;
+    let mut n = count;
+    'names: loop {
+        if n == 0 {
+            break 'names Ok(at);
+        }
+        let c = numbers::read_u16(s, Ok(at));
+        let Ok(start) = c.next else {
+            break 'names c.next;
+        };
+        let len = c.value as usize;
+        if !numbers::within(start, len, s.len()) {
+            break 'names Err(Fault(Refusal::Short, 0));
+        }
+        let end = start + len;
+        let name = &s[start..end];
+        let mut i = 0;
+        while i < len {
+            let k = plain_from(name, i);
+            if 0 < k {
+                i += k;
+            } else {
+                let q = strings::check_str(s, Span { start, len }, Ok(end));
+                let Ok(_) = q else {
+                    break 'names q;
+                };
+                i = len;
+            }
+        }
+        at = end;
+        n -= 1;
     }
-    Ok(at)
 }
 
 // So many strings from a position on, which may lie past the end, where there are none.

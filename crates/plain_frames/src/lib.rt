@@ -55,7 +55,10 @@ pub fn read_tframe_at(s: &[u8], position: usize) -> Result<Tframe, Refusal>
     ensures { view_tframe result ≡ read_frame_at table_t s.now position }
 {
     let at = position.min(s.len());
-    let head = framing::read_header(&s[at..])?;
+    let read = framing::read_header(&s[at..]);
+    let Ok(head) = read else {
+        return Err(read.unwrap_err());
+    };
     Ok(Tframe {
         at,
         tag: Tag(head.tag),
@@ -76,7 +79,10 @@ pub fn read_rframe_at(s: &[u8], position: usize) -> Result<(Rframe, usize), Faul
     ensures { view_rframe result ≡ refused_whole (read_frame_at table_r s.now position) }
 {
     let at = position.min(s.len());
-    let head = framing::read_header(&s[at..])?;
+    let read = framing::read_header(&s[at..]);
+    let Ok(head) = read else {
+        return Err(Fault(read.unwrap_err(), 0));
+    };
     let (msg, used) = reply_at(&s[..at + head.len], head.ty, at)?;
     let tag = Tag(head.tag);
     Ok((Rframe { at, tag, msg }, used))

@@ -1,29 +1,47 @@
--- A name is refused, or all are passed.
-use Rattle.std.proofs.lemmas.Result.{err_from_is_err_and}
-use Rattle.std.specs.Prelude.{◌+◌, ◌-◌, ◌≡◌, refl}
-use Rattle.std.proofs.Common.{arith}
-use Rattle.fields.proofs.Names.{name_bad, none_left, one_off}
+-- A name is refused, by its count, its bytes or its text, or all are passed.
+use Rattle.std.specs.Prelude.{◌<◌}
+use Rattle.std.proofs.Common.{arith, ◌∙◌}
+use Rattle.numbers.proofs.Numbers.{bytes_all}
+use Rattle.numbers.proofs.PlaceLaws.{num_fits, inside}
+use Rattle.strings.proofs.SpanLaws.{str_is_text}
+use Rattle.fields.proofs.Names.{plain_run, all_good, the_name, count_cut, bytes_cut, name_checked, name_plain, none_left, name_bad, one_off}
 use Rattle.fields.proofs.scan_names.Goals as goal
 
-pub loop-n-init : goal.loop-n-init
-loop-n-init c =
-    let e : c.args.count - 0 ≡ c.args.count = omega arith in (c.requires, record { is = rw e refl })
+pub loop-i-preserved-then-k-gt0 : goal.loop-i-preserved-then-k-gt0
+loop-i-preserved-then-k-gt0 c =
+    let l = c.loop-i in
+    let r = c.plain_from-k.ensures in
+    let h = r.held in
+    (omega (arith, l.invariant.1), l.invariant.1, plain_run _ l.i _ r l.invariant.2)
 
-pub returns-in_err-at : goal.returns-in_err-at
-returns-in_err-at c =
-    let l = c.loop-n in
-    let t = c.loop-n-test.true in
-    let e = err_from_is_err_and c.from_residual.result c.from_residual.ensures.1 in rw (e.1, e.2) (record { next = name_bad (λ z. omega (arith, t, z)) c.in_err-at.ensures l.invariant.1 })
+pub loop-i-preserved : goal.loop-i-preserved
+loop-i-preserved c =
+    let l = c.loop-i in
+    let w = inside c.within.ensures c.if-not-within.false in
+    (omega arith, l.invariant.1, all_good _ l.invariant.1 (str_is_text w (omega arith) c.check_str-q.ensures) c.in-Ok-q.is)
 
-pub loop-n-preserved : goal.loop-n-preserved
-loop-n-preserved c =
-    let l = c.loop-n in
-    let t = c.loop-n-test.true in
-    let p = c.in_ok-at.ensures in
-    let e : c.args.count - (l._n + 1) ≡ c.args.count - l._n - 1 = omega arith in
-    (p.lies, rw e (one_off (λ z. omega (arith, t, z)) p l.invariant.1))
+pub names-preserved : goal.names-preserved
+names-preserved c =
+    let l = c.loop-i in
+    let m = the_name c.read_u16-c.ensures c.in-Ok.is c.within.ensures c.if-not-within.false in
+    (m.lies, one_off c.if-n-eq0.false (name_plain m (omega (arith, l.invariant.1)) l.invariant.2) c.names.invariant.1)
 
-pub returns : goal.returns
-returns c =
-    let l = c.loop-n in
-    let t = c.loop-n-test.false in record { next = none_left (omega (arith, t)) l.invariant.0 l.invariant.1 }
+pub returns-then-n-eq0 : goal.returns-then-n-eq0
+returns-then-n-eq0 c =
+    let l = c.names in record { next = none_left c.if-n-eq0.true l.invariant.0 l.invariant.1 }
+
+pub returns-in_default : goal.returns-in_default
+returns-in_default c =
+    record { next = c.in_default.is ∙ name_bad c.if-n-eq0.false (count_cut c.read_u16-c.ensures c.in_default.is) c.names.invariant.1 }
+
+pub returns-then-not-within : goal.returns-then-not-within
+returns-then-not-within c =
+    record { next = name_bad c.if-n-eq0.false (bytes_cut c.read_u16-c.ensures c.in-Ok.is c.within.ensures c.if-not-within.true) c.names.invariant.1 }
+
+pub returns-in_default-q : goal.returns-in_default-q
+returns-in_default-q c =
+    let m = the_name c.read_u16-c.ensures c.in-Ok.is c.within.ensures c.if-not-within.false in
+    let b = bytes_all c.args.s.now (λ i. (c.type_inv.s i).fits) in
+    let f : c.read_u16-c.result.value < 65536 = num_fits b c.read_u16-c.ensures in
+    let t = rw c.in_default-q.is at (str_is_text m.lies (omega (arith, f)) c.check_str-q.ensures) in
+    record { next = c.in_default-q.is ∙ name_bad c.if-n-eq0.false (name_checked m t) c.names.invariant.1 }
