@@ -2,7 +2,7 @@
 
 #![tactic(auto)]
 
-ghost use Rattle.std.specs.Prelude.{◌≡◌, ◌+◌, ◌^◌, ◌≤◌, ◌<◌, length, take, drop};
+ghost use Rattle.std.specs.Prelude.{◌≡◌, ◌+◌, ◌-◌, ◌^◌, ◌≤◌, ◌<◌, min as lesser, length, take, drop};
 ghost use Rattle.numbers.specs.Refusals.{number_of};
 ghost use Rattle.numbers.specs.Numbers.{from_le, to_le};
 ghost use Rattle.numbers.specs.Places.{Within, NumRead, Put, over};
@@ -72,6 +72,20 @@ impl From<Refusal> for Fault {
 // straight line: whatever is asked at a refused place answers the same refusal.
 pub type Place = Result<usize, Fault>;
 
+// The lesser of two lengths.
+pub fn min(a: usize, b: usize) -> usize
+    ensures { result ≡ lesser a b }
+{
+    a.min(b)
+}
+
+// The difference, 0 where there is none.
+pub fn saturating_sub(a: usize, b: usize) -> usize
+    ensures { result ≡ a - b }
+{
+    a.saturating_sub(b)
+}
+
 // Whether `n` bytes at `at` lie within `len` bytes. The sum is never formed, so nothing wraps.
 pub fn within(at: usize, n: usize, len: usize) -> bool
     ensures { Within at n len result }
@@ -102,8 +116,15 @@ fn read_num(s: &[u8], p: Place, width: usize) -> Read<u64>
     requires { (0 < width) × (width ≤ 8) }
     ensures { NumRead width s.now p result.value result.next × (result.value < 256 ^ width) }
 {
-    let Ok(at) = p else {
-        return Read { value: 0, next: p };
+    // A refused place is put together anew, and not handed on: so it is not copied where it is none.
+    let at = match p {
+        Ok(at) => at,
+        Err(Fault(k, n)) => {
+            return Read {
+                value: 0,
+                next: Err(Fault(k, n)),
+            };
+        }
     };
     if !within(at, width, s.len()) {
         return Read {
