@@ -171,7 +171,7 @@ fn refuses(session: Session, k: Refusal) -> Stepped
 
 // A request: 20, 22, 23, 24.
 #[tactic(auto, unfolding(crate::specs::Rules::asked))]
-fn ask(s: Session, tag: u16, r: Request) -> Stepped
+fn ask(mut s: Session, tag: u16, r: Request) -> Stepped
     ensures { result ≡ asked s tag r }
 {
     if has(&s.tags, tag as u64) {
@@ -183,10 +183,9 @@ fn ask(s: Session, tag: u16, r: Request) -> Stepped
     let Some(i) = find(&s.tags, FREE) else {
         return refuses(s, Refusal::TableFull);
     };
-    let mut t = s;
-    t.tags[i] = tag as u64;
-    t.requests[i] = r;
-    accepts(t)
+    s.tags[i] = tag as u64;
+    s.requests[i] = r;
+    accepts(s)
 }
 
 // What the reply of a type does to a request of one; of an Rwalk, whether it has as many qids as names.
@@ -214,22 +213,20 @@ fn effect_of(asked: u8, ty: u8, whole: bool) -> Effect
 
 // The tag's row is free.
 #[tactic(auto, unfolding(crate::specs::Rules::closed))]
-fn closed(s: Session, tag: u64) -> Session
+fn closed(mut s: Session, tag: u64) -> Session
     ensures { result ≡ closed s tag }
 {
-    let mut t = s;
-    release(&mut t.tags, tag);
-    t
+    release(&mut s.tags, tag);
+    s
 }
 
 // The fid's row is free.
 #[tactic(auto, unfolding(crate::specs::Rules::dropped))]
-fn dropped(s: Session, fid: u64) -> Session
+fn dropped(mut s: Session, fid: u64) -> Session
     ensures { result ≡ dropped s fid }
 {
-    let mut t = s;
-    release(&mut t.fids, fid);
-    t
+    release(&mut s.fids, fid);
+    s
 }
 
 #[tactic(auto, unfolding(crate::specs::Rules::place_of))]
@@ -273,15 +270,14 @@ fn seat(fids: &[u64; 64], fid: u64) -> Option<usize>
 }
 
 // The fid at a row, with its place.
-fn held(s: Session, i: usize, fid: u64, place: u8, p: Places) -> Session
+fn held(mut s: Session, i: usize, fid: u64, place: u8, p: Places) -> Session
     requires { i < 64 }
     ensures { result ≡ held s i fid place p }
 {
-    let mut t = s;
-    t.fids[i] = fid;
-    t.at[i] = place;
-    t.places = p;
-    t
+    s.fids[i] = fid;
+    s.at[i] = place;
+    s.places = p;
+    s
 }
 
 // A fid is given the place that was reached; 24.
@@ -338,9 +334,8 @@ fn done(s: Session, e: Effect, r: Request, stretch: &[u8]) -> Stepped
 fn finish(s: Session, tag: u16, d: Stepped) -> Stepped
     ensures { result ≡ finished s tag d }
 {
-    let t = d.session;
     match d.answer {
-        Ok(()) => accepts(closed(t, tag as u64)),
+        Ok(()) => accepts(closed(d.session, tag as u64)),
         Err(k) => refuses(s, k),
     }
 }
@@ -377,8 +372,9 @@ fn reply_to(s: Session, stretch: &[u8], tag: u16, ty: u8, qids: u16, r: Request)
 }
 
 // A reply: 21, and then by the request under its tag.
+#[inline(never)] // With it in line a step copies the record, of 9 KB, half as often again.
 #[tactic(auto, unfolding(crate::specs::Rules::answered))]
-fn reply(s: Session, stretch: &[u8], tag: u16, ty: u8, qids: u16) -> Stepped
+fn reply(mut s: Session, stretch: &[u8], tag: u16, ty: u8, qids: u16) -> Stepped
     ensures { result ≡ answered stretch.now s tag ty qids }
 {
     let Some(i) = find(&s.tags, tag as u64) else {
@@ -386,9 +382,8 @@ fn reply(s: Session, stretch: &[u8], tag: u16, ty: u8, qids: u16) -> Stepped
     };
     let r = s.requests[i];
     if only_closes(r.ty, tag, ty, qids == r.count) {
-        let mut t = s;
-        t.tags[i] = FREE;
-        return accepts(t);
+        s.tags[i] = FREE;
+        return accepts(s);
     }
     reply_to(s, stretch, tag, ty, qids, r)
 }
