@@ -58,10 +58,6 @@ pub num_stays : {w : ℕ} {s : List ℕ} {p : Place} {k : Refusal} {j : ℕ} →
 unfolding num_at past_num
 num_stays e = record { value = rw e; next = rw e }
 
-pub num_told : {w : ℕ} {s : List ℕ} {p : Place} {k : Refusal} {j : ℕ} → p ≡ Err (k, j) → NumRead w s p 0 (Err (k, j))
-unfolding num_at past_num
-num_told e = record { value = rw e; next = rw e }
-
 pub short_num : (w a : ℕ) (s : List ℕ) → 0 < w → length s < a + w → read_num w (drop a s) ≡ bad Short 0
 unfolding read_num
 short_num w a s o h = rw (raw_short w (drop a s) (simp length-drop (omega arith)))

@@ -116,15 +116,8 @@ fn read_num(s: &[u8], p: Place, width: usize) -> Read<u64>
     requires { (0 < width) × (width ≤ 8) }
     ensures { NumRead width s.now p result.value result.next × (result.value < 256 ^ width) }
 {
-    // A refused place is put together anew, and not handed on: so it is not copied where it is none.
-    let at = match p {
-        Ok(at) => at,
-        Err(Fault(k, n)) => {
-            return Read {
-                value: 0,
-                next: Err(Fault(k, n)),
-            };
-        }
+    let Ok(at) = p else {
+        return Read { value: 0, next: p };
     };
     if !within(at, width, s.len()) {
         return Read {

@@ -86,6 +86,7 @@ fn no_span(next: Place) -> Read<Span>
 
 // A string at a place: count, bytes, UTF-8, zero byte. Short cut: a short plain text, as most names are, passes without a call. `check_str` has
 // none: walks are scanned by one of their own, and it would only be in their way.
+#[inline(always)] // Out of line, the place goes through memory and is read back wider than it was written: 40 in a hundred of a Tsymlink.
 pub fn read_str(s: &[u8], p: Place) -> Read<Span>
     ensures { StrRead s.now p result.value.start result.value.len result.next }
 {

@@ -2,7 +2,7 @@
 
 #![tactic(auto)]
 
-ghost use Rattle.std.specs.Prelude.{◌≡◌, ◌<◌, length, map, [], ◌∷◌};
+ghost use Rattle.std.specs.Prelude.{◌≡◌, ◌<◌, length, map};
 ghost use Rattle.utf8.specs.Utf8.{◌to◌, in_range, fits, CharAt, utf8, sound_start, zero_at};
 ghost use Rattle.utf8.specs.Utf8Laws.{Rest, least_of, greatest_of};
 ghost use Rattle.utf8.specs.Plain.{plain_at, short_plain};
@@ -36,7 +36,7 @@ pub fn char_at(s: &[u8], i: usize) -> usize
     // Nested by length: in one flat `match` the single octets become a jump table, which text of two-byte letters pays for.
     match b {
         0x00..=0x7f => 1, // UTF8-1 = %x00-7F
-        0xc2..=0xdf => two(s, i, TAIL), // UTF8-2 = %xC2-DF UTF8-tail
+        0xc2..=0xdf => rest(s, i, &[TAIL]), // UTF8-2 = %xC2-DF UTF8-tail
         0xe0..=0xef => match b {
             0xe0 => rest(s, i, &[Octets(0xa0, 0xbf), TAIL]), // UTF8-3 = %xE0 %xA0-BF UTF8-tail /
             0xe1..=0xec => rest(s, i, &[TAIL, TAIL]), // %xE1-EC 2( UTF8-tail ) /
@@ -51,18 +51,6 @@ pub fn char_at(s: &[u8], i: usize) -> usize
             _ => 0,
         },
         _ => 0,
-    }
-}
-
-// A row of two octets whose first stands at `i`. `rest` would say the same; text of two-byte letters is a fifth slower by it.
-fn two(s: &[u8], i: usize, second: Octets) -> usize
-    requires { i < length s.now }
-    ensures { Rest (second.0 to second.1 ∷ []) s.now i result }
-{
-    if i + 1 < s.len() && second.contains(s[i + 1]) {
-        2
-    } else {
-        0
     }
 }
 

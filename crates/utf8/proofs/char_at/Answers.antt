@@ -5,7 +5,7 @@ use Rattle.utf8.proofs.Rows.{in_row}
 use Rattle.utf8.proofs.char_at.Goals as goal
 
 pub returns-in-224 : goal.returns-in-224
-returns-in-224 c = in_row 2 (omega arith) (lit< tt) (omega arith) (omega arith) c.rest.ensures
+returns-in-224 c = in_row 2 (omega arith) (lit< tt) (omega arith) (omega arith) c.rest-in-224.ensures
 
 pub returns-in-225-to-236 : goal.returns-in-225-to-236
 returns-in-225-to-236 c = in_row 3 (omega arith) (lit< tt) (omega arith) (omega arith) c.rest-in-225-to-236.ensures
